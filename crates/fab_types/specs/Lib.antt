@@ -1,0 +1,3 @@
+pub mod Id
+pub mod Controls
+pub mod Faults

@@ -1,0 +1,58 @@
+//! What a descriptor of a packet shows of it on its way.
+
+use crate::cost::Cost;
+use crate::id::Bdf;
+use crate::place::Origin;
+
+/// The AT field of a memory request (PCIe 4.0, 10.2.1).
+#[derive(Clone, Copy, Debug, PartialEq, Eq)]
+pub enum AddressType {
+    Untranslated,
+    TranslationRequest,
+    Translated,
+    Reserved,
+}
+
+/// Who made a completion.
+#[derive(Clone, Copy, Debug, PartialEq, Eq)]
+pub enum Answerer {
+    Port,
+    Host,
+    Function,
+}
+
+/// Who made a packet, and for whom.
+#[derive(Clone, Copy, Debug, PartialEq, Eq)]
+pub enum Parties {
+    /// What this function sent.
+    Upward(Bdf),
+    /// A request of a domain's host to this function.
+    Downward(Bdf),
+    /// A completion: who made it, and to whom it goes, if it is anybody.
+    Answer(Answerer, Option<Origin>),
+}
+
+/// The header fields by which ports route a packet and test it.
+#[derive(Clone, Copy, Debug, PartialEq, Eq)]
+pub enum Header {
+    /// Of no well-formed packet.
+    Malformed,
+    /// Of a memory read or write, with its address in bytes.
+    Memory {
+        requester: Bdf,
+        address_type: AddressType,
+        address: u64,
+    },
+    /// Of a request of any other kind.
+    OtherRequest { requester: Bdf },
+    /// Of a completion: the ID to which it is routed, and its attribute Relaxed Ordering.
+    Completion { target: Bdf, relaxed_ordering: bool },
+}
+
+/// What moves between ports in place of a packet's bytes.
+#[derive(Clone, Copy, Debug, PartialEq, Eq)]
+pub struct Head {
+    pub parties: Parties,
+    pub cost: Cost,
+    pub header: Header,
+}

@@ -1,0 +1,3 @@
+pub mod Descriptor
+pub mod Words
+pub mod Faults

@@ -1,0 +1,12 @@
+use crate::packet_bytes::PacketBytes;
+use fab_types::DomainId;
+
+/// What a log keeps of a packet (a TLP: PCIe 4.0, 2.1).
+#[derive(Debug, PartialEq, Eq, Drop)]
+pub struct TlpEntry {
+    /// The domain that made the packet.
+    pub domain: DomainId,
+    /// The packet's number in that domain.
+    pub number: u64,
+    pub bytes: PacketBytes,
+}

@@ -1,0 +1,6 @@
+use Rattle.std.proofs.Common.{sym, ◌∙◌, arith}
+use Rattle.std.proofs.lemmas.Slice.Zip.{firsts-zip}
+use Rattle.host_memory.proofs.memory.HostMemory.numbers.Goals as goal
+
+pub returns-clause-value : goal.returns-clause-value
+returns-clause-value c = rw (← c.self.view_is) (c.as_slice.ensures.value ∙ sym (firsts-zip _ _ (omega arith)))

@@ -1,0 +1,10 @@
+//! The memory of a domain's host: its frames of 4,096 bytes.
+#![tactic(auto)]
+
+mod memory;
+mod page;
+
+pub use memory::HostMemory;
+
+#[cfg(test)]
+mod tests;

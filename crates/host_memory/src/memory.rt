@@ -1,0 +1,127 @@
+//! All pages of a domain.
+
+ghost use Rattle.std.specs.Prelude.{◌≡◌, ◌≢◌, ℕ, ◌+◌, ◌<◌, ◌≤◌, IfOk, IfSome, IsSome, MatchOption};
+ghost use Rattle.std.specs.Prelude.{length, map, slice_index};
+ghost use Rattle.std.specs.List.Sorted.{IsStrictlyIncreasing};
+ghost use Rattle.std.specs.Option.{option_copied, option_copied_mut};
+ghost use Rattle.std.specs.Borrow.{sem};
+ghost use Rattle.host_memory.specs.Pages.{zeroed, page_of, part_of, written};
+
+use crate::page::Page;
+use fab_types::NoMemory;
+use layout::Start;
+use std::alloc::Global;
+use std::marker::Model;
+use std::ops::Range;
+
+/// The frames of a domain's host memory. A contract sees each frame's number and bytes, in rising
+/// order of the numbers.
+#[derive(Debug, Drop)]
+pub struct HostMemory {
+    numbers: Vec<u16>,
+    pages: Vec<Page>,
+}
+
+impl Model for HostMemory {
+    ghost use Rattle.std.specs.Prelude.{List, ℕ};
+
+    ghost Value = { List (ℕ × List ℕ) };
+
+    ghost use Rattle.host_memory.specs.Memory.{pages_of, IsKept};
+
+    ghost view = { pages_of };
+
+    ghost invariant = { IsKept };
+}
+
+// Where a number stands among numbers that rise.
+fn place(numbers: &[u16], frame: u16) -> Option<usize>
+    requires { IsStrictlyIncreasing numbers.now }
+    ensures { MatchOption result
+        ((k : ℕ) → k < length numbers.now → slice_index numbers.now k ≢ frame)
+        (λ at. (at < length numbers.now) × (slice_index numbers.now at ≡ frame)) }
+{
+    numbers.binary_search(&frame).ok()
+}
+
+impl HostMemory {
+    ghost use Rattle.host_memory.specs.MemoryLends.{LendsPart};
+
+    /// The memory of a domain at its start: its frames, all zero. It answers `NoMemory` where memory
+    /// was refused. No other call takes memory.
+    pub fn new(alloc: Global, start: &Start) -> Result<HostMemory, NoMemory>
+        ensures { IfOk result (λ memory. memory ≡ zeroed start.now.frames) }
+    {
+        let frames = start.frames();
+        let numbers = Vec::from_slice(alloc, frames)?;
+        let mut pages = Vec::with_capacity(alloc, frames.len())?;
+        for _number in frames {
+            pages.push(Page::zero(alloc)?)?;
+        }
+        Ok(HostMemory { numbers, pages })
+    }
+
+    /// The numbers of the frames, rising.
+    pub fn numbers(&self) -> &[u16]
+        ensures value { result.now ≡ map (λ page. page.0) self.now }
+        ensures rising { IsStrictlyIncreasing result.now }
+    {
+        self.numbers.as_slice()
+    }
+
+    /// The bytes of this frame, if it is of the domain.
+    pub fn page(&self, frame: u16) -> Option<&[u8]>
+        ensures bytes { option_copied result ≡ page_of self.now frame }
+        ensures size { IfSome result (λ page. length page.now ≡ 4096) }
+    {
+        match place(&self.numbers, frame) {
+            Some(at) => Some(self.pages[at].bytes()),
+            None => None,
+        }
+    }
+
+    /// The bytes of this range in this frame, if the frame is of the domain and has the range.
+    pub fn part(&self, frame: u16, range: Range<usize>) -> Option<&[u8]>
+        ensures part { option_copied result ≡ part_of self.now frame range.start range.end }
+        ensures size { IfSome result (λ part. length part.now + range.start ≡ range.end) }
+    {
+        let page = self.page(frame)?;
+        page.get(range)
+    }
+
+    /// Lends the bytes of this range in this frame to be written, if the frame is of the domain and has
+    /// the range. No clause says what the memory then is: who has to know calls `known_part_mut`.
+    pub fn part_mut(&mut self, frame: u16, range: Range<usize>) -> Option<&mut [u8]>
+        ensures part { option_copied_mut result ≡ part_of self.old frame range.start range.end }
+        ensures size { IfSome result (λ part. length part.now + range.start ≡ range.end) }
+    {
+        if self.part(frame, range.start..range.end).is_some() {
+            Some(self.known_part_mut(frame, range))
+        } else {
+            None
+        }
+    }
+
+    /// Lends the bytes of this range in this frame to be written, where `part` gives them to be read.
+    /// All other bytes stay.
+    pub fn known_part_mut(&mut self, frame: u16, range: Range<usize>) -> &mut [u8]
+        requires { IsSome (part_of self.old frame range.start range.end) }
+        ensures* writes_back { sem 𝓛 (LendsPart self.entry frame range.start result) }
+        ensures part { part_of self.old frame range.start range.end ≡ Some result.now }
+        ensures size { length result.now + range.start ≡ range.end }
+    {
+        let at = place(&self.numbers, frame).unwrap();
+        self.pages[at].part_mut(range.start, range.end)
+    }
+
+    /// Writes these bytes from `offset` on, if the frame is of the domain.
+    pub fn write(&mut self, frame: u16, offset: usize, bytes: &[u8])
+        requires { offset + length bytes.now ≤ 4096 }
+        ensures { self.new ≡ written self.old frame offset bytes.now }
+    {
+        match place(&self.numbers, frame) {
+            Some(at) => self.pages[at].write(offset, bytes),
+            None => {}
+        }
+    }
+}

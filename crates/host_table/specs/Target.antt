@@ -1,0 +1,17 @@
+-- What a table answers, and when a table is a set.
+use Rattle.std.specs.Prelude.{◌≡◌, List, Option, Some, None, AllPairs}
+use Rattle.layout.specs.declared.lines.MapLine.{MapLine}
+use Rattle.layout.specs.declared.lines.MapTarget.{MapTarget}
+use Rattle.layout.specs.declared.lines.MapTarget.TheVariants as line
+use Rattle.host_table.specs.declared.target.Target.{Target}
+use Rattle.host_table.specs.declared.target.Target.TheVariants as table
+
+-- the target of a line that an answer stands for
+abbrev pub mapped_to : Target → Option MapTarget
+mapped_to (table.Frame number) = Some (line.Frame number)
+mapped_to (table.Peer function) = Some (line.Peer function)
+mapped_to table.None = None
+
+-- no two lines map one page of one requester
+abbrev pub MapsOnce : List MapLine → Type 0
+MapsOnce maps = AllPairs (λ a b. a.requester ≡ b.requester → a.page ≡ b.page → ⊥) maps

@@ -1,0 +1,5 @@
+pub mod Share
+pub mod Owners
+pub mod Tables
+pub mod Starts
+pub mod First

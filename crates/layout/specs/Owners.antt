@@ -1,0 +1,42 @@
+-- Who owns an ID, and where the ports lead (PCIe 4.0, 7.5.1.3).
+use Rattle.std.specs.Prelude.{ℕ, ◌==◌, Bool, true, false, ◌&&◌, nat_le, List, [], ◌∷◌, Option, Some, None, is_some, option_map, if◌then◌else◌}
+use Rattle.std.specs.List.{find, list_any}
+use Rattle.fab_types.specs.Id.{bus_of, device_of, function_of, host_of}
+use Rattle.fab_types.specs.declared.place.Origin.{Origin}
+use Rattle.fab_types.specs.declared.place.Origin.TheVariants.{Function, Host}
+use Rattle.layout.specs.declared.lines.PortLine.{PortLine}
+use Rattle.layout.specs.declared.lines.FunctionLine.{FunctionLine}
+use Rattle.layout.specs.Share.{Share}
+
+-- is the bus below the port?
+abbrev pub holds_bus : PortLine → ℕ → Bool
+holds_bus port bus = nat_le port.secondary bus && nat_le bus port.subordinate
+
+-- is the address in the port's window?
+abbrev pub holds_address : PortLine → ℕ → Bool
+holds_address port address = nat_le port.base address && nat_le address port.limit
+
+-- the port directly above a function
+abbrev pub first_port : List PortLine → ℕ → Option PortLine
+first_port ports function = find (λ port. port.secondary == bus_of function) ports
+
+abbrev pub owns_port : List PortLine → ℕ → Bool
+owns_port ports domain = list_any (λ port. port.owner == domain) ports
+
+abbrev pub owner_of_bus : List PortLine → ℕ → Option ℕ
+owner_of_bus ports bus = option_map (λ port. port.owner) (find (λ port. holds_bus port bus) ports)
+
+-- the domain that owns an ID: as the ID of its host, if it owns a port, or by the ports above the bus
+abbrev pub owner_of_parts : List PortLine → ℕ → ℕ → ℕ → Option ℕ
+owner_of_parts ports bus device function =
+    if (bus == 0) && (function == 0) && owns_port ports device then Some device else owner_of_bus ports bus
+
+abbrev pub owner_of : List PortLine → ℕ → Option ℕ
+owner_of ports id = owner_of_parts ports (bus_of id) (device_of id) (function_of id)
+
+abbrev pub is_function : List FunctionLine → ℕ → Bool
+is_function functions id = list_any (λ line. line.id == id) functions
+
+-- is it a function of this domain?
+abbrev pub is_own_function : Share → ℕ → Bool
+is_own_function share id = is_function share.functions id && list_any (λ port. (port.owner == share.domain) && (port.secondary == bus_of id)) share.ports

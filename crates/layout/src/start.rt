@@ -1,0 +1,145 @@
+//! What a domain starts from.
+
+ghost use Rattle.std.specs.Prelude.{◌≡◌, IfOk, [], ◌∷◌};
+ghost use Rattle.layout.specs.Share.{Share, IsShare, is_guarded};
+ghost use Rattle.layout.specs.First.{first_share};
+
+use crate::lines::{FunctionLine, MapLine, MapTarget, PortLine, Rights, SwitchLine};
+use fab_types::{AcsControl, Bdf, DomainId, NoMemory, PortId};
+use std::alloc::Global;
+use std::marker::Model;
+
+/// What a layout gives one domain: its budget, frames and mappings; and the whole tree of ports.
+#[derive(Drop)]
+pub struct Start {
+    domain: DomainId,
+    budget: u32,
+    frames: Vec<u16>,
+    maps: Vec<MapLine>,
+    switches: Vec<SwitchLine>,
+    ports: Vec<PortLine>,
+    functions: Vec<FunctionLine>,
+}
+
+impl Model for Start {
+    ghost use Rattle.layout.specs.Share.{Share};
+
+    ghost Value = { Share };
+
+    ghost use Rattle.layout.specs.Starts.{share_of, IsKept};
+
+    ghost view = { share_of };
+
+    ghost invariant = { IsKept };
+}
+
+impl Start {
+    /// The start of domain 1 in the smallest platform: a port with all controls set, above it one
+    /// switch, below it function 03:00.0, whose page 1 is mapped to frame 0 for reads and writes. Its
+    /// budget is 256 begins. It answers `NoMemory` where memory was refused.
+    pub fn first(alloc: Global) -> Result<Start, NoMemory>
+        ensures { IfOk result (λ start. start ≡ first_share) }
+    {
+        let port = PortLine {
+            id: PortId::new(Bdf::from_bits(0x0200)),
+            secondary: 3,
+            subordinate: 3,
+            base: 0x9000_0000,
+            limit: 0x900f_ffff,
+            controls: AcsControl::from_register(0x1f).unwrap(),
+            owner: DomainId::new(1).unwrap(),
+        };
+        let function = FunctionLine {
+            id: Bdf::from_bits(0x0300),
+            bar: 0x9000_0000,
+        };
+        let map = MapLine {
+            requester: function.id,
+            page: 1,
+            target: MapTarget::Frame(0),
+            rights: Rights {
+                read: true,
+                write: true,
+            },
+        };
+        let switch = SwitchLine {
+            id: Bdf::from_bits(0x0100),
+            above: None,
+        };
+        Ok(Start {
+            domain: port.owner,
+            budget: 256,
+            frames: vec![in alloc; 0]?,
+            maps: vec![in alloc; map]?,
+            switches: vec![in alloc; switch]?,
+            ports: vec![in alloc; port]?,
+            functions: vec![in alloc; function]?,
+        })
+    }
+
+    /// The same start once more. It answers `NoMemory` where memory was refused.
+    pub fn try_clone(&self, alloc: Global) -> Result<Start, NoMemory>
+        ensures { IfOk result (λ start. start ≡ self.now) }
+    {
+        Ok(Start {
+            domain: self.domain,
+            budget: self.budget,
+            frames: Vec::from_slice(alloc, &self.frames)?,
+            maps: Vec::from_slice(alloc, &self.maps)?,
+            switches: Vec::from_slice(alloc, &self.switches)?,
+            ports: Vec::from_slice(alloc, &self.ports)?,
+            functions: Vec::from_slice(alloc, &self.functions)?,
+        })
+    }
+
+    /// The domain.
+    pub fn domain(&self) -> DomainId
+        ensures { result ≡ self.now.domain }
+    {
+        self.domain
+    }
+
+    /// How many begins the domain may make, 1 to 16,384.
+    pub fn budget(&self) -> u32
+        ensures value { result ≡ self.now.budget }
+        ensures limits { IsShare self.now }
+    {
+        self.budget
+    }
+
+    /// The numbers of the domain's frames of memory, rising.
+    pub fn frames(&self) -> &[u16]
+        ensures value { result.now ≡ self.now.frames }
+        ensures limits { IsShare self.now }
+    {
+        &self.frames
+    }
+
+    /// The mappings of the domain's functions.
+    pub fn maps(&self) -> &[MapLine]
+        ensures { result.now ≡ self.now.maps }
+    {
+        &self.maps
+    }
+
+    /// All switches of the layout.
+    pub fn switches(&self) -> &[SwitchLine]
+        ensures { result.now ≡ self.now.switches }
+    {
+        &self.switches
+    }
+
+    /// All downstream ports of the layout.
+    pub fn ports(&self) -> &[PortLine]
+        ensures { result.now ≡ self.now.ports }
+    {
+        &self.ports
+    }
+
+    /// All functions of the layout.
+    pub fn functions(&self) -> &[FunctionLine]
+        ensures { result.now ≡ self.now.functions }
+    {
+        &self.functions
+    }
+}
