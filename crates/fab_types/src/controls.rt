@@ -29,7 +29,11 @@ impl AcsControl {
     pub fn from_register(bits: u8) -> Option<AcsControl>
         ensures { SomeIff (option_map bits_of result) (bits < 32) bits }
     {
-        if bits < 32 { Some(AcsControl(bits)) } else { None }
+        if bits < 32 {
+            Some(AcsControl(bits))
+        } else {
+            None
+        }
     }
 }
 
@@ -77,11 +81,9 @@ impl Flags for AcsControl {
 
     ghost exact = { ⊤ };
 
-    ghost table = {
-        (codes "SOURCE_VALIDATION", 1) ∷ (codes "TRANSLATION_BLOCKING", 2) ∷
+    ghost table = { (codes "SOURCE_VALIDATION", 1) ∷ (codes "TRANSLATION_BLOCKING", 2) ∷
         (codes "P2P_REQUEST_REDIRECT", 4) ∷ (codes "P2P_COMPLETION_REDIRECT", 8) ∷
-        (codes "UPSTREAM_FORWARDING", 16) ∷ []
-    };
+        (codes "UPSTREAM_FORWARDING", 16) ∷ [] };
 
     ghost set_of = { λ c. c.0 };
 

@@ -44,9 +44,14 @@ pub enum Header {
         address: u64,
     },
     /// Of a request of any other kind.
-    OtherRequest { requester: Bdf },
+    OtherRequest {
+        requester: Bdf,
+    },
     /// Of a completion: the ID to which it is routed, and its attribute Relaxed Ordering.
-    Completion { target: Bdf, relaxed_ordering: bool },
+    Completion {
+        target: Bdf,
+        relaxed_ordering: bool,
+    },
 }
 
 /// What moves between ports in place of a packet's bytes.

@@ -27,6 +27,11 @@ first_map = record { requester = id_of 3 0 0; page = 1; target = Frame 0; rights
 
 abbrev pub first_share : Share
 first_share = record {
-  domain = 1; budget = 256; frames = 0 ∷ []; maps = first_map ∷ [];
-  switches = first_switch ∷ []; ports = first_port_line ∷ []; functions = first_function ∷ [];
+  domain = 1;
+  budget = 256;
+  frames = 0 ∷ [];
+  maps = first_map ∷ [];
+  switches = first_switch ∷ [];
+  ports = first_port_line ∷ [];
+  functions = first_function ∷ [];
 }

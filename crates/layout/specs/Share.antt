@@ -10,10 +10,10 @@ use Rattle.layout.specs.declared.lines.MapLine.{MapLine}
 
 pub record Share : Type 0 where
   pub domain : ℕ
-  pub budget : ℕ                   -- how many begins the domain may make
-  pub frames : List ℕ              -- its frames of memory, by their numbers
-  pub maps : List MapLine          -- the mappings of its functions
-  pub switches : List SwitchLine   -- all switches, ports and functions of the layout
+  pub budget : ℕ  -- how many begins the domain may make
+  pub frames : List ℕ  -- its frames of memory, by their numbers
+  pub maps : List MapLine  -- the mappings of its functions
+  pub switches : List SwitchLine  -- all switches, ports and functions of the layout
   pub ports : List PortLine
   pub functions : List FunctionLine
 

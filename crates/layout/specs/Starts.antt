@@ -4,8 +4,13 @@ use Rattle.layout.specs.declared.start.Start.TheInside.{Inside}
 
 abbrev pub share_of : Inside → Share
 share_of s = record {
-  domain = s.domain; budget = s.budget; frames = s.frames.items; maps = s.maps.items;
-  switches = s.switches.items; ports = s.ports.items; functions = s.functions.items;
+  domain = s.domain;
+  budget = s.budget;
+  frames = s.frames.items;
+  maps = s.maps.items;
+  switches = s.switches.items;
+  ports = s.ports.items;
+  functions = s.functions.items;
 }
 
 pub record IsKept (s : Inside) : Type 0 where

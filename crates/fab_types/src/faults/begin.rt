@@ -2,8 +2,14 @@
 
 ghost use Rattle.std.specs.Prelude.{◌≡◌};
 ghost use Rattle.fab_types.specs.Faults.{
-    begin_fault_name, begin_fault_number, mmio_fault_name, mmio_fault_number, submit_fault_name,
-    submit_fault_number, tick_fault_name, tick_fault_number,
+  begin_fault_name,
+  begin_fault_number,
+  mmio_fault_name,
+  mmio_fault_number,
+  submit_fault_name,
+  submit_fault_number,
+  tick_fault_name,
+  tick_fault_number,
 };
 
 use thiserror::Error;

@@ -1,0 +1,4 @@
+pub mod Counter
+pub mod Kinds
+pub mod Limits
+pub mod Totals

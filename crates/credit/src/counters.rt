@@ -1,0 +1,106 @@
+//! The counters of the six kinds.
+
+ghost use Rattle.std.specs.Prelude.{◌≡◌, ◌<◌};
+ghost use Rattle.credit.specs.Limits.{credits_at, further, counted, zero_counters};
+
+use crate::counter::Counter;
+use fab_types::{Class, Cost};
+
+/// A counter of header credits: 8 bits.
+pub type HeaderCounter = Counter<256>;
+
+/// A counter of data credits: 12 bits.
+pub type DataCounter = Counter<4096>;
+
+/// The two counters of a class.
+#[derive(Clone, Copy, Debug, PartialEq, Eq)]
+pub struct Credits {
+    pub headers: HeaderCounter,
+    /// Data credits, of 4 DW each.
+    pub payload: DataCounter,
+}
+
+impl Credits {
+    /// These counts, `payload` below 4,096.
+    pub fn new(headers: u8, payload: u16) -> Credits
+        requires { payload < 4096 }
+        ensures headers { result.headers ≡ headers }
+        ensures payload { result.payload ≡ payload }
+    {
+        Credits {
+            headers: Counter::new(u16::from(headers)),
+            payload: Counter::new(payload),
+        }
+    }
+
+    fn plus(self, payload: u16) -> Credits
+        ensures { result ≡ further self payload }
+    {
+        Credits {
+            headers: self.headers.plus(1),
+            payload: self.payload.plus(payload),
+        }
+    }
+}
+
+/// A counter of each of the six kinds: PH and PD, NPH and NPD, CPLH and CPLD.
+#[derive(Clone, Copy, Debug, PartialEq, Eq)]
+pub struct Counters {
+    pub posted: Credits,
+    pub non_posted: Credits,
+    pub completion: Credits,
+}
+
+/// How far a sender may go, as a receiver advertises it.
+pub type Limits = Counters;
+
+impl Counters {
+    pub(crate) fn zero() -> Counters
+        ensures { result ≡ zero_counters }
+    {
+        Counters {
+            posted: Credits::new(0, 0),
+            non_posted: Credits::new(0, 0),
+            completion: Credits::new(0, 0),
+        }
+    }
+
+    /// The counters of a class.
+    pub fn of(self, class: Class) -> Credits
+        ensures { result ≡ credits_at self class }
+    {
+        match class {
+            Class::Posted => self.posted,
+            Class::NonPosted => self.non_posted,
+            Class::Completion => self.completion,
+        }
+    }
+
+    /// The counters once a packet of this cost is counted.
+    pub(crate) fn plus(self, cost: Cost) -> Counters
+        ensures { result ≡ counted self cost }
+    {
+        let Counters {
+            posted,
+            non_posted,
+            completion,
+        } = self;
+        match cost.class {
+            Class::Posted => Counters {
+                posted: posted.plus(cost.data),
+                non_posted,
+                completion,
+            },
+            Class::NonPosted => Counters {
+                posted,
+                non_posted: non_posted.plus(cost.data),
+                completion,
+            },
+            Class::Completion => Counters {
+                posted,
+                non_posted,
+                completion: completion.plus(cost.data),
+            },
+        }
+    }
+}

@@ -1,0 +1,171 @@
+//! The sending side of a link.
+
+ghost use Rattle.std.specs.Prelude.{◌≡◌, ◌↔◌, ℕ, ◌+◌, ◌≤◌, ◌<◌, true, false, IsTrue};
+ghost use Rattle.std.specs.Bool.{OnTrue, OnFalse};
+ghost use Rattle.credit.specs.Counter.{distance};
+ghost use Rattle.credit.specs.Kinds.{Kind};
+ghost use Rattle.credit.specs.Limits.{Ledger, at, counted, zero_counters, MayStart, IsInRange, HasRoom, IsUpdate};
+ghost use Rattle.credit.specs.Totals.{Count, StandsFor, IsAllowed, PassesGate, with_cost};
+
+use crate::counter::Counter;
+use crate::counters::{Counters, Credits, Limits};
+use fab_types::Cost;
+use std::marker::Model;
+
+/// What a sender counts of one direction of a link: the credits that it consumed, the limit that it was
+/// last told, and the limit at the start. Between the limit and what was sent there are never more
+/// credits than at the start, so no counter is ever misread.
+#[derive(Clone, Copy, Debug, PartialEq, Eq)]
+pub struct Sender {
+    sent: Counters,
+    limit: Limits,
+    start: Limits,
+}
+
+impl Model for Sender {
+    ghost use Rattle.credit.specs.Limits.{Ledger, IsInRange};
+
+    ghost Value = { Ledger };
+
+    ghost view = { λ s. record { sent = s.sent; limit = s.limit; start = s.start } };
+
+    ghost invariant = { λ s. IsInRange (record { sent = s.sent; limit = s.limit; start = s.start }) };
+
+    ghost inverse = { λ s. record { sent = s.sent; limit = s.limit; start = s.start } };
+}
+
+impl Sender {
+    /// A sender that sent nothing yet, and knows the limits that its receiver advertises at the start:
+    /// headers at most 127, data at most 2,047.
+    pub fn new(limits: Limits) -> Sender
+        requires { MayStart limits }
+        ensures exact { result ≡ record { sent = zero_counters; limit = limits; start = limits } }
+        ensures totals { StandsFor (λ _. 0) (at limits) result }
+    {
+        let start = limits;
+        Sender {
+            sent: Counters::zero(),
+            limit: limits,
+            start,
+        }
+    }
+
+    /// May a packet of this cost be sent?
+    pub fn room(&self, cost: Cost) -> bool
+        ensures exact { IsTrue result ↔ HasRoom self.now cost }
+
+        // Whatever totals the counters stand for, the answer is theirs.
+        ensures totals { (sent limit : Kind → ℕ) → StandsFor sent limit self.now → (IsTrue result ↔ IsAllowed sent limit cost) }
+
+        // For a cost below half of a counter it is the standard's own test.
+        ensures gate { (sent limit : Kind → ℕ) → StandsFor sent limit self.now → cost.data < 2048 → (IsTrue result ↔ PassesGate self.now cost) }
+    {
+        covers(
+            self.sent.of(cost.class),
+            self.limit.of(cost.class),
+            cost.data,
+        )
+    }
+
+    /// Consumes the credits of a packet that is sent.
+    pub fn spend(&mut self, cost: Cost)
+        requires { HasRoom self.old cost }
+        ensures exact { self.new ≡ record self.old { sent = counted self.old.sent cost } }
+        ensures totals { (sent limit : Kind → ℕ) → StandsFor sent limit self.old → StandsFor (with_cost sent cost) limit self.new }
+    {
+        self.sent = self.sent.plus(cost);
+    }
+
+    /// Takes the limits that the receiver tells, and answers whether they can be its limits: for each
+    /// kind no less than before, and no more beyond what was sent than at the start. Else nothing changes.
+    pub fn update(&mut self, limits: Limits) -> bool
+        ensures exact { IsTrue result ↔ IsUpdate self.old limits }
+        ensures accepted { OnTrue result (self.new ≡ record self.old { limit = limits }) }
+        ensures refused { OnFalse result (self.new ≡ self.old) }
+
+        // Limits whose totals grew, and by no more than was sent, are taken.
+        ensures totals { (sent limit told : Kind → ℕ) → StandsFor sent limit self.old → Count told limits →
+            ((k : Kind) → (limit k ≤ told k) × (told k ≤ sent k + at self.old.start k)) →
+            IsTrue result × StandsFor sent told self.new }
+    {
+        let told = limits;
+        let accepted = self.accepts(told);
+        if accepted {
+            self.limit = limits;
+        }
+        accepted
+    }
+
+    fn accepts(&self, limits: Limits) -> bool
+        ensures { IsTrue result ↔ IsUpdate self.now limits }
+    {
+        let posted = accepts_class(
+            self.sent.posted,
+            self.limit.posted,
+            self.start.posted,
+            limits.posted,
+        );
+        let non_posted = accepts_class(
+            self.sent.non_posted,
+            self.limit.non_posted,
+            self.start.non_posted,
+            limits.non_posted,
+        );
+        let completion = accepts_class(
+            self.sent.completion,
+            self.limit.completion,
+            self.start.completion,
+            limits.completion,
+        );
+        posted & non_posted & completion
+    }
+
+    /// The counters of what was sent.
+    pub fn sent(&self) -> Counters
+        ensures value { result ≡ self.now.sent }
+        ensures in_range { IsInRange self.now }
+    {
+        self.sent
+    }
+
+    /// The limits that the sender knows.
+    pub fn limits(&self) -> Limits
+        ensures value { result ≡ self.now.limit }
+        ensures in_range { IsInRange self.now }
+    {
+        self.limit
+    }
+}
+
+/// Is a header and so much payload left?
+fn covers(sent: Credits, limit: Credits, payload: u16) -> bool
+    ensures { IsTrue result ↔ (1 ≤ distance 256 sent.headers limit.headers) × (payload ≤ distance 4096 sent.payload limit.payload) }
+{
+    1 <= sent.headers.distance_to(limit.headers)
+        && payload <= sent.payload.distance_to(limit.payload)
+}
+
+/// Can `told` be the new limit of a counter, and does it leave what the old one left?
+fn accepts_counter<const SIZE: u16>(
+    sent: Counter<SIZE>,
+    limit: Counter<SIZE>,
+    start: Counter<SIZE>,
+    told: Counter<SIZE>,
+) -> bool
+    ensures { IsTrue result ↔ (distance SIZE sent.entry limit.entry ≤ distance SIZE sent.entry told.entry) × (distance SIZE sent.entry told.entry ≤ start.entry) }
+{
+    let distance = sent.distance_to(told);
+    sent.distance_to(limit) <= distance && distance <= start.value()
+}
+
+/// The same of both counters of a class.
+fn accepts_class(sent: Credits, limit: Credits, start: Credits, told: Credits) -> bool
+    ensures { IsTrue result ↔
+        (distance 256 sent.headers limit.headers ≤ distance 256 sent.headers told.headers) ×
+        (distance 256 sent.headers told.headers ≤ start.headers) ×
+        (distance 4096 sent.payload limit.payload ≤ distance 4096 sent.payload told.payload) ×
+        (distance 4096 sent.payload told.payload ≤ start.payload) }
+{
+    accepts_counter(sent.headers, limit.headers, start.headers, told.headers)
+        && accepts_counter(sent.payload, limit.payload, start.payload, told.payload)
+}

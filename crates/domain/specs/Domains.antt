@@ -1,0 +1,45 @@
+-- What a clause sees of a domain, and what a call makes of it.
+use Rattle.std.specs.Prelude.{◌≡◌, ℕ, ◌*◌, ◌≤◌, List, [], ◌∷◌, ◌++◌, length, Option, Some, None, IsSome, option_map, vec_capacity}
+use Rattle.frame_log.specs.Descriptor.{Descriptor}
+use Rattle.frame_log.specs.declared.fault.FrameFault.{FrameFault}
+use Rattle.frame_log.specs.declared.fault.FrameFault.TheVariants.{Stray, NoMemory}
+use Rattle.layout.specs.Share.{Share}
+use Rattle.domain.specs.declared.consume.EndFault.{EndFault}
+use Rattle.domain.specs.declared.consume.EndFault.TheVariants.{Illegal}
+use Rattle.domain.specs.declared.consume.EndFault.TheVariants as end
+use Rattle.domain.specs.declared.entry.Entry.{Entry}
+use Rattle.domain.specs.State.{Alone, Emission, Change}
+use Rattle.domain.specs.Heads.{descriptor_of}
+use Rattle.domain.specs.Machine.{change}
+
+-- what the layout gives the domain, its state, and its journal
+pub record DomainView : Type 0 where
+  pub share : Share
+  pub state : Alone
+  pub journal : List Entry
+
+-- The entry was legal, and is the last of the journal now. The state is what the machine makes of it, and
+-- the frame is that of the emission that it made, if any
+pub record Makes (old : DomainView) (entry : Entry) (new : DomainView) (sent : Option Descriptor) : Type 0 where
+  pub share : new.share ≡ old.share
+  pub journal : new.journal ≡ old.journal ++ entry ∷ []
+  pub emission : Option Emission
+  pub step : change old.share old.state entry ≡ Some (record { state = new.state; emission = emission })
+  pub frame : sent ≡ option_map (descriptor_of old.share.domain (length old.state.flight)) emission
+
+-- the entry emits
+pub record Emits (old : DomainView) (entry : Entry) : Type 0 where
+  pub made : Change
+  pub legal : change old.share old.state entry ≡ Some made
+  pub emits : IsSome made.emission
+
+-- Why a frame was not taken: it is of another domain, or the entry is illegal; or memory was refused to an
+-- entry that emits. The frame is given back.
+abbrev pub IsRefused : DomainView → Entry → Descriptor → FrameFault → Type 0
+IsRefused old entry frame (Stray given) = (given ≡ frame) × (frame.domain ≡ old.share.domain → change old.share old.state entry ≡ None)
+IsRefused old entry frame (NoMemory given) = (given ≡ frame) × (frame.domain ≡ old.share.domain) × Emits old entry
+
+-- the same of a number alone
+abbrev pub IsEndFault : DomainView → Entry → EndFault → Type 0
+IsEndFault old entry Illegal = change old.share old.state entry ≡ None
+IsEndFault old entry end.NoMemory = Emits old entry

@@ -1,0 +1,23 @@
+-- What a clause sees of the packets in flight, by their tokens.
+use Rattle.std.specs.Prelude.{ℕ, List, map, Option, option_map}
+use Rattle.std.specs.Arc.{arc_value}
+use Rattle.std.specs.Option.{IfSome}
+use Rattle.std.specs.List.{All}
+use Rattle.frame_log.specs.declared.log.Log.{Log}
+use Rattle.frame_log.specs.Words.{Shown, entry_of}
+use Rattle.domain.specs.declared.flight.InFlight.{InFlight}
+use Rattle.domain.specs.declared.flight.Flight.TheInside.{Inside}
+use Rattle.domain.specs.State.{Emission}
+
+abbrev pub emission : InFlight → Emission
+emission slot = record { parties = slot.parties; bytes = (entry_of slot.token).bytes }
+
+abbrev pub emissions : List (Option InFlight) → List (Option Emission)
+emissions slots = map (option_map emission) slots
+
+-- the token is of this log
+abbrev pub IsShown : Log → Option InFlight → Type 0
+IsShown log slot = IfSome slot (λ s. Shown log s.token)
+
+abbrev pub AllShown : Inside → Type 0
+AllShown f = All (IsShown (arc_value f.log)) f.slots.items

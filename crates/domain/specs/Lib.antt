@@ -1,0 +1,14 @@
+pub mod State
+pub mod Heads
+pub mod Flights
+pub mod Fates
+pub mod Tags
+pub mod Registers
+pub mod States
+pub mod Submits
+pub mod Carries
+pub mod Machine
+pub mod Ends
+pub mod Domains
+pub mod Kept
+pub mod Replays

@@ -1,0 +1,76 @@
+-- The state of a domain by itself.
+use Rattle.std.specs.Prelude.{ℕ, ◌+◌, ◌/◌, ◌%◌, List, [], ◌∷◌, ◌++◌, map, filter, slice_set, slice_index_or, length, Option, Some, None}
+use Rattle.fab_types.specs.Id.{bus_of}
+use Rattle.fab_types.specs.declared.head.Parties.{Parties}
+use Rattle.fab_types.specs.declared.place.Origin.{Origin}
+use Rattle.fab_types.specs.declared.status.Status.{Status}
+use Rattle.layout.specs.declared.lines.FunctionLine.{FunctionLine}
+use Rattle.layout.specs.Share.{Share}
+use Rattle.layout.specs.Owners.{is_own_function}
+use Rattle.host_memory.specs.Pages.{zeroed, zeros}
+use Rattle.domain.specs.declared.counts.Counts.{Counts}
+use Rattle.domain.specs.declared.tags.OpenTag.{OpenTag}
+
+-- a packet that the domain made: its parties and its bytes
+pub record Emission : Type 0 where
+  pub parties : Parties
+  pub bytes : List ℕ
+
+-- a completion that was delivered
+pub record Delivery : Type 0 where
+  pub owner : Origin
+  pub tag : ℕ
+  pub status : Status
+  pub bytes : List ℕ
+
+-- Pages are pairs of a number or an ID and 4,096 bytes. The number of an emission is its place in flight,
+-- which has None where the emission was consumed
+pub record Alone : Type 0 where
+  pub frames : List (ℕ × List ℕ)
+  pub registers : List (ℕ × List ℕ)
+  pub open_tags : List OpenTag
+  pub deliveries : List Delivery
+  pub counts : Counts
+  pub flight : List (Option Emission)
+
+-- a register page at the start: the ID register, and 0
+abbrev pub first_page : ℕ → ℕ × List ℕ
+first_page function = (function, function / 256 ∷ function % 256 ∷ 0x46 ∷ 0x42 ∷ zeros 4092)
+
+-- one for each function of the domain
+abbrev pub first_registers : Share → List (ℕ × List ℕ)
+first_registers share = map (λ line. first_page line.id) (filter (λ line. is_own_function share line.id) share.functions)
+
+-- where a domain starts from
+abbrev pub start_state : Share → Alone
+start_state share = record {
+  frames = zeroed share.frames;
+  registers = first_registers share;
+  open_tags = [];
+  deliveries = [];
+  counts = record { begins = 0; blocked = 0; unexpected = 0 };
+  flight = [];
+}
+
+-- what is in flight under a number
+abbrev pub item_at : List (Option Emission) → ℕ → Option Emission
+item_at flight n = slice_index_or flight n None
+
+-- the state when the number has left flight
+abbrev pub without : Alone → ℕ → Alone
+without s n = record { frames = s.frames; registers = s.registers; open_tags = s.open_tags; deliveries = s.deliveries; counts = s.counts; flight = slice_set s.flight n None }
+
+-- the state with an emission in flight under the next number
+abbrev pub with_emission : Alone → Emission → Alone
+with_emission s e = record { frames = s.frames; registers = s.registers; open_tags = s.open_tags; deliveries = s.deliveries; counts = s.counts; flight = s.flight ++ Some e ∷ [] }
+
+-- what an entry makes of a state, and the packet that it emits, if any
+pub record Change : Type 0 where
+  pub state : Alone
+  pub emission : Option Emission
+
+abbrev pub emits : Alone → Emission → Change
+emits s e = record { state = with_emission s e; emission = Some e }
+
+abbrev pub emits_nothing : Alone → Change
+emits_nothing s = record { state = s; emission = None }

@@ -1,0 +1,50 @@
+-- The Tags that a domain's requesters have open (PCIe 4.0, 2.2.6.2).
+use Rattle.std.specs.Prelude.{ℕ, ◌==◌, Bool, true, false, ◌&&◌, List, [], ◌∷◌, ◌++◌, Option, Some, None, if◌then◌else◌}
+use Rattle.std.specs.List.{list_any}
+use Rattle.fab_types.specs.declared.class.Class.{Class}
+use Rattle.fab_types.specs.declared.class.Class.TheVariants.{Posted, NonPosted, Completion}
+use Rattle.fab_types.specs.declared.faults.malformed.Malformed.{Malformed}
+use Rattle.fab_types.specs.declared.place.Origin.{Origin}
+use Rattle.fab_types.specs.declared.place.Origin.TheVariants.{Function, Host}
+use Rattle.tlp_view.specs.Kinds.{class_of_kind, is_completion}
+use Rattle.tlp_view.specs.Bytes.{packet_of}
+use Rattle.tlp_view.specs.Malformed.{malformed}
+use Rattle.domain.specs.declared.tags.OpenTag.{OpenTag}
+use Rattle.domain.specs.declared.tags.TagUse.TheVariants.{Raw}
+
+abbrev pub is_non_posted : Class → Bool
+is_non_posted Posted = false
+is_non_posted NonPosted = true
+is_non_posted Completion = false
+
+-- a well-formed non-posted request waits for a completion
+abbrev pub opens_tag_unless : Option Malformed → List ℕ → Bool
+opens_tag_unless None bytes = is_non_posted (class_of_kind (packet_of bytes).kind)
+opens_tag_unless (Some cause) bytes = false
+
+abbrev pub opens_tag : List ℕ → Bool
+opens_tag bytes = opens_tag_unless (malformed bytes) bytes
+
+abbrev pub is_completion_unless : Option Malformed → List ℕ → Bool
+is_completion_unless None bytes = is_completion (packet_of bytes).kind
+is_completion_unless (Some cause) bytes = false
+
+-- are the bytes a well-formed completion?
+abbrev pub completes : List ℕ → Bool
+completes bytes = is_completion_unless (malformed bytes) bytes
+
+abbrev pub same_origin : Origin → Origin → Bool
+same_origin (Function f) (Function g) = f == g
+same_origin (Function f) (Host d) = false
+same_origin (Host d) (Function g) = false
+same_origin (Host d) (Host e) = d == e
+
+abbrev pub is_open : List OpenTag → Origin → ℕ → Bool
+is_open tags owner tag = list_any (λ open_tag. same_origin open_tag.owner owner && (open_tag.tag == tag)) tags
+
+-- the open Tags after a function submitted these bytes
+abbrev pub opened : List OpenTag → ℕ → List ℕ → List OpenTag
+opened tags function bytes =
+    if opens_tag bytes
+    then tags ++ record { owner = Function function; tag = (packet_of bytes).tag; usage = Raw } ∷ []
+    else tags

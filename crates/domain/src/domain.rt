@@ -1,0 +1,93 @@
+//! A domain.
+
+ghost use Rattle.std.specs.Prelude.{◌≡◌, IfOk, Some, []};
+ghost use Rattle.std.specs.Option.{option_copied};
+ghost use Rattle.host_memory.specs.Pages.{page_of};
+ghost use Rattle.domain.specs.Machine.{replay};
+ghost use Rattle.domain.specs.State.{start_state};
+
+use crate::counts::Counts;
+use crate::entry::Entry;
+use crate::state::State;
+use crate::tags::OpenTag;
+use fab_types::NoMemory;
+use frame_log::Log;
+use host_table::HostTable;
+use layout::Start;
+use std::alloc::Global;
+use std::marker::Model;
+use std::sync::Arc;
+
+/// A domain (a tenant): its state, and the journal of what it did, of which the state is the replay.
+/// A contract sees a `DomainView`.
+#[derive(Drop)]
+pub struct Domain {
+    pub(crate) start: Start,
+    pub(crate) table: HostTable,
+    pub(crate) state: State,
+    pub(crate) journal: Vec<Entry>,
+}
+
+impl Model for Domain {
+    ghost use Rattle.domain.specs.Domains.{DomainView};
+
+    ghost Value = { DomainView };
+
+    ghost use Rattle.domain.specs.Kept.{view_of, Kept};
+
+    ghost view = { view_of };
+
+    ghost invariant = { Kept };
+}
+
+impl Domain {
+    /// A domain at its start, with an empty journal. For each begin of the budget there is room for
+    /// four entries of the journal and three packets in flight. It answers `NoMemory` where memory was
+    /// refused.
+    pub fn new(alloc: Global, start: &Start, log: Arc<Log>) -> Result<Domain, NoMemory>
+        ensures { IfOk result (λ domain. domain ≡ record { share = start.now; state = start_state start.now; journal = [] }) }
+    {
+        let room = start.budget() as usize * 4;
+        Ok(Domain {
+            start: start.try_clone(alloc)?,
+            table: HostTable::new(alloc, start)?,
+            state: State::new(alloc, start, log)?,
+            journal: Vec::with_capacity(alloc, room)?,
+        })
+    }
+
+    /// What the layout gives the domain.
+    pub fn start(&self) -> &Start
+        ensures { result.now ≡ self.now.share }
+    {
+        &self.start
+    }
+
+    /// What the domain did, oldest first. The domain's state is what this journal leaves.
+    pub fn journal(&self) -> &[Entry]
+        ensures value { result.now ≡ self.now.journal }
+        ensures replays { replay self.now.share self.now.journal ≡ Some self.now.state }
+    {
+        &self.journal
+    }
+
+    pub fn counts(&self) -> Counts
+        ensures { result ≡ self.now.state.counts }
+    {
+        self.state.counts()
+    }
+
+    /// The 4,096 bytes of this frame of memory, if it is of the domain.
+    pub fn frame(&self, number: u16) -> Option<&[u8]>
+        ensures { option_copied result ≡ page_of self.now.state.frames number }
+    {
+        self.state.frame(number)
+    }
+
+    /// The Tags that wait for a completion, in the order in which they were opened.
+    pub fn open_tags(&self) -> &[OpenTag]
+        ensures { result.now ≡ self.now.state.open_tags }
+    {
+        self.state.open_tags()
+    }
+}

@@ -1,0 +1,24 @@
+//! A domain (a tenant): its memory, its journal, and what it has in flight.
+#![tactic(auto)]
+
+mod consume;
+mod counts;
+mod domain;
+mod entry;
+mod fate;
+mod flight;
+mod heads;
+mod registers;
+mod replay;
+mod state;
+mod submit;
+mod tags;
+
+pub use counts::Counts;
+pub use domain::Domain;
+pub use entry::Entry;
+pub use fate::Fate;
+pub use tags::{OpenTag, TagUse};
+
+#[cfg(test)]
+mod tests;

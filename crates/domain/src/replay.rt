@@ -1,0 +1,78 @@
+//! A domain from its journal.
+
+ghost use Rattle.std.specs.Prelude.{◌≡◌, ℕ, Some, Err, None, IfOk, IfErr, OnOk};
+ghost use Rattle.std.specs.Result.{IsOkUnless};
+ghost use Rattle.fab_types.specs.declared.faults.replay.ReplayFault.TheVariants.{Illegal};
+ghost use Rattle.domain.specs.declared.consume.EndFault.TheVariants as end;
+ghost use Rattle.domain.specs.Machine.{change, replay};
+ghost use Rattle.domain.specs.State.{Alone};
+
+use crate::consume::EndFault;
+use crate::domain::Domain;
+use crate::entry::Entry;
+use fab_types::{ReplayFault, SubmitFault};
+use frame_log::Log;
+use layout::Start;
+use std::alloc::Global;
+use std::sync::{Arc, Wait};
+
+impl Domain {
+    ghost use Rattle.domain.specs.Replays.{Follows, IsFirstIllegal};
+
+    /// Does what an entry says.
+    fn apply<R: Wait>(&mut self, rt: &R, entry: &Entry) -> Result<(), EndFault>
+        ensures ok { OnOk result (Follows self.old entry.now self.new) }
+        ensures illegal { IfErr result (λ fault. fault ≡ end.Illegal → change self.old.share self.old.state entry.now ≡ None) }
+    {
+        match entry {
+            Entry::Submit(function, bytes) => match self.submit(rt, *function, bytes.as_slice()) {
+                Ok(_) => Ok(()),
+                Err(SubmitFault::NoMemory) => Err(EndFault::NoMemory),
+                Err(_) => Err(EndFault::Illegal),
+            },
+            Entry::Refuse(number) => match self.end_refused(*number) {
+                Ok(_) => Ok(()),
+                Err(fault) => Err(fault),
+            },
+            Entry::Carry(number) => match self.end_carried(*number) {
+                Ok(_) => Ok(()),
+                Err(fault) => Err(fault),
+            },
+        }
+    }
+
+    /// The domain that a journal leaves, from its start, with a log of its own. It answers
+    /// `Illegal(index)` with the first entry that is illegal after those before it, or `NoMemory`
+    /// where memory was refused.
+    pub fn replay<R: Wait>(
+        rt: &R,
+        alloc: Global,
+        start: &Start,
+        entries: &[Entry],
+    ) -> Result<Domain, ReplayFault>
+        ensures state { IfOk result (λ domain. replay start.now entries.now ≡ Some domain.state) }
+        ensures journal { IfOk result (λ domain. (domain.journal ≡ entries.now) × (domain.share ≡ start.now)) }
+
+        // A journal is refused only at its first illegal entry; a legal one only for want of memory.
+        ensures illegal { (i : ℕ) → result ≡ Err (Illegal i) → IsFirstIllegal start.now entries.now i }
+        ensures legal { (s : Alone) → replay start.now entries.now ≡ Some s → IsOkUnless result ReplayFault.NoMemory }
+    {
+        let Ok(log) = Log::new(alloc) else {
+            return Err(ReplayFault::NoMemory);
+        };
+        let Ok(log) = Arc::new(alloc, log) else {
+            return Err(ReplayFault::NoMemory);
+        };
+        let Ok(mut domain) = Domain::new(alloc, start, log) else {
+            return Err(ReplayFault::NoMemory);
+        };
+        for (i, entry) in entries.iter().enumerate() {
+            match domain.apply(rt, entry) {
+                Ok(()) => {}
+                Err(EndFault::Illegal) => return Err(ReplayFault::Illegal(i)),
+                Err(EndFault::NoMemory) => return Err(ReplayFault::NoMemory),
+            }
+        }
+        Ok(domain)
+    }
+}

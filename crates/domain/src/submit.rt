@@ -1,0 +1,81 @@
+//! Submitting a packet.
+
+ghost use Rattle.std.specs.Prelude.{◌≡◌, ◌&&◌, Some, None, IfOk, OnErr};
+ghost use Rattle.std.specs.Result.{IsOkUnless};
+ghost use Rattle.fab_types.specs.declared.place.Origin.TheVariants.{Function};
+ghost use Rattle.tlp_view.specs.Bytes.{packet_of};
+ghost use Rattle.fab_types.specs.declared.faults.begin.SubmitFault.{SubmitFault};
+ghost use Rattle.domain.specs.Tags.{is_open, opens_tag};
+ghost use Rattle.domain.specs.Submits.{submit_fault};
+
+use crate::domain::Domain;
+use crate::entry::Entry;
+use crate::tags::{completes, is_open, tag_to_open};
+use fab_types::{Bdf, Origin, SubmitFault};
+use frame_log::{Frame, PacketBytes};
+use std::sync::Wait;
+
+impl Domain {
+    ghost use Rattle.domain.specs.declared.entry.Entry.TheVariants.{Submit};
+    ghost use Rattle.domain.specs.Domains.{Makes};
+
+    /// Does the function have the Tag open that the bytes would open?
+    fn is_tag_busy(&self, function: Bdf, bytes: &[u8]) -> bool
+        ensures { result ≡ opens_tag bytes.now && is_open self.now.state.open_tags (Function function) (packet_of bytes.now).tag }
+    {
+        match tag_to_open(bytes) {
+            Some(tag) => is_open(self.state.open_tags(), Origin::Function(function), tag),
+            None => false,
+        }
+    }
+
+    /// The first refusal that applies to these bytes of the function, memory aside.
+    fn submit_fault(&self, function: Bdf, bytes: &[u8]) -> Option<SubmitFault>
+        ensures { result ≡ submit_fault self.now.share self.now.state function bytes.now }
+    {
+        if !self.start.owns_function(function) {
+            Some(SubmitFault::NoFunction)
+        } else if bytes.len() > 272 {
+            Some(SubmitFault::TooLong)
+        } else if completes(bytes) {
+            Some(SubmitFault::Completion)
+        } else if self.is_tag_busy(function, bytes) {
+            Some(SubmitFault::TagBusy)
+        } else if self.state.counts().begins >= self.start.budget() {
+            Some(SubmitFault::BudgetSpent)
+        } else {
+            None
+        }
+    }
+
+    /// A function of this domain submits a packet of at most 272 bytes, which may be malformed. A
+    /// well-formed non-posted request opens its Tag. It is refused with the first fault that applies:
+    /// `NoFunction`, `TooLong`, `Completion`, `TagBusy`, `BudgetSpent`; or `NoMemory` where memory was
+    /// refused. Then nothing changes.
+    pub fn submit<R: Wait>(
+        &mut self,
+        rt: &R,
+        function: Bdf,
+        bytes: &[u8],
+    ) -> Result<Frame, SubmitFault>
+        ensures ok { IfOk result (λ frame. Makes self.old (Submit function bytes.now) self.new (Some frame)) }
+
+        // Which refusal it is: the first that applies. Without one only memory may be refused.
+        ensures refused { (fault : SubmitFault) → submit_fault self.old.share self.old.state function bytes.now ≡ Some fault → result ≡ Err fault }
+        ensures accepted { submit_fault self.old.share self.old.state function bytes.now ≡ None → IsOkUnless result SubmitFault.NoMemory }
+        ensures err { OnErr result (self.new ≡ self.old) }
+    {
+        if let Some(fault) = self.submit_fault(function, bytes) {
+            return Err(fault);
+        }
+        let alloc = *self.journal.allocator();
+        let Ok(copy) = PacketBytes::copy_of(alloc, bytes) else {
+            return Err(SubmitFault::NoMemory);
+        };
+        let Ok(frame) = self.state.submit(rt, self.start.domain(), function, bytes) else {
+            return Err(SubmitFault::NoMemory);
+        };
+        self.journal.push_reserved(Entry::Submit(function, copy));
+        Ok(frame)
+    }
+}

@@ -1,0 +1,4 @@
+pub mod Firsts
+pub mod Steps
+pub mod Waiting
+pub mod Running

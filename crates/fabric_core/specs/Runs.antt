@@ -1,0 +1,37 @@
+-- Runs of a fabric over lists of events.
+use Rattle.std.specs.Prelude.{◌≡◌, ℕ, List, [], ◌∷◌, ◌++◌}
+use Rattle.fab_types.specs.declared.outcome.Outcome.{Outcome}
+use Rattle.fab_types.specs.declared.outcome.Outcome.TheVariants.{Moved, Idle, Refused, NoMemory}
+use Rattle.domain.specs.declared.entry.Entry.{Entry}
+use Rattle.domain.specs.declared.entry.Entry.TheVariants as entry
+use Rattle.fabric_core.specs.declared.event.Event.{Event}
+use Rattle.fabric_core.specs.declared.event.Event.TheVariants.{Submit, Root}
+use Rattle.fabric_core.specs.Events.{StepsTo}
+use Rattle.fabric_core.specs.World.{World}
+
+-- the events have these outcomes, one after another
+abbrev pub Run : World → List Event → List Outcome → World → Type 0
+Run old [] [] new = new ≡ old
+Run old (event ∷ events) (outcome ∷ outcomes) new = (mid : World) × StepsTo old event outcome mid × Run mid events outcomes new
+Run old [] (outcome ∷ outcomes) new = ⊥
+Run old (event ∷ events) [] new = ⊥
+
+-- the begins of a journal, with their inputs
+abbrev pub begins_of : List Entry → List (ℕ × List ℕ)
+begins_of [] = []
+begins_of (entry.Submit f b ∷ journal) = (f, b) ∷ begins_of journal
+begins_of (entry.Refuse n ∷ journal) = begins_of journal
+begins_of (entry.Carry n ∷ journal) = begins_of journal
+
+abbrev pub accepted_one : Event → Outcome → List (ℕ × List ℕ)
+accepted_one (Submit f b) Moved = (f, b) ∷ []
+accepted_one (Submit f b) Idle = []
+accepted_one (Submit f b) (Refused fault) = []
+accepted_one (Submit f b) NoMemory = []
+accepted_one (Root class) outcome = []
+
+-- the submits that were accepted, in their order
+abbrev pub accepted : List Event → List Outcome → List (ℕ × List ℕ)
+accepted [] outcomes = []
+accepted (event ∷ events) [] = []
+accepted (event ∷ events) (outcome ∷ outcomes) = accepted_one event outcome ++ accepted events outcomes

@@ -1,0 +1,20 @@
+//! The pass table.
+
+ghost use Rattle.std.specs.Prelude.{◌≡◌};
+ghost use Rattle.ordering.specs.Ordering.{passes};
+
+use fab_types::Class;
+
+/// May a packet of the class `later` pass one of the class `earlier` that came before it?
+///
+/// Where the standard leaves an entry open, the answer here is no, except that requests that are not
+/// posted and completions may pass each other. Relaxed Ordering and ID-Based Ordering change nothing.
+pub fn may_pass(later: Class, earlier: Class) -> bool
+    ensures { result ≡ passes later earlier }
+{
+    match later {
+        Class::Posted => matches!(earlier, Class::NonPosted | Class::Completion),
+        Class::NonPosted => matches!(earlier, Class::Completion),
+        Class::Completion => matches!(earlier, Class::NonPosted),
+    }
+}

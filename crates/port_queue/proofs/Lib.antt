@@ -1,0 +1,10 @@
+pub mod Arriving
+pub mod Heads
+pub mod Keeping
+pub mod Leaving
+pub mod Merging
+pub mod Numbering
+pub mod Renumbering
+pub mod Reserving
+pub mod Rings
+pub mod Taking

@@ -1,0 +1,33 @@
+-- A queue that takes a counted number of items of each class.
+use Rattle.std.specs.Prelude.{◌≡◌, ℕ, ◌+◌, ◌≤◌, List, Option, length}
+pub use Rattle.std.specs.declared.collections.VecDeque.{VecDeque}
+use Rattle.std.specs.VecDeque.{deque_len, deque_capacity}
+pub use Rattle.std.specs.declared.alloc.Global.{Global}
+use Rattle.port_queue.specs.Queue.{Queue}
+use Rattle.port_queue.specs.Lanes.{Class, Lanes, lane_of}
+use Rattle.port_queue.specs.Arrivals.{Entry, Gap, numbers_of, with_gap, IsKept}
+
+-- what waits, how many of each class were put in all, and how many of each may be
+pub record Outgoing (T : Type 0) : Type 0 where
+  pub queue : Queue T
+  pub puts : Lanes ℕ
+  pub places : ℕ
+
+abbrev pub total : Lanes ℕ → ℕ
+total puts = puts.posted + puts.non_posted + puts.completion
+
+module _ {T : Type 0} where
+  abbrev pub entries_of : Lanes (VecDeque (Entry T) Global) → Class → List (Entry T)
+  entries_of lanes class = (lane_of lanes class).items
+
+  -- a queue with this many places
+  pub record IsRoomy (places : ℕ) (q : VecDeque (Entry T) Global) : Type 0 where
+    pub reserved : places ≤ deque_capacity q
+    pub long : deque_len q ≡ length q.items
+
+  -- what was put is numbered in turn, and all that may still be put has a place
+  pub record IsReserved (lanes : Lanes (VecDeque (Entry T) Global)) (puts : Lanes ℕ) (places : ℕ) (gap : Option Gap) : Type 0 where
+    pub kept : IsKept places (entries_of lanes) (total puts) gap
+    pub counted : (c : Class) → length (with_gap gap (numbers_of (entries_of lanes)) c) ≤ lane_of puts c
+    pub within : (c : Class) → lane_of puts c ≤ places
+    pub roomy : (c : Class) → IsRoomy places (lane_of lanes c)

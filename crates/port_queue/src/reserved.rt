@@ -1,0 +1,172 @@
+//! A queue of items that come in a counted number.
+
+ghost use Rattle.std.specs.Prelude.{◌≡◌, ◌<◌, ◌≤◌, ◌+◌, ◌^◌, [], ◌∷◌, ◌++◌, IsTrue, ◌↔◌, IsSome, IfSome, IfOk, OnOk, OnErr, MatchOption, Some, None, option_copied, length, slice_get, alloc_error};
+ghost use Rattle.std.specs.Bool.{OnFalse};
+ghost use Rattle.std.specs.VecDeque.{deque_capacity};
+ghost use Rattle.fab_types.specs.declared.class.Class.TheVariants.{Posted};
+ghost use Rattle.port_queue.specs.Lanes.{lane_of, with_lane};
+ghost use Rattle.port_queue.specs.Arrivals.{may_leave};
+ghost use Rattle.port_queue.specs.Queue.{Queue, taken_of, head_of, restored};
+ghost use Rattle.port_queue.specs.Outgoing.{Outgoing, entries_of};
+
+use crate::entry::{Entry, Gap};
+use crate::lanes::{Lanes, may_leave_beside};
+use fab_types::{Class, NoMemory};
+use std::alloc::Global;
+use std::collections::VecDeque;
+use std::marker::Model;
+
+/// No memory holds more entries of a class than this.
+const MOST: usize = 1 << 62;
+
+/// A queue that takes a counted number of items of each class in all, for which it reserves room when it
+/// is made, so that no put takes memory.
+#[derive(Drop)]
+pub struct Outbox<T> {
+    lanes: Lanes<VecDeque<Entry<T>>>,
+    puts: Lanes<usize>,
+    places: usize,
+    gap: Option<Gap>,
+}
+
+impl<T> Model for Outbox<T> {
+    ghost use Rattle.port_queue.specs.Outgoing.{Outgoing, entries_of, IsReserved};
+    ghost use Rattle.port_queue.specs.Arrivals.{queue_of};
+
+    ghost Value = { Outgoing T };
+
+    ghost view = { λ o. record { queue = queue_of (entries_of o.lanes) o.gap; puts = o.puts; places = o.places } };
+
+    ghost invariant = { λ o. IsReserved o.lanes o.puts o.places o.gap };
+}
+
+fn is_eligible<T>(lanes: &Lanes<VecDeque<Entry<T>>>, class: Class) -> bool
+    ensures { result ≡ may_leave (slice_get (entries_of lanes.now class) 0) (slice_get (entries_of lanes.now Posted) 0) }
+{
+    may_leave_beside(lanes.get(class).front(), lanes.posted.front())
+}
+
+impl<T: Drop> Outbox<T> {
+    /// An empty queue that takes `places` items of each class in all.
+    pub fn new(alloc: Global, places: usize) -> Result<Self, NoMemory>
+        ensures { IfOk result (λ o. o ≡ record {
+          queue = record { waiting = []; gap = None };
+          puts = record { posted = 0; non_posted = 0; completion = 0 };
+          places = places;
+        }) }
+    {
+        if places >= MOST {
+            return Err(NoMemory);
+        }
+        Ok(Outbox {
+            lanes: Lanes {
+                posted: VecDeque::with_capacity(alloc, places)?,
+                non_posted: VecDeque::with_capacity(alloc, places)?,
+                completion: VecDeque::with_capacity(alloc, places)?,
+            },
+            puts: Lanes {
+                posted: 0,
+                non_posted: 0,
+                completion: 0,
+            },
+            places,
+            gap: None,
+        })
+    }
+
+    /// Were `places` items of the class put in all?
+    pub fn is_full(&self, class: Class) -> bool
+        ensures exact { IsTrue result ↔ (lane_of self.now.puts class ≡ self.now.places) }
+        ensures room { OnFalse result (lane_of self.now.puts class < self.now.places) }
+    {
+        *self.puts.get(class) == self.places
+    }
+
+    /// The eligible item of the class: its oldest, unless an older posted one waits that it may not pass.
+    pub fn head(&self, class: Class) -> Option<&T>
+        ensures { option_copied result ≡ head_of class self.now.queue.waiting }
+    {
+        if !is_eligible(&self.lanes, class) {
+            return None;
+        }
+        match self.lanes.get(class).front() {
+            Some(entry) => Some(&entry.item),
+            None => None,
+        }
+    }
+
+    /// Puts an item behind the others. Of its class fewer than `places` were put.
+    pub fn put(&mut self, class: Class, item: T)
+        requires { lane_of self.old.puts class < self.old.places }
+        ensures { self.new ≡ record {
+          queue = record { waiting = self.old.queue.waiting ++ (class, item) ∷ []; gap = None };
+          puts = with_lane self.old.puts class (lane_of self.old.puts class + 1);
+          places = self.old.places;
+        } }
+    {
+        let number = self.puts.posted + self.puts.non_posted + self.puts.completion;
+        let puts = *self.puts.get(class) + 1;
+        *self.puts.get_mut(class) = puts;
+        self.gap = None;
+        self.lanes.get_mut(class).push_back_reserved(Entry {
+            number: number as u64,
+            item,
+        });
+    }
+
+    /// Takes the eligible item of the class.
+    pub fn take(&mut self, class: Class) -> Option<T>
+        ensures taken { MatchOption result ((taken_of class self.old.queue.waiting ≡ None) × (self.new ≡ self.old))
+            (λ item. taken_of class self.old.queue.waiting ≡ Some ((class, item), self.new.queue.waiting)) }
+        ensures restores { IfSome result (λ item. restored self.new.queue class item ≡ Some self.old.queue.waiting) }
+        ensures places { (self.new.puts ≡ self.old.puts) × (self.new.places ≡ self.old.places) }
+    {
+        if !is_eligible(&self.lanes, class) {
+            return None;
+        }
+        let Some(Entry { number, item }) = self.lanes.get_mut(class).pop_front() else {
+            unreachable!();
+        };
+        self.gap = Some(Gap { class, number });
+        Some(item)
+    }
+
+    /// Puts the item back that the last call took, to where it stood. It is not counted again.
+    pub fn put_back(&mut self, class: Class, item: T)
+        requires { IsSome (restored self.old.queue class item) }
+        ensures waiting { restored self.old.queue class item ≡ Some self.new.queue.waiting }
+        ensures gap { self.new.queue.gap ≡ None }
+        ensures places { (self.new.puts ≡ self.old.puts) × (self.new.places ≡ self.old.places) }
+    {
+        let Some(gap) = self.gap else {
+            unreachable!();
+        };
+        self.gap = None;
+        self.lanes.get_mut(class).push_front_reserved(Entry {
+            number: gap.number,
+            item,
+        });
+    }
+
+    /// Takes `n` items more of each class.
+    pub fn more(&mut self, n: usize) -> Result<(), NoMemory>
+        ensures ok { OnOk result (self.new ≡ record self.old { places = self.old.places + n }) }
+        ensures err { OnErr result (self.new ≡ self.old) }
+    {
+        if n >= MOST - self.places {
+            return Err(NoMemory);
+        }
+        let places = self.places + n;
+        self.lanes
+            .posted
+            .reserve_exact(places - self.lanes.posted.len())?;
+        self.lanes
+            .non_posted
+            .reserve_exact(places - self.lanes.non_posted.len())?;
+        self.lanes
+            .completion
+            .reserve_exact(places - self.lanes.completion.len())?;
+        self.places = places;
+        Ok(())
+    }
+}

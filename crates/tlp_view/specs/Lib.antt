@@ -1,0 +1,12 @@
+pub mod Packet
+pub mod Kinds
+pub mod Bytes
+pub mod Malformed
+pub mod View
+pub mod Spelling
+pub mod Runs
+pub mod Costs
+pub mod Completions
+pub mod Buffer
+pub mod Lent
+pub mod LentPayload

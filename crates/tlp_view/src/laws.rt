@@ -1,0 +1,37 @@
+//! Laws of the definitions alone.
+
+ghost use Rattle.std.specs.Prelude.{◌≡◌, ◌+◌, All, ◌%◌, ◌^◌, ◌<◌, ◌≤◌, ℕ, List, length, slice_index};
+ghost use Rattle.tlp_view.specs.Packet.{Packet};
+ghost use Rattle.tlp_view.specs.Bytes.{packet_of};
+ghost use Rattle.tlp_view.specs.Malformed.{malformed};
+ghost use Rattle.tlp_view.specs.View.{IsSound};
+ghost use Rattle.tlp_view.specs.Runs.{runs};
+ghost use Rattle.tlp_view.specs.Spelling.{Spells};
+ghost use Rattle.tlp_view.specs.declared.completion.CompletionHead.{CompletionHead};
+ghost use Rattle.tlp_view.specs.Completions.{completion_of, completion_bytes, HeadFits};
+
+/// A byte list spells at most one packet.
+pub fn spelled_once()
+    ensures { (bytes : List ℕ) (t u : Packet) → Spells bytes t → Spells bytes u → t ≡ u }
+{}
+
+/// Bytes that no cause makes malformed spell a packet.
+pub fn well_formed_spelled()
+    ensures { (bytes : List ℕ) → ((i : ℕ) → slice_index bytes i < 256) → malformed bytes ≡ None → Spells bytes (packet_of bytes) }
+{}
+
+/// Well-formed packets are as long as their Length says, and their requests stay within 4,096 bytes.
+pub fn well_formed_sound()
+    ensures { (bytes : List ℕ) → malformed bytes ≡ None → IsSound (packet_of bytes) }
+{}
+
+/// Each run of enabled bytes lies within the payload.
+pub fn runs_within()
+    ensures { (t : Packet) → All (λ run. run.0 + length run.1 ≤ length t.payload) (runs t) }
+{}
+
+/// The bytes of a completion of at most 64 DW spell it, and so are read back as what they were made from.
+pub fn completion_spelled()
+    ensures { (head : CompletionHead) (payload : List ℕ) → HeadFits head → head.completer < 2 ^ 16 → head.requester < 2 ^ 16 → head.tag < 2 ^ 8
+        → length payload ≤ 256 → length payload % 4 ≡ 0 → Spells (completion_bytes (completion_of head payload)) (completion_of head payload) }
+{}
