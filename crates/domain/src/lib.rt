@@ -19,6 +19,3 @@ pub use domain::Domain;
 pub use entry::Entry;
 pub use fate::Fate;
 pub use tags::{OpenTag, TagUse};
-
-#[cfg(test)]
-mod tests;

@@ -119,7 +119,7 @@ impl Fabric {
 
     /// Makes one event, and says what came of it. `Moved`: the fabric did what the event does. `Idle`:
     /// there was nothing to take. `Refused`: the domain refused the begin. `NoMemory`: memory was
-    /// refused to an event that would have moved. All but `Moved` change nothing.
+    /// refused. All but `Moved` change nothing.
     pub fn step<R: Wait>(&mut self, rt: &R, event: &Event) -> Outcome
         ensures { StepsTo self.old event.now result self.new }
     {

@@ -7,6 +7,3 @@ mod queue;
 
 pub use event::Event;
 pub use fabric::Fabric;
-
-#[cfg(test)]
-mod tests;

@@ -7,8 +7,8 @@ use fab_types::Class;
 
 /// May a packet of the class `later` pass one of the class `earlier` that came before it?
 ///
-/// Where the standard leaves an entry open, the answer here is no, except that requests that are not
-/// posted and completions may pass each other. Relaxed Ordering and ID-Based Ordering change nothing.
+/// Of the entries that the standard leaves open, a posted or non-posted request may pass a completion
+/// here, and nothing passes its own class. Relaxed Ordering and ID-Based Ordering change nothing.
 pub fn may_pass(later: Class, earlier: Class) -> bool
     ensures { result ≡ passes later earlier }
 {

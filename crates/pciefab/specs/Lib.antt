@@ -1,0 +1,5 @@
+pub mod Endings
+pub mod First
+pub mod Outcomes
+pub mod PacketWord
+pub mod Report

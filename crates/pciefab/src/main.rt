@@ -1,0 +1,34 @@
+//! The program `pciefab`: runs a fabric of PCI Express switches, and prints what the memory of its
+//! domains (the tenants) then holds.
+#![tactic(auto)]
+
+mod command_line;
+mod fault;
+mod files;
+mod first;
+mod host;
+mod packet_word;
+mod program;
+mod report;
+#[cfg(test)]
+mod tests;
+
+use files::HostFiles;
+use program::command;
+use std::process::ExitCode;
+
+fn main(rt: HostRuntime) -> ExitCode {
+    let mut err = rt.stderr();
+    let status = match host::words_and_output(&rt) {
+        Ok((words, mut out)) => command(
+            &rt,
+            rt.alloc(),
+            words.as_slice(),
+            &HostFiles::new(&rt),
+            &mut out,
+            &mut err,
+        ),
+        Err(fault) => program::stopped(fault, &mut err),
+    };
+    ExitCode::from(status.code())
+}

@@ -1,0 +1,193 @@
+use crate::fault::ExitStatus;
+use crate::files::{FileFault, FileGiver, HostFiles};
+use crate::program::command;
+use std::alloc::Global;
+use std::io;
+use std::io::Write;
+use std::sync::Wait;
+use std::test::Fail;
+
+/// No file can be read.
+#[derive(Drop)]
+struct NoFiles;
+
+impl FileGiver for NoFiles {
+    fn bytes_of(&self, _name: &str) -> Result<Vec<u8>, FileFault> {
+        Err(FileFault::Unreadable)
+    }
+}
+
+/// A writer that fails so.
+#[derive(Drop)]
+struct Failing(io::ErrorKind);
+
+impl Write for Failing {
+    fn write(&mut self, _bytes: &[u8]) -> io::Result<usize> {
+        Err(io::Error::from(self.0))
+    }
+
+    fn flush(&mut self) -> io::Result<()> {
+        Ok(())
+    }
+}
+
+/// What a command wrote, and its exit status.
+#[derive(Debug, PartialEq, Drop)]
+struct Ending {
+    status: u8,
+    out: String,
+    err: String,
+}
+
+fn run_words(rt: &impl Wait, alloc: Global, words: &[&str]) -> Result<Ending, Fail> {
+    let mut out = Vec::new(alloc);
+    let mut err = Vec::new(alloc);
+    let status = command(rt, alloc, words, &NoFiles, &mut out, &mut err).code();
+    Ok(Ending {
+        status,
+        out: String::from_utf8(out)?,
+        err: String::from_utf8(err)?,
+    })
+}
+
+const WRITE: &str = "400000010300000f0000100011223344";
+
+const ROW: &str = "frame 0 000 11223344000000000000000000000000\n";
+
+#[test]
+fn first_prints_the_rows_that_the_packet_changed_or_why_it_was_refused(
+    rt: HostRuntime,
+) -> Result<(), Fail> {
+    let alloc = rt.alloc();
+    let long = "00".repeat(alloc, 273)?;
+    let longest = "00".repeat(alloc, 272)?;
+    let cases = [
+        (WRITE, ROW),
+        // Page 2 is not mapped.
+        ("400000010300000f0000200011223344", ""),
+        // Not a whole header.
+        ("400000", ""),
+        ("-", ""),
+        (longest.as_str(), ""),
+        (long.as_str(), "refused 1 1 TooLong\n"),
+    ];
+    for (word, out) in cases {
+        let end = run_words(&rt, alloc, &["first", word])?;
+        assert_eq!(rt; end.out.as_str(), out, "{word}");
+        assert_eq!(rt; end.err.as_str(), "", "{word}");
+        assert_eq!(rt; end.status, 0, "{word}");
+    }
+    Ok(())
+}
+
+#[test]
+fn a_word_that_is_no_lower_case_hexadecimal_of_whole_bytes_is_refused(
+    rt: HostRuntime,
+) -> Result<(), Fail> {
+    let words = [
+        "", "4", "400", "4A", "4g", "0x40", "40 ", " 40", "40\n", "--", "é", "４０",
+    ];
+    for word in words {
+        let end = run_words(&rt, rt.alloc(), &["first", "--", word])?;
+        assert_eq!(rt; end.out.as_str(), "", "{word:?}");
+        assert_eq!(rt; end.err.as_str(), "script 1: Line\n", "{word:?}");
+        assert_eq!(rt; end.status, 1, "{word:?}");
+    }
+    Ok(())
+}
+
+#[test]
+fn words_that_are_no_command_are_refused_before_the_packet_is_looked_at(
+    rt: HostRuntime,
+) -> Result<(), Fail> {
+    let cases: [&[&str]; 9] = [
+        &[],
+        &[""],
+        &["first"],
+        &["second", WRITE],
+        &["First", WRITE],
+        &["first", WRITE, WRITE],
+        &["first", "4A", "4A"],
+        &["first", "-x"],
+        &["--version"],
+    ];
+    for words in cases {
+        let end = run_words(&rt, rt.alloc(), words)?;
+        assert_eq!(rt; end.out.as_str(), "", "{words:?}");
+        assert_eq!(rt; end.err.as_str(), "usage\n", "{words:?}");
+        assert_eq!(rt; end.status, 1, "{words:?}");
+    }
+    Ok(())
+}
+
+#[test]
+fn words_after_two_dashes_are_no_options(rt: HostRuntime) -> Result<(), Fail> {
+    let end = run_words(&rt, rt.alloc(), &["first", "--", WRITE])?;
+    assert_eq!(rt; end.out.as_str(), ROW);
+    assert_eq!(rt; end.status, 0);
+    let end = run_words(&rt, rt.alloc(), &["first", "--", "--help"])?;
+    assert_eq!(rt; end.err.as_str(), "script 1: Line\n");
+    Ok(())
+}
+
+#[test]
+fn help_is_printed_with_an_example_that_can_be_run(rt: HostRuntime) -> Result<(), Fail> {
+    let cases: [&[&str]; 6] = [
+        &["--help"],
+        &["-h"],
+        &["help"],
+        &["first", "--help"],
+        &["first", "-h"],
+        &["help", "first"],
+    ];
+    for words in cases {
+        let end = run_words(&rt, rt.alloc(), words)?;
+        let help = end.out.as_str();
+        assert!(rt; help.contains("Usage: pciefab"), "{words:?}: {help}");
+        assert!(rt;
+            help.contains("$ pciefab first 400000010300000f0000100011223344\n"),
+            "{words:?}"
+        );
+        assert!(rt; help.contains(ROW), "{words:?}");
+        assert_eq!(rt; end.err.as_str(), "", "{words:?}");
+        assert_eq!(rt; end.status, 0, "{words:?}");
+    }
+    Ok(())
+}
+
+#[test]
+fn an_output_that_fails_is_a_fault(rt: HostRuntime) -> Result<(), Fail> {
+    let alloc = rt.alloc();
+    let cases = [
+        (io::ErrorKind::BrokenPipe, 1, "output: unwritable\n"),
+        (io::ErrorKind::OutOfMemory, 2, "out of memory\n"),
+    ];
+    for words in [&["first", WRITE].as_slice(), &["help"].as_slice()] {
+        for (kind, status, line) in cases {
+            let mut out = Failing(kind);
+            let mut err = Vec::new(alloc);
+            let end = command(&rt, alloc, words, &NoFiles, &mut out, &mut err);
+            assert_eq!(rt; end.code(), status, "{words:?}");
+            assert_eq!(rt; String::from_utf8(err)?.as_str(), line, "{words:?}");
+        }
+    }
+    Ok(())
+}
+
+#[test]
+fn a_standard_error_that_fails_leaves_the_status(rt: HostRuntime) -> Result<(), Fail> {
+    let mut out = Vec::new(rt.alloc());
+    let mut err = Failing(io::ErrorKind::BrokenPipe);
+    let end = command(&rt, rt.alloc(), &["first"], &NoFiles, &mut out, &mut err);
+    assert_eq!(rt; end, ExitStatus::Stopped);
+    assert!(rt; out.is_empty());
+    Ok(())
+}
+
+#[test]
+fn the_files_of_the_host_are_read_whole(rt: HostRuntime) -> Result<(), Fail> {
+    let files = HostFiles::new(&rt);
+    assert_eq!(rt; files.bytes_of("/dev/null").map(|bytes| bytes.len()), Ok(0));
+    assert!(rt; files.bytes_of("no such file") == Err(FileFault::Unreadable));
+    Ok(())
+}
