@@ -1,32 +1,39 @@
 -- How many entries and packets a domain's begins lead to.
-use Rattle.std.proofs.Common.{◌≡◌, ℕ, zero, suc, ◌+◌, ◌*◌, ◌<◌, ◌≤◌, Bool, true, false, List, [], ◌∷◌, ◌++◌, length, Option, Some, None, refl, sym, ap, ◌∙◌, subst, arith, slice_set, slice_index_or, length-append, length-set}
-use Rattle.std.proofs.Common.{cond, ◌/◌, ◌%◌, ◌&&◌, not}
+use Rattle.std.proofs.Common.{◌≡◌, ℕ, zero, suc, ◌+◌, ◌*◌, ◌<◌, ◌≤◌, Bool, true, false, List, [], ◌∷◌, ◌++◌, length, Option, Some, None, refl, sym, ap, ◌∙◌, subst, arith, slice_set, length-append, length-set}
+use Rattle.std.proofs.Common.{cond, ◌/◌, ◌&&◌, not}
 use Rattle.std.specs.Prelude.{option_map, nat_le, nat_lt}
 use Rattle.std.proofs.lemmas.Bool.{leb-false, ltb-false}
+use Rattle.fab_types.specs.declared.faults.begin.SubmitFault.{SubmitFault}
 use Rattle.fab_types.specs.declared.faults.begin.SubmitFault.TheVariants.{TooLong, Completion, TagBusy, BudgetSpent, NoFunction}
-use Rattle.fab_types.specs.declared.place.Origin.TheVariants.{Function}
-use Rattle.layout.specs.declared.lines.MapTarget.{MapTarget}
-use Rattle.layout.specs.declared.lines.MapTarget.TheVariants.{Frame, Peer}
-use Rattle.layout.specs.declared.lines.Access.TheVariants.{Write}
-use Rattle.layout.specs.Owners.{is_own_function}
-use Rattle.layout.specs.Tables.{target_of}
-use Rattle.tlp_view.specs.Packet.{Packet}
-use Rattle.tlp_view.specs.Runs.{runs, is_write}
-use Rattle.tlp_view.specs.Bytes.{packet_of}
-use Rattle.domain.specs.Fates.{fate}
-use Rattle.domain.specs.Tags.{opens_tag, completes, is_open}
-use Rattle.domain.specs.Submits.{submit_fault, submitted, submit_unless}
-use Rattle.domain.specs.Carries.{blocked, with_stored, address_of, write_to, serve, is_carried, carry_by, refuse_by}
 use Rattle.fab_types.specs.declared.head.Parties.{Parties}
 use Rattle.fab_types.specs.declared.head.Parties.TheVariants.{Upward, Downward, Answer}
-use Rattle.fab_types.specs.declared.faults.begin.SubmitFault.{SubmitFault}
+use Rattle.fab_types.specs.declared.place.Origin.TheVariants.{Function}
+use Rattle.layout.specs.declared.lines.Access.TheVariants.{Read, Write}
+use Rattle.layout.specs.declared.lines.MapTarget.{MapTarget}
+use Rattle.layout.specs.declared.lines.MapTarget.TheVariants.{Frame, Peer}
+use Rattle.layout.specs.Owners.{first_port, is_own_function}
 use Rattle.layout.specs.Share.{Share}
+use Rattle.layout.specs.Tables.{target_of}
+use Rattle.tlp_view.specs.Packet.{Packet, dw_count}
+use Rattle.tlp_view.specs.Runs.{runs, is_write}
+use Rattle.tlp_view.specs.Bytes.{packet_of}
+use Rattle.domain.specs.declared.deliver.Arrival.{Arrival}
+use Rattle.domain.specs.declared.ending.Deed.{Deed}
+use Rattle.domain.specs.declared.ending.Deed.TheVariants.{Leave, Block, Store}
+use Rattle.domain.specs.declared.ending.Ending.{Ending}
 use Rattle.domain.specs.declared.entry.Entry.{Entry}
-use Rattle.domain.specs.declared.entry.Entry.TheVariants.{Submit, Refuse, Carry}
+use Rattle.domain.specs.declared.entry.Entry.TheVariants.{Submit, Refuse, Carry, Deliver}
 use Rattle.domain.specs.declared.fate.Fate.{Fate}
 use Rattle.domain.specs.declared.fate.Fate.TheVariants.{Vanish, Refused, ToHost}
-use Rattle.domain.specs.State.{Alone, Emission, Change, item_at, start_state, with_emission, without}
-use Rattle.domain.specs.Machine.{refuse_item, carry_item, refuse, carry, change, replay_from, replay}
+use Rattle.domain.specs.Answers.{address_of, host_refusal}
+use Rattle.domain.specs.Carries.{carriage_by, carriage_of, is_carried, port_id, read_from, refusal_by, refusal_of, serve, serve_read, write_to}
+use Rattle.domain.specs.Deliveries.{arrival_of, arrived, recorded, unexpected}
+use Rattle.domain.specs.Ends.{blocked, conclude, done, replied, with_stored}
+use Rattle.domain.specs.Fates.{fate}
+use Rattle.domain.specs.Machine.{carry, change, deliver, refuse, replay, replay_from}
+use Rattle.domain.specs.State.{Alone, Change, Delivery, Emission, emits_nothing, item_at, start_state, with_emission, without}
+use Rattle.domain.specs.Submits.{submit_fault, submit_unless, submitted}
+use Rattle.domain.specs.Tags.{completes, is_open, opens_tag}
 
 -- how many packets may still come of one in flight, itself left out
 abbrev pub owed_by : Parties → ℕ
@@ -76,9 +83,10 @@ pub record Accounted (share : Share) (s : Alone) (entries : ℕ) : Type 0 where
   pub packets : length s.flight + owed s.flight ≤ 3 * s.counts.begins
   pub begins : s.counts.begins ≤ share.budget
   pub blocks : s.counts.blocked ≤ entries
+  pub strays : s.counts.unexpected ≤ entries
 
 pub accounted_start : (share : Share) → Accounted share (start_state share) 0
-accounted_start share = record { entries_are = refl; packets = omega arith; begins = omega arith; blocks = omega arith }
+accounted_start share = record { entries_are = refl; packets = omega arith; begins = omega arith; blocks = omega arith; strays = omega arith }
 
 -- ---- each entry keeps the account
 
@@ -123,6 +131,7 @@ begun share s n f b a lt =
       packets = omega (arith, a.packets, owed-push s.flight e, length-append s.flight (e ∷ []));
       begins = omega (arith, lt);
       blocks = omega (arith, a.blocks);
+      strays = omega (arith, a.strays);
     }
 
 submits : (share : Share) (s : Alone) (n f : ℕ) (b : List ℕ) (fault : Option SubmitFault) (c : Change) → (fault ≡ None → s.counts.begins < share.budget) → Accounted share s n
@@ -130,67 +139,138 @@ submits : (share : Share) (s : Alone) (n f : ℕ) (b : List ℕ) (fault : Option
 submits share s n f b None c lt a e = subst (λ (d : Change). Accounted share d.state (suc n)) (some_is _ c e) (begun share s n f b a (lt refl))
 submits share s n f b (Some fault) c lt a e = absurd cc
 
--- a packet in flight that ends with nothing emitted
-ended : (share : Share) (s t : Alone) (n k : ℕ) (e : Emission) → item_at s.flight k ≡ Some e → Accounted share s n
-    → t.flight ≡ slice_set s.flight k None → t.counts.begins ≡ s.counts.begins → t.counts.blocked ≤ s.counts.blocked + 1 → Accounted share t (suc n)
-ended share s t n k e is a flight begins blocks =
+-- a state that a packet left: what the packet owed is spare
+record Spare (share : Share) (t : Alone) (entries spare : ℕ) : Type 0 where
+  entries_are : entries + waiting t.flight ≡ t.counts.begins + length t.flight
+  packets : length t.flight + owed t.flight + spare ≤ 3 * t.counts.begins
+  begins : t.counts.begins ≤ share.budget
+  blocks : t.counts.blocked ≤ entries
+  strays : t.counts.unexpected ≤ entries
+
+left : (share : Share) (s t : Alone) (n k : ℕ) (e : Emission) → item_at s.flight k ≡ Some e → Accounted share s n
+    → t.flight ≡ slice_set s.flight k None → t.counts.begins ≡ s.counts.begins → t.counts.blocked ≤ s.counts.blocked + 1 → t.counts.unexpected ≤ s.counts.unexpected + 1 → Spare share t (suc n) (owed_by e.parties)
+left share s t n k e is a flight begins blocks strays =
     let w : waiting t.flight + 1 ≡ waiting s.flight = ap (λ (xs : List (Option Emission)). waiting xs + 1) flight ∙ (ap (λ (o : Option Emission). waiting (slice_set s.flight k None) + one o) (sym is) ∙ waiting-end s.flight k) in
-    let o : owed t.flight + owed_in (item_at s.flight k) ≡ owed s.flight = ap (λ (xs : List (Option Emission)). owed xs + owed_in (item_at s.flight k)) flight ∙ owed-end s.flight k in
+    let o : owed t.flight + owed_by e.parties ≡ owed s.flight = ap (λ (xs : List (Option Emission)). owed xs + owed_by e.parties) flight ∙ (ap (λ (o : Option Emission). owed (slice_set s.flight k None) + owed_in o) (sym is) ∙ owed-end s.flight k) in
     let l : length t.flight ≡ length s.flight = ap length flight ∙ length-set s.flight k None in
     record {
       entries_are = omega (arith, a.entries_are, w, l, begins);
       packets = omega (arith, a.packets, o, l, begins);
       begins = omega (arith, a.begins, begins);
       blocks = omega (arith, a.blocks, blocks);
+      strays = omega (arith, a.strays, strays);
     }
 
-refuses : (share : Share) (s : Alone) (n k : ℕ) (e : Emission) (fate : Fate) (c : Change) → item_at s.flight k ≡ Some e → Accounted share s n
-    → refuse_by s k fate ≡ Some c → Accounted share c.state (suc n)
-refuses share s n k e Vanish c is a h = subst (λ (d : Change). Accounted share d.state (suc n)) (some_is _ c h) (ended share s (without s k) n k e is a refl refl (omega arith))
-refuses share s n k e (Refused status) c is a h = absurd cc
-refuses share s n k e ToHost c is a h = absurd cc
+answered : (share : Share) (t : Alone) (n spare : ℕ) (o : Option Emission) → Spare share t n spare → one o + owed_in o ≤ spare → Accounted share (replied t o) n
+answered share t n spare None h le = record {
+  entries_are = h.entries_are;
+  packets = omega (arith, h.packets);
+  begins = h.begins;
+  blocks = h.blocks;
+  strays = h.strays;
+}
+answered share t n spare (Some e) h le =
+    let o : Option Emission = Some e in
+    record {
+      entries_are = omega (arith, h.entries_are, waiting-push t.flight o, length-append t.flight (o ∷ []));
+      packets = omega (arith, h.packets, le, owed-push t.flight o, length-append t.flight (o ∷ []));
+      begins = h.begins;
+      blocks = h.blocks;
+      strays = h.strays;
+    }
 
-writes : (share : Share) (s : Alone) (n k : ℕ) (e : Emission) (t : Packet) (target : Option MapTarget) (c : Change) → item_at s.flight k ≡ Some e → Accounted share s n
-    → write_to (without s k) t target ≡ Some c → Accounted share c.state (suc n)
-writes share s n k e t None c is a h = subst (λ (d : Change). Accounted share d.state (suc n)) (some_is _ c h) (ended share s (blocked (without s k)) n k e is a refl refl (omega arith))
-writes share s n k e t (Some (Frame m)) c is a h =
-    subst (λ (d : Change). Accounted share d.state (suc n)) (some_is _ c h) (ended share s (with_stored (without s k) m (address_of t % 4096) (runs t)) n k e is a refl refl (omega arith))
-writes share s n k e t (Some (Peer g)) c is a h = absurd cc
+-- an answer owes less than what it answers
+abbrev Owes : ℕ → Ending → Type 0
+Owes spare a = one a.reply + owed_in a.reply ≤ spare
 
-carries : (share : Share) (s : Alone) (n k : ℕ) (e : Emission) (b : List ℕ) (fate : Fate) (c : Change) → item_at s.flight k ≡ Some e → Accounted share s n
-    → carry_by share s k b fate ≡ Some c → Accounted share c.state (suc n)
-carries share s n k e b Vanish c is a h = absurd cc
-carries share s n k e b (Refused status) c is a h = absurd cc
-carries share s n k e b ToHost c is a h =
-    let t = packet_of b in
-    let served = taken (is_carried share t) (serve share (without s k) t) c h in
-    let written = taken (is_write t.kind) (write_to (without s k) t (target_of share.maps t.requester (address_of t / 4096) Write)) c served in
-    writes share s n k e t (target_of share.maps t.requester (address_of t / 4096) Write) c is a written
+did : (share : Share) (s : Alone) (n k : ℕ) (e : Emission) (d : Deed) → item_at s.flight k ≡ Some e → Accounted share s n → Spare share (done (without s k) e.bytes d) (suc n) (owed_by e.parties)
+did share s n k e Leave is a = left share s (without s k) n k e is a refl refl (omega arith) (omega arith)
+did share s n k e Block is a = left share s (blocked (without s k)) n k e is a refl refl (omega arith) (omega arith)
+did share s n k e (Store m first) is a = left share s (with_stored (without s k) m first (runs (packet_of e.bytes))) n k e is a refl refl (omega arith) (omega arith)
 
-refuses_item : (share : Share) (s : Alone) (n k : ℕ) (e : Emission) (b : List ℕ) (p : Parties) (c : Change) → item_at s.flight k ≡ Some e → Accounted share s n
-    → refuse_item share s k b p ≡ Some c → Accounted share c.state (suc n)
-refuses_item share s n k e b (Upward f) c is a h = refuses share s n k e (fate share.ports f b) c is a h
-refuses_item share s n k e b (Downward f) c is a h = absurd cc
-refuses_item share s n k e b (Answer by x) c is a h = absurd cc
+concluded : (share : Share) (s : Alone) (n k : ℕ) (e : Emission) (a : Ending) → item_at s.flight k ≡ Some e → Owes (owed_by e.parties) a → Accounted share s n → Accounted share (conclude s k e.bytes a).state (suc n)
+concluded share s n k e a is le h = answered share (done (without s k) e.bytes a.deed) (suc n) (owed_by e.parties) a.reply (did share s n k e a.deed is h) le
 
-carries_item : (share : Share) (s : Alone) (n k : ℕ) (e : Emission) (b : List ℕ) (p : Parties) (c : Change) → item_at s.flight k ≡ Some e → Accounted share s n
-    → carry_item share s k b p ≡ Some c → Accounted share c.state (suc n)
-carries_item share s n k e b (Upward f) c is a h = carries share s n k e b (fate share.ports f b) c is a h
-carries_item share s n k e b (Downward f) c is a h = absurd cc
-carries_item share s n k e b (Answer by x) c is a h = absurd cc
+ends : (share : Share) (s : Alone) (n k : ℕ) (e : Emission) (r : Option Ending) (c : Change) → item_at s.flight k ≡ Some e → ((a : Ending) → r ≡ Some a → Owes (owed_by e.parties) a) → Accounted share s n
+    → option_map (conclude s k e.bytes) r ≡ Some c → Accounted share c.state (suc n)
+ends share s n k e None c is owes h made = absurd cc
+ends share s n k e (Some a) c is owes h made = subst (λ (d : Change). Accounted share d.state (suc n)) (some_is _ c made) (concluded share s n k e a is (owes a refl) h)
+
+-- ---- what a packet's end owes
+
+refusal_by_owes : (port f : ℕ) (b : List ℕ) (fate : Fate) (a : Ending) → refusal_by port f b fate ≡ Some a → Owes 2 a
+refusal_by_owes port f b Vanish a h = subst (Owes 2) (some_is _ a h) (omega arith)
+refusal_by_owes port f b (Refused status) a h = subst (Owes 2) (some_is _ a h) (omega arith)
+refusal_by_owes port f b ToHost a h = absurd cc
+
+refusal_owes : (share : Share) (b : List ℕ) (p : Parties) (a : Ending) → refusal_of share b p ≡ Some a → Owes (owed_by p) a
+refusal_owes share b (Upward f) a h = refusal_by_owes (port_id (first_port share.ports f)) f b (fate share.ports f b) a h
+refusal_owes share b (Downward g) a h = absurd cc
+refusal_owes share b (Answer by x) a h = absurd cc
+
+write_owes : (t : Packet) (target : Option MapTarget) (a : Ending) → write_to t target ≡ Some a → Owes 2 a
+write_owes t None a h = subst (Owes 2) (some_is _ a h) (omega arith)
+write_owes t (Some (Frame k)) a h = subst (Owes 2) (some_is _ a h) (omega arith)
+write_owes t (Some (Peer g)) a h = absurd cc
+
+read_owes : (share : Share) (frames : List (ℕ × List ℕ)) (t : Packet) (target : Option MapTarget) (a : Ending) → read_from share frames t target ≡ Some a → Owes 2 a
+read_owes share frames t None a h = subst (Owes 2) (some_is _ a h) (omega arith)
+read_owes share frames t (Some (Frame k)) a h = subst (Owes 2) (some_is _ a h) (omega arith)
+read_owes share frames t (Some (Peer g)) a h = absurd cc
+
+-- whichever of two it is
+either_owes : (b : Bool) (x y : Option Ending) (a : Ending) → (x ≡ Some a → Owes 2 a) → (y ≡ Some a → Owes 2 a) → cond b x y ≡ Some a → Owes 2 a
+either_owes true x y a of_x of_y h = of_x h
+either_owes false x y a of_x of_y h = of_y h
+
+serve_read_owes : (share : Share) (frames : List (ℕ × List ℕ)) (t : Packet) (a : Ending) → serve_read share frames t ≡ Some a → Owes 2 a
+serve_read_owes share frames t a h =
+    either_owes (nat_lt 64 (dw_count t.length)) (Some (record { deed = Leave; reply = Some (host_refusal share t) })) (read_from share frames t (target_of share.maps t.requester (address_of t / 4096) Read)) a
+    (λ is. subst (Owes 2) (some_is _ a is) (omega arith)) (read_owes share frames t (target_of share.maps t.requester (address_of t / 4096) Read) a) h
+
+serve_owes : (share : Share) (frames : List (ℕ × List ℕ)) (t : Packet) (a : Ending) → serve share frames t ≡ Some a → Owes 2 a
+serve_owes share frames t a h =
+    either_owes (is_write t.kind) (write_to t (target_of share.maps t.requester (address_of t / 4096) Write)) (serve_read share frames t) a
+    (write_owes t (target_of share.maps t.requester (address_of t / 4096) Write) a) (serve_read_owes share frames t a) h
+
+carriage_by_owes : (share : Share) (frames : List (ℕ × List ℕ)) (b : List ℕ) (fate : Fate) (a : Ending) → carriage_by share frames b fate ≡ Some a → Owes 2 a
+carriage_by_owes share frames b Vanish a h = absurd cc
+carriage_by_owes share frames b (Refused status) a h = absurd cc
+carriage_by_owes share frames b ToHost a h = serve_owes share frames (packet_of b) a (taken (is_carried share (packet_of b)) (serve share frames (packet_of b)) a h)
+
+carriage_owes : (share : Share) (frames : List (ℕ × List ℕ)) (b : List ℕ) (p : Parties) (a : Ending) → carriage_of share frames b p ≡ Some a → Owes (owed_by p) a
+carriage_owes share frames b (Upward f) a h = carriage_by_owes share frames b (fate share.ports f b) a h
+carriage_owes share frames b (Downward g) a h = absurd cc
+carriage_owes share frames b (Answer by x) a h = absurd cc
+
+-- ---- the entries
 
 refused : (share : Share) (s : Alone) (n k : ℕ) (o : Option Emission) (c : Change) → item_at s.flight k ≡ o → Accounted share s n → refuse share s k o ≡ Some c → Accounted share c.state (suc n)
 refused share s n k None c is a h = absurd cc
-refused share s n k (Some e) c is a h = refuses_item share s n k e e.bytes e.parties c is a h
+refused share s n k (Some e) c is a h = ends share s n k e (refusal_of share e.bytes e.parties) c is (refusal_owes share e.bytes e.parties) a h
 
 carried : (share : Share) (s : Alone) (n k : ℕ) (o : Option Emission) (c : Change) → item_at s.flight k ≡ o → Accounted share s n → carry share s k o ≡ Some c → Accounted share c.state (suc n)
 carried share s n k None c is a h = absurd cc
-carried share s n k (Some e) c is a h = carries_item share s n k e e.bytes e.parties c is a h
+carried share s n k (Some e) c is a h = ends share s n k e (carriage_of share s.frames e.bytes e.parties) c is (carriage_owes share s.frames e.bytes e.parties) a h
+
+arrives : (share : Share) (s : Alone) (n k : ℕ) (e : Emission) (d : Delivery) (b : Bool) → item_at s.flight k ≡ Some e → Accounted share s n → Accounted share (cond b (recorded (without s k) d) (unexpected (without s k))) (suc n)
+arrives share s n k e d true is a = answered share (recorded (without s k) d) (suc n) (owed_by e.parties) None (left share s (recorded (without s k) d) n k e is a refl refl (omega arith) (omega arith)) (omega arith)
+arrives share s n k e d false is a = answered share (unexpected (without s k)) (suc n) (owed_by e.parties) None (left share s (unexpected (without s k)) n k e is a refl refl (omega arith) (omega arith)) (omega arith)
+
+delivers : (share : Share) (s : Alone) (n k : ℕ) (e : Emission) (r : Option Arrival) (c : Change) → item_at s.flight k ≡ Some e → Accounted share s n
+    → option_map (λ (a : Arrival). emits_nothing (arrived (without s k) a)) r ≡ Some c → Accounted share c.state (suc n)
+delivers share s n k e None c is a h = absurd cc
+delivers share s n k e (Some r) c is a h = subst (λ (d : Change). Accounted share d.state (suc n)) (some_is _ c h) (arrives share s n k e r.delivery r.is_awaited is a)
+
+delivered : (share : Share) (s : Alone) (n k : ℕ) (o : Option Emission) (c : Change) → item_at s.flight k ≡ o → Accounted share s n → deliver s k o ≡ Some c → Accounted share c.state (suc n)
+delivered share s n k None c is a h = absurd cc
+delivered share s n k (Some e) c is a h = delivers share s n k e (arrival_of s.open_tags e.bytes e.parties) c is a h
 
 pub accounted_step : (share : Share) (s : Alone) (n : ℕ) (entry : Entry) (c : Change) → Accounted share s n → change share s entry ≡ Some c → Accounted share c.state (suc n)
 accounted_step share s n (Submit f b) c a h = submits share s n f b (submit_fault share s f b) c (submit_budget share s f b) a h
 accounted_step share s n (Refuse k) c a h = refused share s n k (item_at s.flight k) c refl a h
 accounted_step share s n (Carry k) c a h = carried share s n k (item_at s.flight k) c refl a h
+accounted_step share s n (Deliver k) c a h = delivered share s n k (item_at s.flight k) c refl a h
 
 -- ---- and so does a journal
 

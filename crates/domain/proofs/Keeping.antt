@@ -1,24 +1,21 @@
 -- A journal that grows by a legal entry, and what a call that adds one makes of a domain.
-use Rattle.std.proofs.Common.{◌≡◌, ℕ, ◌+◌, ◌*◌, ◌<◌, ◌≤◌, List, [], ◌∷◌, ◌++◌, length, Option, Some, None, refl, sym, ap, ◌∙◌, subst, arith}
+use Rattle.std.proofs.Common.{◌≡◌, ℕ, ◌+◌, ◌*◌, ◌<◌, ◌^◌, List, [], ◌∷◌, ◌++◌, length, Option, Some, None, refl, sym, ap, ◌∙◌, subst, arith}
 use Rattle.std.specs.Prelude.{option_map}
 use Rattle.fab_types.specs.declared.faults.begin.SubmitFault.{SubmitFault}
-use Rattle.fab_types.specs.declared.head.Parties.TheVariants.{Upward, Downward, Answer}
+use Rattle.fab_types.specs.declared.head.Parties.TheVariants.{Upward}
 use Rattle.frame_log.specs.Descriptor.{Descriptor}
-use Rattle.layout.specs.Share.{Share}
+use Rattle.layout.specs.Share.{Share, IsShare}
 use Rattle.domain.specs.declared.entry.Entry.{Entry}
-use Rattle.domain.specs.declared.entry.Entry.TheVariants.{Submit, Refuse, Carry}
-use Rattle.fab_types.specs.declared.head.Parties.{Parties}
-use Rattle.domain.specs.declared.fate.Fate.{Fate}
-use Rattle.domain.specs.declared.fate.Fate.TheVariants.{Vanish, Refused, ToHost}
-use Rattle.domain.specs.Carries.{refuse_by}
-use Rattle.domain.specs.Ends.{upward_fate, fate_of_parties}
-use Rattle.domain.specs.Fates.{fate}
-use Rattle.domain.specs.Domains.{DomainView, Makes}
+use Rattle.domain.specs.declared.entry.Entry.TheVariants.{Submit}
+use Rattle.domain.specs.declared.ending.Deed.{Deed}
+use Rattle.domain.specs.declared.ending.Ending.{Ending}
+use Rattle.domain.specs.Domains.{DomainView, EndsBy, Makes}
+use Rattle.domain.specs.Ends.{DeedFits, conclude}
 use Rattle.domain.specs.Heads.{descriptor_of}
-use Rattle.domain.specs.Machine.{refuse_item, refuse, change, step_from, replay_from, replay}
-use Rattle.domain.specs.State.{Alone, Emission, Change, item_at, start_state, with_emission, without}
+use Rattle.domain.specs.Machine.{change, step_from, replay_from, replay}
+use Rattle.domain.specs.State.{Alone, Emission, Change, item_at, start_state, with_emission}
 use Rattle.domain.specs.Submits.{submit_fault, submitted, submit_unless}
-use Rattle.domain.proofs.Accounting.{Accounted, accounted, submit_budget, room_to_begin, room_to_end}
+use Rattle.domain.proofs.Accounting.{accounted, submit_budget, room_to_begin, room_to_end}
 
 replay-push : (share : Share) (o : Option Alone) (es : List Entry) (e : Entry) → replay_from share o (es ++ e ∷ []) ≡ step_from share (replay_from share o es) e
 replay-push share o [] e = refl
@@ -67,38 +64,36 @@ makes_submit v new f b frame none share state journal is = record {
 
 -- ---- a packet that ends
 
--- what the first port does with a packet, seen by a domain's fields
-pub fate_seen : (v w : DomainView) (n : ℕ) (r : Option Fate) (f g : Fate) → v ≡ w → r ≡ Some f → f ≡ g → r ≡ upward_fate w.share (item_at w.state.flight n) → upward_fate v.share (item_at v.state.flight n) ≡ Some g
-fate_seen v w n r f g same some is told = subst (λ (u : DomainView). upward_fate u.share (item_at u.state.flight n) ≡ Some g) (sym same) (sym told ∙ some ∙ ap (λ (x : Fate). Some x) is)
-
--- a packet that is in flight, and what an entry of its number does
-pub record Stops (share : Share) (s : Alone) (n : ℕ) (o : Option Emission) : Type 0 where
-  pub emission : Emission
-  pub waits : o ≡ Some emission
-  pub refused : refuse share s n o ≡ Some (record { state = without s n; emission = None })
-
-abbrev some_fate : Fate → Option Fate
-some_fate f = Some f
-
-fate_is : (f g : Fate) → some_fate f ≡ Some g → f ≡ g
-fate_is f g e = cc
-
-vanishes_by : (share : Share) (s : Alone) (n : ℕ) (b : List ℕ) (p : Parties) → fate_of_parties share b p ≡ Some Vanish → refuse_item share s n b p ≡ Some (record { state = without s n; emission = None })
-vanishes_by share s n b (Upward f) e = ap (refuse_by s n) (fate_is (fate share.ports f b) Vanish e)
-vanishes_by share s n b (Downward f) e = absurd cc
-vanishes_by share s n b (Answer by x) e = absurd cc
-
-pub vanishes : (share : Share) (s : Alone) (n : ℕ) (o : Option Emission) → upward_fate share o ≡ Some Vanish → Stops share s n o
-vanishes share s n None e = absurd cc
-vanishes share s n (Some x) e = record { emission = x; waits = refl; refused = vanishes_by share s n x.bytes x.parties e }
-
 -- there is room for its entry
 pub end_room : (share : Share) (s : Alone) (js : List Entry) (n : ℕ) (e : Emission) → replay share js ≡ Some s → item_at s.flight n ≡ Some e → length js < 4 * share.budget
 end_room share s js n e was is = room_to_end share s (length js) n e (accounted share js s was) is
 
-abbrev some_change : Change → Option Change
-some_change c = Some c
+-- no count passes its range
+pub blocks_fit : (share : Share) (s : Alone) (js : List Entry) → IsShare share → replay share js ≡ Some s → length js < 4 * share.budget → s.counts.blocked + 1 < 2 ^ 32
+blocks_fit share s js limits was room = let a = accounted share js s was in omega (arith, a.blocks, limits.budget, room)
 
--- a change that emits nothing, by its state
-pub still : (s t : Alone) → t ≡ s → some_change (record { state = s; emission = None }) ≡ Some (record { state = t; emission = None })
-still s t e = ap (λ (u : Alone). Some (record { state = u; emission = None })) (sym e)
+pub strays_fit : (share : Share) (s : Alone) (js : List Entry) → IsShare share → replay share js ≡ Some s → length js < 4 * share.budget → s.counts.unexpected + 1 < 2 ^ 32
+strays_fit share s js limits was room = let a = accounted share js s was in omega (arith, a.strays, limits.budget, room)
+
+-- a domain seen by its fields
+pub ends_seen : (v w : DomainView) (e : Entry) (n : ℕ) (a : Ending) → v ≡ w → EndsBy w e n a → EndsBy v e n a
+ends_seen v w e n a same h = subst (λ (u : DomainView). EndsBy u e n a) (sym same) h
+
+abbrev some : {A : Type 0} → A → Option A
+some x = Some x
+
+some_is : {A : Type 0} (x y : A) → some x ≡ some y → x ≡ y
+some_is x y e = cc
+
+-- one packet stands under a number
+pub fits_each : (o : Option Emission) (e x : Emission) (d : Deed) → o ≡ Some x → DeedFits x.bytes d → o ≡ Some e → DeedFits e.bytes d
+fits_each o e x d is fits other = subst (λ (y : Emission). DeedFits y.bytes d) (some_is x e (sym is ∙ other)) fits
+
+-- the change that an end makes, by the state that it leaves
+pub ended_so : (v : DomainView) (e : Entry) (n : ℕ) (a : Ending) (t : Alone) (h : EndsBy v e n a) → ((x : Emission) → item_at v.state.flight n ≡ Some x → t ≡ (conclude v.state n x.bytes a).state)
+    → change v.share v.state e ≡ Some (record { state = t; emission = a.reply })
+ended_so v e n a t h is = h.step ∙ ap (λ (u : Alone). Some (record { state = u; emission = a.reply })) (sym (is h.emission h.waits))
+
+pub makes_end : (v new : DomainView) (e : Entry) (o : Option Emission) (sent : Option Descriptor) → new.share ≡ v.share → new.journal ≡ v.journal ++ e ∷ []
+    → change v.share v.state e ≡ Some (record { state = new.state; emission = o }) → sent ≡ option_map (descriptor_of v.share.domain (length v.state.flight)) o → Makes v e new sent
+makes_end v new e o sent share journal step is = record { share = share; journal = journal; emission = o; step = step; frame = is }

@@ -1,8 +1,10 @@
 pub mod PageFits
 pub mod FlightLemmas
 pub mod RegisterLemmas
-pub mod Accounting
-pub mod Keeping
 pub mod StoreLemmas
-pub mod Carrying
+pub mod ConcludeLemmas
+pub mod Accounting
+pub mod Begins
+pub mod Keeping
+pub mod EndLemmas
 pub mod Replaying

@@ -1,17 +1,17 @@
 -- A well-formed memory write stays in its page, and its runs in its payload.
-use Rattle.std.proofs.Common.{◌≡◌, ℕ, suc, ◌+◌, ◌-◌, ◌*◌, ◌/◌, ◌%◌, ◌<◌, ◌≤◌, Bool, true, false, cond, ◌&&◌, ◌||◌, not, ◌==◌, List, [], ◌∷◌, length, drop, Option, Some, None, refl, sym, ap, ◌∙◌, subst, arith, length-drop}
-use Rattle.std.specs.Prelude.{unwrap_or, nat_lt}
+use Rattle.std.proofs.Common.{◌≡◌, ℕ, ◌+◌, ◌*◌, ◌/◌, ◌%◌, ◌≤◌, Bool, true, false, cond, ◌||◌, not, ◌==◌, List, [], ◌∷◌, length, drop, Option, Some, None, refl, ap, ◌∙◌, subst, arith, length-drop}
+use Rattle.std.specs.Prelude.{unwrap_or}
 use Rattle.std.specs.List.{AllByRecursion}
 use Rattle.std.proofs.lemmas.Bool.{ltb-false, eqb-true}
 use Rattle.fab_types.specs.declared.faults.malformed.Malformed.{Malformed}
-use Rattle.fab_types.specs.declared.faults.malformed.Malformed.TheVariants.{Short, Kind as NoKind, Size, Enables as BadEnables, Crosses, HighForm, Field}
+use Rattle.fab_types.specs.declared.faults.malformed.Malformed.TheVariants.{Short, Size, Enables as BadEnables, Crosses, HighForm, Field}
 use Rattle.tlp_view.specs.declared.enables.Enables.{Enables}
 use Rattle.tlp_view.specs.declared.kind.Kind.{Kind}
-use Rattle.tlp_view.specs.declared.kind.Kind.TheVariants.{MRd, MWr}
+use Rattle.tlp_view.specs.declared.kind.Kind.TheVariants.{MWr}
 use Rattle.tlp_view.specs.Packet.{Packet, dw_count, address_in, enables_in}
-use Rattle.tlp_view.specs.Kinds.{kind_at, is_memory}
-use Rattle.tlp_view.specs.Bytes.{fmt_at, type_at, is_wide_at, header_len, length_at, address_at, packet_of, packet_of_kind}
-use Rattle.tlp_view.specs.Malformed.{is_short, has_bad_size, has_bad_enables, crosses, has_bad_field, has_bad_common, data_len, malformed, malformed_of, malformed_of_kind}
+use Rattle.tlp_view.specs.Kinds.{kind_at}
+use Rattle.tlp_view.specs.Bytes.{fmt_at, type_at, header_len, length_at, address_at, packet_of, packet_of_kind}
+use Rattle.tlp_view.specs.Malformed.{is_short, has_bad_size, crosses, has_bad_field, has_bad_common, malformed, malformed_of, malformed_of_kind}
 use Rattle.tlp_view.specs.Runs.{is_enabled, joined, runs_from, runs_with, is_write, runs}
 use Rattle.tlp_view.specs.View.{IsView}
 use Rattle.tlp_view.proofs.WellFormed.{view_from, packet-kind}

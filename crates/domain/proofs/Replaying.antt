@@ -1,5 +1,5 @@
 -- A journal with an illegal entry leaves no state.
-use Rattle.std.proofs.Common.{◌≡◌, ℕ, zero, suc, ◌<◌, List, [], ◌∷◌, length, take, arith, Option, Some, None, refl, sym, ap, ◌∙◌, subst}
+use Rattle.std.proofs.Common.{◌≡◌, ℕ, zero, suc, ◌<◌, List, [], ◌∷◌, length, take, arith, Option, Some, None, sym, ap, ◌∙◌}
 use Rattle.std.specs.Prelude.{option_map, slice_get, slice_index_or}
 use Rattle.layout.specs.Share.{Share}
 use Rattle.domain.specs.declared.entry.Entry.{Entry}

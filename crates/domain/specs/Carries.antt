@@ -1,63 +1,74 @@
--- What becomes of a request that reached the host: the table of its Requester ID says where it goes.
-use Rattle.std.specs.Prelude.{ℕ, ◌+◌, ◌/◌, ◌%◌, ◌==◌, Bool, ◌&&◌, List, [], ◌∷◌, Option, Some, None, unwrap_or, if◌then◌else◌, true, false}
+-- What becomes of a request at its sender's first port and at the host: there the table of its Requester ID
+-- says where it goes.
+use Rattle.std.specs.Prelude.{ℕ, ◌/◌, ◌%◌, ◌==◌, Bool, ◌&&◌, nat_lt, List, Option, Some, None, if◌then◌else◌, false}
 use Rattle.layout.specs.declared.lines.MapTarget.{MapTarget}
 use Rattle.layout.specs.declared.lines.MapTarget.TheVariants.{Frame, Peer}
-use Rattle.layout.specs.declared.lines.Access.TheVariants.{Write}
+use Rattle.layout.specs.declared.lines.Access.TheVariants.{Read, Write}
+use Rattle.layout.specs.declared.lines.PortLine.{PortLine}
 use Rattle.layout.specs.Share.{Share}
-use Rattle.layout.specs.Owners.{owner_of}
+use Rattle.layout.specs.Owners.{first_port, owner_of}
 use Rattle.layout.specs.Tables.{target_of}
-use Rattle.host_memory.specs.Pages.{written}
-use Rattle.tlp_view.specs.Packet.{Packet, address_in}
-use Rattle.tlp_view.specs.Runs.{runs, is_write}
+use Rattle.fab_types.specs.declared.head.Parties.{Parties}
+use Rattle.fab_types.specs.declared.head.Parties.TheVariants.{Upward, Downward, Answer}
+use Rattle.tlp_view.specs.Packet.{Packet, dw_count}
+use Rattle.tlp_view.specs.Runs.{is_write}
 use Rattle.tlp_view.specs.Bytes.{packet_of}
-use Rattle.domain.specs.declared.counts.Counts.{Counts}
-use Rattle.domain.specs.State.{Alone, Change, without, emits_nothing}
+use Rattle.domain.specs.declared.ending.Deed.TheVariants.{Leave, Block, Store}
+use Rattle.domain.specs.declared.ending.Ending.{Ending}
+use Rattle.domain.specs.State.{Emission}
+use Rattle.domain.specs.Answers.{address_of, host_data, host_refusal, port_answer, shown}
 use Rattle.domain.specs.declared.fate.Fate.{Fate}
 use Rattle.domain.specs.declared.fate.Fate.TheVariants.{Vanish, Refused, ToHost}
-use Rattle.domain.specs.Fates.{is_untranslated}
+use Rattle.domain.specs.Fates.{fate, is_untranslated}
 
--- one more request without a mapping
-abbrev pub blocked : Alone → Alone
-blocked s = record {
-  frames = s.frames;
-  registers = s.registers;
-  open_tags = s.open_tags;
-  deliveries = s.deliveries;
-  flight = s.flight;
-  counts = record { begins = s.counts.begins; blocked = s.counts.blocked + 1; unexpected = s.counts.unexpected };
-}
+-- ---- at the first port of its sender
 
--- pages after runs of bytes were written to one of them, each at its offset from a first byte
-abbrev pub stored : List (ℕ × List ℕ) → ℕ → ℕ → List (ℕ × List ℕ) → List (ℕ × List ℕ)
-stored pages k first [] = pages
-stored pages k first (run ∷ runs) = stored (written pages k (first + run.0) run.1) k first runs
+abbrev pub port_id : Option PortLine → ℕ
+port_id None = 0
+port_id (Some port) = port.id
 
--- a write to a frame
-abbrev pub with_stored : Alone → ℕ → ℕ → List (ℕ × List ℕ) → Alone
-with_stored s k first runs = record {
-  frames = stored s.frames k first runs;
-  registers = s.registers;
-  open_tags = s.open_tags;
-  deliveries = s.deliveries;
-  counts = s.counts;
-  flight = s.flight;
-}
+-- what its fate stops there is discarded, or answered by the port
+abbrev pub refusal_by : ℕ → ℕ → List ℕ → Fate → Option Ending
+refusal_by port function bytes Vanish = Some (record { deed = Leave; reply = None })
+refusal_by port function bytes (Refused status) = Some (record { deed = Leave; reply = Some (port_answer port function status (packet_of bytes)) })
+refusal_by port function bytes ToHost = None
 
-abbrev pub address_of : Packet → ℕ
-address_of t = unwrap_or (address_in t.body) 0
+abbrev pub refusal_of : Share → List ℕ → Parties → Option Ending
+refusal_of share bytes (Upward function) = refusal_by (port_id (first_port share.ports function)) function bytes (fate share.ports function bytes)
+refusal_of share bytes (Downward function) = None
+refusal_of share bytes (Answer answerer addressee) = None
+
+-- how a packet in flight ends at its sender's first port, if it ends there
+abbrev pub refusal_end : Share → Option Emission → Option Ending
+refusal_end share None = None
+refusal_end share (Some e) = refusal_of share e.bytes e.parties
+
+-- ---- at the host
 
 -- a write goes where its page is mapped; a write to a peer isn't made yet
-abbrev pub write_to : Alone → Packet → Option MapTarget → Option Change
-write_to s t None = Some (emits_nothing (blocked s))
-write_to s t (Some (Frame k)) = Some (emits_nothing (with_stored s k (address_of t % 4096) (runs t)))
-write_to s t (Some (Peer function)) = None
+abbrev pub write_to : Packet → Option MapTarget → Option Ending
+write_to t None = Some (record { deed = Block; reply = None })
+write_to t (Some (Frame k)) = Some (record { deed = Store k (address_of t % 4096); reply = None })
+write_to t (Some (Peer function)) = None
 
--- reads aren't answered yet
-abbrev pub serve : Share → Alone → Packet → Option Change
-serve share s t =
+-- a read is answered with what its page is mapped to; a read of a peer isn't made yet
+abbrev pub read_from : Share → List (ℕ × List ℕ) → Packet → Option MapTarget → Option Ending
+read_from share frames t None = Some (record { deed = Block; reply = Some (host_refusal share t) })
+read_from share frames t (Some (Frame k)) = Some (record { deed = Leave; reply = Some (host_data share t (shown frames k t)) })
+read_from share frames t (Some (Peer function)) = None
+
+-- a read of more than 64 DW is refused before its page is looked up
+abbrev pub serve_read : Share → List (ℕ × List ℕ) → Packet → Option Ending
+serve_read share frames t =
+    if nat_lt 64 (dw_count t.length)
+    then Some (record { deed = Leave; reply = Some (host_refusal share t) })
+    else read_from share frames t (target_of share.maps t.requester (address_of t / 4096) Read)
+
+abbrev pub serve : Share → List (ℕ × List ℕ) → Packet → Option Ending
+serve share frames t =
     if is_write t.kind
-    then write_to s t (target_of share.maps t.requester (address_of t / 4096) Write)
-    else None
+    then write_to t (target_of share.maps t.requester (address_of t / 4096) Write)
+    else serve_read share frames t
 
 abbrev pub is_owner : Option ℕ → ℕ → Bool
 is_owner None domain = false
@@ -67,13 +78,17 @@ is_owner (Some owner) domain = owner == domain
 abbrev pub is_carried : Share → Packet → Bool
 is_carried share t = is_untranslated t.address_type && is_owner (owner_of share.ports t.requester) share.domain
 
-abbrev pub carry_by : Share → Alone → ℕ → List ℕ → Fate → Option Change
-carry_by share s n bytes Vanish = None
-carry_by share s n bytes (Refused status) = None
-carry_by share s n bytes ToHost = if is_carried share (packet_of bytes) then serve share (without s n) (packet_of bytes) else None
+abbrev pub carriage_by : Share → List (ℕ × List ℕ) → List ℕ → Fate → Option Ending
+carriage_by share frames bytes Vanish = None
+carriage_by share frames bytes (Refused status) = None
+carriage_by share frames bytes ToHost = if is_carried share (packet_of bytes) then serve share frames (packet_of bytes) else None
 
--- a port's answers aren't made yet
-abbrev pub refuse_by : Alone → ℕ → Fate → Option Change
-refuse_by s n Vanish = Some (emits_nothing (without s n))
-refuse_by s n (Refused status) = None
-refuse_by s n ToHost = None
+abbrev pub carriage_of : Share → List (ℕ × List ℕ) → List ℕ → Parties → Option Ending
+carriage_of share frames bytes (Upward function) = carriage_by share frames bytes (fate share.ports function bytes)
+carriage_of share frames bytes (Downward function) = None
+carriage_of share frames bytes (Answer answerer addressee) = None
+
+-- how a packet in flight ends at its completer, if it ends there
+abbrev pub carriage_end : Share → List (ℕ × List ℕ) → Option Emission → Option Ending
+carriage_end share frames None = None
+carriage_end share frames (Some e) = carriage_of share frames e.bytes e.parties

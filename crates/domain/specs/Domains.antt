@@ -1,5 +1,5 @@
 -- What a clause sees of a domain, and what a call makes of it.
-use Rattle.std.specs.Prelude.{◌≡◌, ℕ, ◌*◌, ◌≤◌, List, [], ◌∷◌, ◌++◌, length, Option, Some, None, IsSome, option_map, vec_capacity}
+use Rattle.std.specs.Prelude.{◌≡◌, ℕ, List, [], ◌∷◌, ◌++◌, length, Option, Some, None, IsSome, option_map}
 use Rattle.frame_log.specs.Descriptor.{Descriptor}
 use Rattle.frame_log.specs.declared.fault.FrameFault.{FrameFault}
 use Rattle.frame_log.specs.declared.fault.FrameFault.TheVariants.{Stray, NoMemory}
@@ -8,7 +8,11 @@ use Rattle.domain.specs.declared.consume.EndFault.{EndFault}
 use Rattle.domain.specs.declared.consume.EndFault.TheVariants.{Illegal}
 use Rattle.domain.specs.declared.consume.EndFault.TheVariants as end
 use Rattle.domain.specs.declared.entry.Entry.{Entry}
-use Rattle.domain.specs.State.{Alone, Emission, Change}
+use Rattle.domain.specs.declared.deliver.Arrival.{Arrival}
+use Rattle.domain.specs.declared.ending.Ending.{Ending}
+use Rattle.domain.specs.Deliveries.{arrival, record_of_arrival}
+use Rattle.domain.specs.Ends.{DeedFits, conclude}
+use Rattle.domain.specs.State.{Alone, Change, Delivery, Emission, item_at}
 use Rattle.domain.specs.Heads.{descriptor_of}
 use Rattle.domain.specs.Machine.{change}
 
@@ -43,3 +47,21 @@ IsRefused old entry frame (NoMemory given) = (given ≡ frame) × (frame.domain 
 abbrev pub IsEndFault : DomainView → Entry → EndFault → Type 0
 IsEndFault old entry Illegal = change old.share old.state entry ≡ None
 IsEndFault old entry end.NoMemory = Emits old entry
+
+-- the only fault of a call that takes no memory
+abbrev pub IsStray : DomainView → Entry → Descriptor → FrameFault → Type 0
+IsStray old entry frame (Stray given) = (given ≡ frame) × (frame.domain ≡ old.share.domain → change old.share old.state entry ≡ None)
+IsStray old entry frame (NoMemory given) = ⊥
+
+-- a packet in flight ends so, which is what the machine says of the entry
+pub record EndsBy (old : DomainView) (entry : Entry) (n : ℕ) (ending : Ending) : Type 0 where
+  pub emission : Emission
+  pub waits : item_at old.state.flight n ≡ Some emission
+  pub fits : DeedFits emission.bytes ending.deed
+  pub step : change old.share old.state entry ≡ Some (conclude old.state n emission.bytes ending)
+
+-- the record is the one that the delivery of this number makes
+pub record Delivers (old : DomainView) (n : ℕ) (given : Option Delivery) : Type 0 where
+  pub arrived : Arrival
+  pub arrival_is : arrival old.state.open_tags (item_at old.state.flight n) ≡ Some arrived
+  pub given_is : given ≡ record_of_arrival arrived

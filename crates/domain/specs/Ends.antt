@@ -1,73 +1,58 @@
--- How a packet in flight ends.
-use Rattle.std.specs.Prelude.{ℕ, ◌+◌, ◌/◌, ◌%◌, ◌≤◌, List, length, Option, Some, None, if◌then◌else◌}
-use Rattle.fab_types.specs.declared.faults.malformed.Malformed.{Malformed}
-use Rattle.fab_types.specs.declared.head.Parties.{Parties}
-use Rattle.fab_types.specs.declared.head.Parties.TheVariants.{Upward, Downward, Answer}
-use Rattle.layout.specs.Share.{Share}
-use Rattle.layout.specs.Tables.{target_of}
-use Rattle.layout.specs.declared.lines.Access.TheVariants.{Write}
-use Rattle.layout.specs.declared.lines.MapTarget.{MapTarget}
-use Rattle.layout.specs.declared.lines.MapTarget.TheVariants.{Frame, Peer}
+-- How a packet in flight ends: what that does with the domain's state, and what answers it.
+use Rattle.std.specs.Prelude.{◌≡◌, ℕ, ◌+◌, ◌≤◌, List, [], ◌∷◌, length, Option, Some, None}
+use Rattle.host_memory.specs.Pages.{written}
 use Rattle.tlp_view.specs.Bytes.{packet_of}
 use Rattle.tlp_view.specs.Malformed.{malformed}
-use Rattle.tlp_view.specs.Packet.{Packet}
-use Rattle.tlp_view.specs.Runs.{is_write, runs}
-use Rattle.domain.specs.declared.fate.Fate.{Fate}
-use Rattle.domain.specs.declared.fate.Fate.TheVariants.{Vanish, Refused, ToHost}
-use Rattle.domain.specs.declared.consume.Carriage.{Carriage}
-use Rattle.domain.specs.declared.consume.Carriage.TheVariants.{Block, Store}
-use Rattle.domain.specs.Carries.{address_of, blocked, is_carried, with_stored}
-use Rattle.domain.specs.State.{Alone, Emission, without}
-use Rattle.domain.specs.Fates.{fate}
+use Rattle.tlp_view.specs.Runs.{runs}
+use Rattle.domain.specs.declared.ending.Deed.{Deed}
+use Rattle.domain.specs.declared.ending.Deed.TheVariants.{Leave, Block, Store}
+use Rattle.domain.specs.declared.ending.Ending.{Ending}
+use Rattle.domain.specs.State.{Alone, Change, Emission, without, with_emission}
 
-abbrev pub fate_of_parties : Share → List ℕ → Parties → Option Fate
-fate_of_parties share bytes (Upward function) = Some (fate share.ports function bytes)
-fate_of_parties share bytes (Downward function) = None
-fate_of_parties share bytes (Answer answerer addressee) = None
+-- one more request without a mapping
+abbrev pub blocked : Alone → Alone
+blocked s = record {
+  frames = s.frames;
+  registers = s.registers;
+  open_tags = s.open_tags;
+  deliveries = s.deliveries;
+  flight = s.flight;
+  counts = record { begins = s.counts.begins; blocked = s.counts.blocked + 1; unexpected = s.counts.unexpected };
+}
 
--- what the first port of its sender does with what a function sent
-abbrev pub upward_fate : Share → Option Emission → Option Fate
-upward_fate share None = None
-upward_fate share (Some e) = fate_of_parties share e.bytes e.parties
+-- pages after runs of bytes were written to one of them, each at its offset from a first byte
+abbrev pub stored : List (ℕ × List ℕ) → ℕ → ℕ → List (ℕ × List ℕ) → List (ℕ × List ℕ)
+stored pages k first [] = pages
+stored pages k first (run ∷ runs) = stored (written pages k (first + run.0) run.1) k first runs
 
--- ---- what the host does with a write that it carries
+-- a write to a frame
+abbrev pub with_stored : Alone → ℕ → ℕ → List (ℕ × List ℕ) → Alone
+with_stored s k first runs = record {
+  frames = stored s.frames k first runs;
+  registers = s.registers;
+  open_tags = s.open_tags;
+  deliveries = s.deliveries;
+  counts = s.counts;
+  flight = s.flight;
+}
 
-abbrev pub carriage_to : Packet → Option MapTarget → Option Carriage
-carriage_to t None = Some Block
-carriage_to t (Some (Frame k)) = Some (Store k (address_of t % 4096))
-carriage_to t (Some (Peer function)) = None
+-- what an end does with the state, bytes being those of the packet that ends
+abbrev pub done : Alone → List ℕ → Deed → Alone
+done s bytes Leave = s
+done s bytes Block = blocked s
+done s bytes (Store k first) = with_stored s k first (runs (packet_of bytes))
 
-abbrev pub carriage_of : Share → Packet → Option Carriage
-carriage_of share t =
-    if is_carried share t
-    then (if is_write t.kind then carriage_to t (target_of share.maps t.requester (address_of t / 4096) Write) else None)
-    else None
+-- a reply goes into flight under the next number
+abbrev pub replied : Alone → Option Emission → Alone
+replied s None = s
+replied s (Some e) = with_emission s e
 
-abbrev pub carriage_unless : Option Malformed → Share → List ℕ → Option Carriage
-carriage_unless None share bytes = carriage_of share (packet_of bytes)
-carriage_unless (Some cause) share bytes = None
-
-abbrev pub carriage_by : Share → List ℕ → Fate → Option Carriage
-carriage_by share bytes Vanish = None
-carriage_by share bytes (Refused status) = None
-carriage_by share bytes ToHost = carriage_unless (malformed bytes) share bytes
-
-abbrev pub carriage_item : Share → List ℕ → Parties → Option Carriage
-carriage_item share bytes (Upward function) = carriage_by share bytes (fate share.ports function bytes)
-carriage_item share bytes (Downward function) = None
-carriage_item share bytes (Answer answerer addressee) = None
-
--- what the host does with a packet in flight, if it carries it
-abbrev pub carriage : Share → Option Emission → Option Carriage
-carriage share None = None
-carriage share (Some e) = carriage_item share e.bytes e.parties
-
--- the state when it has done so
-abbrev pub carriage_state : Alone → ℕ → List ℕ → Carriage → Alone
-carriage_state s n bytes Block = blocked (without s n)
-carriage_state s n bytes (Store k first) = with_stored (without s n) k first (runs (packet_of bytes))
+-- the packet leaves flight, the deed is done, and the reply goes into flight
+abbrev pub conclude : Alone → ℕ → List ℕ → Ending → Change
+conclude s n bytes ending = record { state = replied (done (without s n) bytes ending.deed) ending.reply; emission = ending.reply }
 
 -- what is written lies within a page
-abbrev pub CarriageFits : List ℕ → Carriage → Type 0
-CarriageFits bytes Block = Unit {0}
-CarriageFits bytes (Store k first) = first + length (packet_of bytes).payload ≤ 4096
+abbrev pub DeedFits : List ℕ → Deed → Type 0
+DeedFits bytes Leave = Unit {0}
+DeedFits bytes Block = Unit {0}
+DeedFits bytes (Store k first) = (malformed bytes ≡ None) × (first + length (packet_of bytes).payload ≤ 4096)

@@ -14,7 +14,11 @@ use Rattle.layout.specs.declared.lines.PortLine.{PortLine}
 use Rattle.layout.specs.Owners.{holds_bus, holds_address, first_port}
 use Rattle.domain.specs.declared.fate.Fate.{Fate}
 use Rattle.domain.specs.declared.fate.Fate.TheVariants.{Vanish, Refused, ToHost}
+use Rattle.fab_types.specs.declared.head.Parties.{Parties}
+use Rattle.fab_types.specs.declared.head.Parties.TheVariants.{Upward, Downward, Answer}
+use Rattle.layout.specs.Share.{Share}
 use Rattle.tlp_view.specs.Packet.{Packet, address_in}
+use Rattle.domain.specs.State.{Emission}
 use Rattle.tlp_view.specs.Kinds.{class_of_kind, is_memory}
 use Rattle.tlp_view.specs.Bytes.{packet_of}
 use Rattle.tlp_view.specs.Malformed.{malformed}
@@ -62,3 +66,13 @@ fate_below (Some port) bytes = fate_at port bytes
 -- by the first port of the function that sends the bytes; each function has one
 abbrev pub fate : List PortLine → ℕ → List ℕ → Fate
 fate ports function bytes = fate_below (first_port ports function) bytes
+
+abbrev pub fate_of_parties : Share → List ℕ → Parties → Option Fate
+fate_of_parties share bytes (Upward function) = Some (fate share.ports function bytes)
+fate_of_parties share bytes (Downward function) = None
+fate_of_parties share bytes (Answer answerer addressee) = None
+
+-- what the first port of its sender does with what a function sent
+abbrev pub upward_fate : Share → Option Emission → Option Fate
+upward_fate share None = None
+upward_fate share (Some e) = fate_of_parties share e.bytes e.parties

@@ -1,5 +1,5 @@
 -- What a clause sees of the packets in flight, by their tokens.
-use Rattle.std.specs.Prelude.{ℕ, List, map, Option, option_map}
+use Rattle.std.specs.Prelude.{List, map, Option, option_map}
 use Rattle.std.specs.Arc.{arc_value}
 use Rattle.std.specs.Option.{IfSome}
 use Rattle.std.specs.List.{All}
@@ -8,6 +8,7 @@ use Rattle.frame_log.specs.Words.{Shown, entry_of}
 use Rattle.domain.specs.declared.flight.InFlight.{InFlight}
 use Rattle.domain.specs.declared.flight.Flight.TheInside.{Inside}
 use Rattle.domain.specs.State.{Emission}
+use Rattle.domain.specs.WellMade.{IsWellMade}
 
 abbrev pub emission : InFlight → Emission
 emission slot = record { parties = slot.parties; bytes = (entry_of slot.token).bytes }
@@ -15,9 +16,9 @@ emission slot = record { parties = slot.parties; bytes = (entry_of slot.token).b
 abbrev pub emissions : List (Option InFlight) → List (Option Emission)
 emissions slots = map (option_map emission) slots
 
--- the token is of this log
-abbrev pub IsShown : Log → Option InFlight → Type 0
-IsShown log slot = IfSome slot (λ s. Shown log s.token)
+-- the token is of this log, and the packet is well made
+abbrev pub IsSlot : Log → Option InFlight → Type 0
+IsSlot log slot = IfSome slot (λ s. Shown log s.token × IsWellMade s.parties (entry_of s.token).bytes)
 
-abbrev pub AllShown : Inside → Type 0
-AllShown f = All (IsShown (arc_value f.log)) f.slots.items
+abbrev pub AreSlots : Inside → Type 0
+AreSlots f = All (IsSlot (arc_value f.log)) f.slots.items

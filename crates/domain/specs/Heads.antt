@@ -4,7 +4,6 @@ use Rattle.fab_types.specs.Id.{host_of}
 use Rattle.fab_types.specs.declared.class.Class.TheVariants.{Posted}
 use Rattle.fab_types.specs.declared.cost.Cost.{Cost}
 use Rattle.fab_types.specs.declared.faults.malformed.Malformed.{Malformed}
-use Rattle.fab_types.specs.declared.head.Answerer.{Answerer}
 use Rattle.fab_types.specs.declared.head.Answerer.TheVariants.{Port, Host, Function}
 use Rattle.fab_types.specs.declared.head.Head.{Head}
 use Rattle.fab_types.specs.declared.head.Header.{Header}

@@ -1,38 +1,38 @@
 -- The machine of a domain by itself: what each entry of a journal does, and where it is illegal.
 use Rattle.std.specs.Prelude.{ℕ, List, [], ◌∷◌, Option, Some, None, option_map}
-use Rattle.fab_types.specs.declared.head.Parties.{Parties}
-use Rattle.fab_types.specs.declared.head.Parties.TheVariants.{Upward, Downward, Answer}
 use Rattle.layout.specs.Share.{Share}
 use Rattle.domain.specs.declared.entry.Entry.{Entry}
-use Rattle.domain.specs.declared.entry.Entry.TheVariants.{Submit, Refuse, Carry}
-use Rattle.domain.specs.State.{Alone, Emission, Change, item_at, start_state}
-use Rattle.domain.specs.Fates.{fate}
+use Rattle.domain.specs.declared.entry.Entry.TheVariants.{Submit, Refuse, Carry, Deliver}
+use Rattle.domain.specs.declared.ending.Ending.{Ending}
+use Rattle.domain.specs.State.{Alone, Emission, Change, emits_nothing, item_at, start_state, without}
 use Rattle.domain.specs.Submits.{submit}
-use Rattle.domain.specs.Carries.{carry_by, refuse_by}
+use Rattle.domain.specs.Carries.{carriage_end, refusal_end}
+use Rattle.domain.specs.Deliveries.{arrival, arrived}
+use Rattle.domain.specs.Ends.{conclude}
 
-abbrev pub refuse_item : Share → Alone → ℕ → List ℕ → Parties → Option Change
-refuse_item share s n bytes (Upward function) = refuse_by s n (fate share.ports function bytes)
-refuse_item share s n bytes (Downward function) = None
-refuse_item share s n bytes (Answer answerer addressee) = None
+-- a packet in flight that ends so
+abbrev pub ended : Alone → ℕ → Option Emission → Option Ending → Option Change
+ended s n None ending = None
+ended s n (Some e) ending = option_map (conclude s n e.bytes) ending
 
+-- its sender's first port stops it
 abbrev pub refuse : Share → Alone → ℕ → Option Emission → Option Change
-refuse share s n None = None
-refuse share s n (Some e) = refuse_item share s n e.bytes e.parties
+refuse share s n item = ended s n item (refusal_end share item)
 
-abbrev pub carry_item : Share → Alone → ℕ → List ℕ → Parties → Option Change
-carry_item share s n bytes (Upward function) = carry_by share s n bytes (fate share.ports function bytes)
-carry_item share s n bytes (Downward function) = None
-carry_item share s n bytes (Answer answerer addressee) = None
-
+-- it reaches its completer
 abbrev pub carry : Share → Alone → ℕ → Option Emission → Option Change
-carry share s n None = None
-carry share s n (Some e) = carry_item share s n e.bytes e.parties
+carry share s n item = ended s n item (carriage_end share s.frames item)
+
+-- a completion reaches whom it answers
+abbrev pub deliver : Alone → ℕ → Option Emission → Option Change
+deliver s n item = option_map (λ a. emits_nothing (arrived (without s n) a)) (arrival s.open_tags item)
 
 -- what an entry does, or None where it is illegal
 abbrev pub change : Share → Alone → Entry → Option Change
 change share s (Submit function bytes) = submit share s function bytes
 change share s (Refuse n) = refuse share s n (item_at s.flight n)
 change share s (Carry n) = carry share s n (item_at s.flight n)
+change share s (Deliver n) = deliver s n (item_at s.flight n)
 
 abbrev pub step : Share → Alone → Entry → Option Alone
 step share s entry = option_map (λ c. c.state) (change share s entry)

@@ -1,10 +1,8 @@
 -- The state of a domain by itself.
-use Rattle.std.specs.Prelude.{ℕ, ◌+◌, ◌/◌, ◌%◌, List, [], ◌∷◌, ◌++◌, map, filter, slice_set, slice_index_or, length, Option, Some, None}
-use Rattle.fab_types.specs.Id.{bus_of}
+use Rattle.std.specs.Prelude.{ℕ, ◌/◌, ◌%◌, List, [], ◌∷◌, ◌++◌, map, filter, slice_set, slice_index_or, Option, Some, None}
 use Rattle.fab_types.specs.declared.head.Parties.{Parties}
 use Rattle.fab_types.specs.declared.place.Origin.{Origin}
 use Rattle.fab_types.specs.declared.status.Status.{Status}
-use Rattle.layout.specs.declared.lines.FunctionLine.{FunctionLine}
 use Rattle.layout.specs.Share.{Share}
 use Rattle.layout.specs.Owners.{is_own_function}
 use Rattle.host_memory.specs.Pages.{zeroed, zeros}

@@ -1,5 +1,5 @@
 -- What a clause sees of a domain's state.
-use Rattle.std.specs.Prelude.{[]}
+use Rattle.std.specs.Prelude.{◌+◌, ◌≤◌, length, vec_capacity}
 use Rattle.domain.specs.declared.state.State.TheInside.{Inside}
 use Rattle.domain.specs.State.{Alone}
 use Rattle.domain.specs.Registers.{pages}
@@ -9,7 +9,11 @@ alone_of s = record {
   frames = s.memory;
   registers = pages s.registers.items;
   open_tags = s.open_tags.items;
-  deliveries = [];
+  deliveries = s.records.items;
   counts = s.counts;
   flight = s.flight;
 }
+
+-- each open Tag has room for the record of its completion
+pub record HasRoom (s : Inside) : Type 0 where
+  pub records : length s.open_tags.items + length s.records.items ≤ vec_capacity s.records

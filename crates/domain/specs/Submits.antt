@@ -1,5 +1,5 @@
 -- When a domain refuses to submit a packet, and what it does otherwise.
-use Rattle.std.specs.Prelude.{ℕ, ◌+◌, Bool, ◌&&◌, not, nat_lt, nat_le, List, length, Option, Some, None, if◌then◌else◌}
+use Rattle.std.specs.Prelude.{ℕ, ◌+◌, ◌&&◌, not, nat_lt, nat_le, List, length, Option, Some, None, if◌then◌else◌}
 use Rattle.fab_types.specs.declared.faults.begin.SubmitFault.{SubmitFault}
 use Rattle.fab_types.specs.declared.faults.begin.SubmitFault.TheVariants.{TooLong, Completion, TagBusy, BudgetSpent, NoFunction}
 use Rattle.fab_types.specs.declared.head.Parties.TheVariants.{Upward}
@@ -7,8 +7,7 @@ use Rattle.fab_types.specs.declared.place.Origin.TheVariants.{Function}
 use Rattle.layout.specs.Share.{Share}
 use Rattle.layout.specs.Owners.{is_own_function}
 use Rattle.tlp_view.specs.Bytes.{packet_of}
-use Rattle.domain.specs.declared.counts.Counts.{Counts}
-use Rattle.domain.specs.State.{Alone, Emission, Change, emits}
+use Rattle.domain.specs.State.{Alone, Change, emits}
 use Rattle.domain.specs.Tags.{opens_tag, completes, is_open, opened}
 
 -- the first refusal that applies, if one does

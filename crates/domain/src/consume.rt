@@ -1,32 +1,21 @@
-//! The end of a packet: at its sender's first port, or at the host.
+//! The end of a packet: at its sender's first port, at its completer, or at the one that it answers.
 
-ghost use Rattle.std.specs.Prelude.{◌≡◌, true, IfOk, IfErr, OnErr};
-ghost use Rattle.fab_types.specs.declared.head.Parties.TheVariants.{Upward};
-ghost use Rattle.tlp_view.specs.Kinds.{is_memory};
-ghost use Rattle.tlp_view.specs.Runs.{is_write};
-ghost use Rattle.domain.specs.Carries.{is_carried, is_owner};
-ghost use Rattle.domain.specs.Ends.{carriage_item, carriage_of};
+ghost use Rattle.std.specs.Prelude.{◌≡◌, Some, None, IfOk, IfErr, OnErr, option_map};
+ghost use Rattle.domain.specs.Ends.{conclude};
 
+use crate::carriage::carriage_of;
+use crate::deliver::Record;
 use crate::domain::Domain;
+use crate::ending::Ending;
 use crate::entry::Entry;
-use crate::fate::{Fate, first_port_fate, is_untranslated};
-use fab_types::{Bdf, DomainId, Parties, PortId};
+use crate::fate::{Fate, first_port_fate};
+use crate::refusal::refusal_of;
+use fab_types::{Parties, PortId};
 use frame_log::{Frame, FrameFault};
-use host_table::{HostTable, Target};
-use layout::{Access, Start};
 use std::sync::Wait;
-use tlp_view::{Kind, TlpView};
-
-/// What the host does with a write.
-#[derive(Clone, Copy)]
-pub(crate) enum Carriage {
-    /// It counts the request: no page is mapped.
-    Block,
-    /// It writes the enabled bytes to this frame, from this byte on.
-    Store(u16, usize),
-}
 
 /// Why a number was not consumed.
+#[derive(Clone, Copy)]
 pub(crate) enum EndFault {
     /// The entry is illegal.
     Illegal,
@@ -34,78 +23,18 @@ pub(crate) enum EndFault {
     NoMemory,
 }
 
-fn is_write(kind: Kind) -> bool
-    ensures { result ≡ is_write kind }
-{
-    matches!(kind, Kind::MWr)
-}
-
-fn is_owner(owner: Option<DomainId>, domain: DomainId) -> bool
-    ensures { result ≡ is_owner owner domain }
-{
-    match owner {
-        Some(owner) => owner == domain,
-        None => false,
-    }
-}
-
-/// Does the request claim no translation, in the name of a requester of this domain?
-fn is_carried(start: &Start, view: &TlpView) -> bool
-    requires { is_memory (view.now).kind ≡ true }
-    ensures { result ≡ is_carried start.now view.now }
-{
-    match view.at() {
-        Some(address_type) => {
-            is_untranslated(address_type) && is_owner(start.owner(view.requester()), start.domain())
-        }
-        None => unreachable!(),
-    }
-}
-
-/// What the host does with a well-formed packet.
-fn carriage_of(start: &Start, table: &HostTable, view: &TlpView) -> Option<Carriage>
-    requires { table.now ≡ (start.now).maps }
-    ensures { result ≡ carriage_of start.now view.now }
-{
-    if !is_write(view.kind()) || !is_carried(start, view) {
-        return None;
-    }
-    let address = view.address().unwrap_or(0);
-    match table.lookup(view.requester(), address / 4096, Access::Write) {
-        Target::Frame(frame) => Some(Carriage::Store(frame, (address % 4096) as usize)),
-        Target::Peer(_) => None,
-        Target::None => Some(Carriage::Block),
-    }
-}
-
-/// What the host does with these bytes of a function.
-fn carriage_upward(
-    start: &Start,
-    table: &HostTable,
-    function: Bdf,
-    bytes: &[u8],
-) -> Option<Carriage>
-    requires { table.now ≡ (start.now).maps }
-    ensures { result ≡ carriage_item start.now bytes.now (Upward function) }
-{
-    match first_port_fate(start, function, bytes) {
-        Fate::ToHost => match TlpView::read(bytes) {
-            Ok(view) => carriage_of(start, table, &view),
-            Err(_) => None,
-        },
-        Fate::Vanish => None,
-        Fate::Refused(_) => None,
-    }
-}
-
 impl Domain {
-    ghost use Rattle.domain.specs.declared.entry.Entry.TheVariants.{Carry, Refuse};
-    ghost use Rattle.domain.specs.Domains.{IsEndFault, IsRefused, Makes};
-    ghost use Rattle.domain.specs.Ends.{carriage, upward_fate};
+    ghost use Rattle.domain.specs.declared.entry.Entry.{Entry};
+    ghost use Rattle.domain.specs.declared.entry.Entry.TheVariants.{Carry, Deliver, Refuse};
+    ghost use Rattle.domain.specs.Carries.{carriage_end, refusal_end};
+    ghost use Rattle.domain.specs.Deliveries.{arrival};
+    ghost use Rattle.domain.specs.Domains.{Delivers, EndsBy, IsEndFault, IsRefused, IsStray, Makes};
+    ghost use Rattle.domain.specs.Fates.{upward_fate};
     ghost use Rattle.domain.specs.State.{item_at};
 
-    /// What the first port of its sender does with a packet in flight that a function sent.
-    fn upward_fate(&self, number: u64) -> Option<Fate>
+    /// What the first port of its sender does with a packet in flight that a function sent; none where
+    /// no such packet is in flight under this number.
+    pub fn fate(&self, number: u64) -> Option<Fate>
         ensures { result ≡ upward_fate self.now.share (item_at self.now.state.flight number) }
     {
         let Some((parties, bytes)) = self.state.item(number) else {
@@ -118,55 +47,112 @@ impl Domain {
         }
     }
 
-    /// What the host does with a packet in flight, if it carries it.
-    fn carriage_at(&self, number: u64) -> Option<Carriage>
-        ensures { result ≡ carriage self.now.share (item_at self.now.state.flight number) }
+    /// How a packet in flight ends at its sender's first port, if it ends there.
+    fn refusal_end(&self, number: u64) -> Option<Ending>
+        ensures { result ≡ refusal_end self.now.share (item_at self.now.state.flight number) }
+    {
+        let Some((parties, bytes)) = self.state.item(number) else {
+            return None;
+        };
+        match parties {
+            Parties::Upward(function) => refusal_of(&self.start, function, bytes),
+            Parties::Downward(_) => None,
+            Parties::Answer(..) => None,
+        }
+    }
+
+    /// How a packet in flight ends at its completer, if it ends there.
+    fn carriage_end(&self, number: u64) -> Option<Ending>
+        ensures { result ≡ carriage_end self.now.share self.now.state.frames (item_at self.now.state.flight number) }
     {
         let Some((parties, bytes)) = self.state.item(number) else {
             return None;
         };
         match parties {
             Parties::Upward(function) => {
-                carriage_upward(&self.start, &self.table, function, bytes)
+                let memory = self.state.memory();
+                carriage_of(&self.start, &self.table, memory, function, bytes)
             }
             Parties::Downward(_) => None,
             Parties::Answer(..) => None,
         }
     }
 
-    /// The packet was discarded by its sender's first port. It answers `Illegal` where the machine has
-    /// no such entry.
-    pub(crate) fn end_refused(&mut self, number: u64) -> Result<Option<Frame>, EndFault>
+    /// Ends a packet in flight so, by this entry.
+    fn end_by<R: Wait>(
+        &mut self,
+        rt: &R,
+        entry: Entry,
+        number: u64,
+        ending: Ending,
+    ) -> Result<Option<Frame>, EndFault>
+        requires { EndsBy self.old entry number ending }
+        ensures ok { IfOk result (λ sent. Makes self.old entry self.new sent) }
+        ensures fault { IfErr result (λ fault. IsEndFault self.old entry fault) }
+        ensures err { OnErr result (self.new ≡ self.old) }
+    {
+        let domain = self.start.domain();
+        let Ok(sent) = self.state.conclude(rt, domain, number, ending) else {
+            return Err(EndFault::NoMemory);
+        };
+        self.journal.push_reserved(entry);
+        Ok(sent)
+    }
+
+    /// The packet is stopped by its sender's first port. It answers `Illegal` where the machine has no
+    /// such entry.
+    pub(crate) fn end_refused<R: Wait>(
+        &mut self,
+        rt: &R,
+        number: u64,
+    ) -> Result<Option<Frame>, EndFault>
         ensures ok { IfOk result (λ sent. Makes self.old (Refuse number) self.new sent) }
         ensures fault { IfErr result (λ fault. IsEndFault self.old (Refuse number) fault) }
         ensures err { OnErr result (self.new ≡ self.old) }
     {
-        let Some(Fate::Vanish) = self.upward_fate(number) else {
+        let Some(ending) = self.refusal_end(number) else {
             return Err(EndFault::Illegal);
         };
-        self.state.end(number);
-        self.journal.push_reserved(Entry::Refuse(number));
-        Ok(None)
+        self.end_by(rt, Entry::Refuse(number), number, ending)
     }
 
-    /// The host carried the packet. It answers `Illegal` where the machine has no such entry.
-    pub(crate) fn end_carried(&mut self, number: u64) -> Result<Option<Frame>, EndFault>
+    /// The packet reached its completer. It answers `Illegal` where the machine has no such entry.
+    pub(crate) fn end_carried<R: Wait>(
+        &mut self,
+        rt: &R,
+        number: u64,
+    ) -> Result<Option<Frame>, EndFault>
         ensures ok { IfOk result (λ sent. Makes self.old (Carry number) self.new sent) }
         ensures fault { IfErr result (λ fault. IsEndFault self.old (Carry number) fault) }
         ensures err { OnErr result (self.new ≡ self.old) }
     {
-        let Some(carriage) = self.carriage_at(number) else {
+        let Some(ending) = self.carriage_end(number) else {
             return Err(EndFault::Illegal);
         };
-        self.state.carry(number, carriage);
-        self.journal.push_reserved(Entry::Carry(number));
-        Ok(None)
+        self.end_by(rt, Entry::Carry(number), number, ending)
     }
 
-    /// A packet is stopped by its sender's first port. A request that nobody answers leaves flight. It
-    /// is `Stray` where the frame is not of this domain, or its packet is not in flight or not stopped
-    /// there; requests that are answered are among these as long as no port's answer is made.
-    /// `NoMemory` comes only where an answer is made. Then nothing changes, and the frame is given back.
+    /// The completion reached whom it answers. It answers the record that it made, if it closed a Tag,
+    /// or `Illegal` where the machine has no such entry.
+    pub(crate) fn end_delivered(&mut self, number: u64) -> Result<Option<Record>, EndFault>
+        ensures ok { IfOk result (λ given. Makes self.old (Deliver number) self.new None × Delivers self.old number given) }
+        ensures fault { IfErr result (λ fault. (fault ≡ EndFault.Illegal) × IsEndFault self.old (Deliver number) fault) }
+        ensures err { OnErr result (self.new ≡ self.old) }
+    {
+        let Some(arrival) = self.state.arrival(number) else {
+            return Err(EndFault::Illegal);
+        };
+        let record = arrival.record();
+        self.state.deliver(number, arrival);
+        self.journal.push_reserved(Entry::Deliver(number));
+        Ok(record)
+    }
+
+    /// A packet is stopped by its sender's first port: it leaves flight, and a non-posted request is
+    /// answered by that port with a completion for the sender, whose frame is the result. It is `Stray`
+    /// where the frame is not of this domain, or its packet is not in flight or not stopped there.
+    /// `NoMemory` comes only where an answer is made and memory was refused. Then nothing changes, and
+    /// the frame is given back. The port is the sender's first one, which the layout tells too.
     pub fn refuse<R: Wait>(
         &mut self,
         rt: &R,
@@ -177,45 +163,56 @@ impl Domain {
         ensures fault { IfErr result (λ fault. IsRefused self.old (Refuse frame.number) frame fault) }
         ensures err { OnErr result (self.new ≡ self.old) }
     {
-        // An answer will bear the port's ID, and may have to wait for the log.
-        let _ = rt;
         let _ = port;
         if frame.domain() != self.start.domain() {
             return Err(FrameFault::Stray(frame));
         }
-        match self.end_refused(frame.number()) {
+        match self.end_refused(rt, frame.number()) {
             Ok(sent) => Ok(sent),
             Err(EndFault::Illegal) => Err(FrameFault::Stray(frame)),
             Err(EndFault::NoMemory) => Err(FrameFault::NoMemory(frame)),
         }
     }
 
-    /// A request reached the host. A write goes where the table of its Requester ID maps its page, or
-    /// is counted as blocked. It is `Stray` where the frame is not of this domain, or its packet is not
-    /// in flight or the host does not carry it; reads are among these as long as no answer is made.
-    /// `NoMemory` comes only where an answer is made. Then nothing changes, and the frame is given back.
+    /// A request reached its completer. At the host a write goes where the table of its Requester ID
+    /// maps its page, and a read is answered with what is stored there; without a mapping the request is
+    /// counted as blocked, and a read is answered UR. The frame of the answer is the result. It is
+    /// `Stray` where the frame is not of this domain, or its packet is not in flight or not carried;
+    /// requests to a peer and of the host are among these as long as they are not made. `NoMemory` comes
+    /// only where an answer is made and memory was refused. Then nothing changes, and the frame is given
+    /// back.
     pub fn carry<R: Wait>(&mut self, rt: &R, frame: Frame) -> Result<Option<Frame>, FrameFault>
         ensures ok { IfOk result (λ sent. (frame.domain ≡ (self.old.share).domain) × Makes self.old (Carry frame.number) self.new sent) }
         ensures fault { IfErr result (λ fault. IsRefused self.old (Carry frame.number) frame fault) }
         ensures err { OnErr result (self.new ≡ self.old) }
     {
-        // An answer may have to wait for the log.
-        let _ = rt;
         if frame.domain() != self.start.domain() {
             return Err(FrameFault::Stray(frame));
         }
-        match self.end_carried(frame.number()) {
+        match self.end_carried(rt, frame.number()) {
             Ok(sent) => Ok(sent),
             Err(EndFault::Illegal) => Err(FrameFault::Stray(frame)),
             Err(EndFault::NoMemory) => Err(FrameFault::NoMemory(frame)),
         }
     }
 
-    /// What the first port of its sender does with a packet in flight that a function sent; none where
-    /// no such packet is in flight under this number.
-    pub fn fate(&self, number: u64) -> Option<Fate>
-        ensures { result ≡ upward_fate self.now.share (item_at self.now.state.flight number) }
+    /// A completion reached whom it answers. Where its Tag is open there, and its Requester ID is that
+    /// of the addressee or a port made it, it closes the Tag, and the result is its record; otherwise it
+    /// is counted as unexpected. It is `Stray` where the frame is not of this domain, or its packet is
+    /// not in flight or no completion for anybody; then nothing changes, and the frame is given back. It
+    /// takes no memory.
+    pub fn deliver(&mut self, frame: Frame) -> Result<Option<Record>, FrameFault>
+        ensures ok { IfOk result (λ given. (frame.domain ≡ (self.old.share).domain) × Makes self.old (Deliver frame.number) self.new None) }
+        ensures delivery { IfOk result (λ given. Delivers self.old frame.number given) }
+        ensures fault { IfErr result (λ fault. IsStray self.old (Deliver frame.number) frame fault) }
+        ensures err { OnErr result (self.new ≡ self.old) }
     {
-        self.upward_fate(number)
+        if frame.domain() != self.start.domain() {
+            return Err(FrameFault::Stray(frame));
+        }
+        match self.end_delivered(frame.number()) {
+            Ok(record) => Ok(record),
+            Err(_) => Err(FrameFault::Stray(frame)),
+        }
     }
 }

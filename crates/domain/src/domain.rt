@@ -7,6 +7,7 @@ ghost use Rattle.domain.specs.Machine.{replay};
 ghost use Rattle.domain.specs.State.{start_state};
 
 use crate::counts::Counts;
+use crate::deliver::Record;
 use crate::entry::Entry;
 use crate::state::State;
 use crate::tags::OpenTag;
@@ -42,7 +43,7 @@ impl Model for Domain {
 
 impl Domain {
     /// A domain at its start, with an empty journal. For each begin of the budget there is room for
-    /// four entries of the journal and three packets in flight. It answers `NoMemory` where memory was
+    /// four entries of the journal, three packets in flight and one record. It answers `NoMemory` where memory was
     /// refused.
     pub fn new(alloc: Global, start: &Start, log: Arc<Log>) -> Result<Domain, NoMemory>
         ensures { IfOk result (λ domain. domain ≡ record { share = start.now; state = start_state start.now; journal = [] }) }
@@ -82,6 +83,13 @@ impl Domain {
         ensures { option_copied result ≡ page_of self.now.state.frames number }
     {
         self.state.frame(number)
+    }
+
+    /// The completions that were delivered, oldest first.
+    pub fn records(&self) -> &[Record]
+        ensures { result.now ≡ self.now.state.deliveries }
+    {
+        self.state.records()
     }
 
     /// The Tags that wait for a completion, in the order in which they were opened.

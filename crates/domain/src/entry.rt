@@ -11,4 +11,6 @@ pub enum Entry {
     Refuse(u64),
     /// The packet of this number reached its completer.
     Carry(u64),
+    /// The completion of this number reached the function or host that it answers.
+    Deliver(u64),
 }

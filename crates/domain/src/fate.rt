@@ -1,6 +1,7 @@
 //! What the first port of a function does with a request.
 
-ghost use Rattle.std.specs.Prelude.{◌≡◌};
+ghost use Rattle.std.specs.Prelude.{◌≡◌, true};
+ghost use Rattle.tlp_view.specs.Kinds.{is_memory};
 ghost use Rattle.domain.specs.Fates.{fails_source, fails_translation, fate, fate_at, is_untranslated, packet_fate, returns_to_sender, stopped};
 
 use fab_types::{AddressType, Bdf, Class, Status};
@@ -56,8 +57,9 @@ fn returns_to_sender(port: &PortLine, view: &TlpView) -> bool
     !port.controls.forwards_upstream() && port.holds_address(view.address().unwrap_or(0))
 }
 
-fn packet_fate(port: &PortLine, view: &TlpView) -> Fate
-    ensures { result ≡ packet_fate port.now view.now }
+pub(crate) fn packet_fate(port: &PortLine, view: &TlpView) -> Fate
+    ensures value { result ≡ packet_fate port.now view.now }
+    ensures memory { result ≡ Fate.ToHost → is_memory (view.now).kind ≡ true }
 {
     let class = view.class();
     if fails_source(port, view) || fails_translation(port, view) {

@@ -1,8 +1,9 @@
 //! What a domain has in flight.
 
-ghost use Rattle.std.specs.Prelude.{◌≡◌, ◌≤◌, ◌++◌, ◌∷◌, [], Some, None, IfOk, OnErr, MatchOption, length, slice_set};
+ghost use Rattle.std.specs.Prelude.{◌≡◌, ◌≤◌, ◌++◌, ◌∷◌, [], Some, None, IfOk, OnErr, MatchOption, IfSome, length, slice_set};
 ghost use Rattle.domain.specs.Heads.{descriptor_of};
 ghost use Rattle.domain.specs.State.{item_at};
+ghost use Rattle.domain.specs.WellMade.{IsWellMade};
 
 use crate::heads::head_of;
 use fab_types::{DomainId, NoMemory, Parties};
@@ -31,11 +32,11 @@ impl Model for Flight {
 
     ghost Value = { List (Option Emission) };
 
-    ghost use Rattle.domain.specs.Flights.{emissions, AllShown};
+    ghost use Rattle.domain.specs.Flights.{emissions, AreSlots};
 
     ghost view = { λ f. emissions f.slots.items };
 
-    ghost invariant = { λ f. AllShown f };
+    ghost invariant = { λ f. AreSlots f };
 }
 
 fn clear(slots: &mut [Option<InFlight>], index: usize)
@@ -67,7 +68,8 @@ impl Flight {
         parties: Parties,
         bytes: &[u8],
     ) -> Result<Frame, NoMemory>
-        requires { length bytes.now ≤ 272 }
+        requires short { length bytes.now ≤ 272 }
+        requires well_made { IsWellMade parties bytes.now }
         ensures flight { IfOk result (λ _. self.new ≡ self.old ++ Some (record { parties = parties; bytes = bytes.now }) ∷ []) }
         ensures frame { IfOk result (λ frame. frame ≡ descriptor_of domain (length self.old) (record { parties = parties; bytes = bytes.now })) }
         ensures err { OnErr result (self.new ≡ self.old) }
@@ -83,7 +85,8 @@ impl Flight {
 
     /// The packet that is in flight under this number.
     pub(crate) fn item(&self, number: u64) -> Option<(Parties, &[u8])>
-        ensures { MatchOption result (item_at self.now number ≡ None)
+        ensures well_made { IfSome result (λ item. IsWellMade item.0 item.1.now) }
+        ensures value { MatchOption result (item_at self.now number ≡ None)
             (λ item. item_at self.now number ≡ Some (record { parties = item.0; bytes = item.1.now })) }
     {
         match self.slots.get(number as usize) {

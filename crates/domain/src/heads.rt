@@ -7,7 +7,7 @@ ghost use Rattle.domain.specs.Heads.{head_of, malformed_cost, origin_id, packet_
 use fab_types::{Answerer, Bdf, Class, Cost, Head, Header, Origin, Parties};
 use tlp_view::TlpView;
 
-fn origin_id(origin: Origin) -> Bdf
+pub(crate) fn origin_id(origin: Origin) -> Bdf
     ensures { result ≡ origin_id origin }
 {
     match origin {

@@ -30,11 +30,15 @@ impl Domain {
                 Err(SubmitFault::NoMemory) => Err(EndFault::NoMemory),
                 Err(_) => Err(EndFault::Illegal),
             },
-            Entry::Refuse(number) => match self.end_refused(*number) {
+            Entry::Refuse(number) => match self.end_refused(rt, *number) {
                 Ok(_) => Ok(()),
                 Err(fault) => Err(fault),
             },
-            Entry::Carry(number) => match self.end_carried(*number) {
+            Entry::Carry(number) => match self.end_carried(rt, *number) {
+                Ok(_) => Ok(()),
+                Err(fault) => Err(fault),
+            },
+            Entry::Deliver(number) => match self.end_delivered(*number) {
                 Ok(_) => Ok(()),
                 Err(fault) => Err(fault),
             },

@@ -1,23 +1,26 @@
 //! The state of a domain: each method is one of the changes that its machine makes.
 
-ghost use Rattle.std.specs.Prelude.{◌≡◌, ◌+◌, ◌<◌, ◌≤◌, ◌^◌, IfOk, OnErr, MatchOption, length, None, Some};
+ghost use Rattle.std.specs.Prelude.{◌≡◌, ◌+◌, ◌<◌, ◌≤◌, ◌^◌, IfOk, IfSome, IsSome, OnErr, MatchOption, length, option_map, vec_capacity, true, None, Some, ◌++◌, ◌∷◌, []};
 ghost use Rattle.fab_types.specs.declared.head.Parties.TheVariants.{Upward};
 ghost use Rattle.std.specs.Option.{option_copied};
 ghost use Rattle.host_memory.specs.Pages.{page_of};
 ghost use Rattle.tlp_view.specs.Bytes.{packet_of};
 ghost use Rattle.tlp_view.specs.Malformed.{malformed};
 ghost use Rattle.tlp_view.specs.Runs.{runs};
-ghost use Rattle.domain.specs.Carries.{blocked, stored, with_stored};
-ghost use Rattle.domain.specs.Ends.{CarriageFits, carriage_state};
+ghost use Rattle.domain.specs.Deliveries.{arrival, arrived, closed};
+ghost use Rattle.domain.specs.Ends.{DeedFits, blocked, conclude, done, replied, stored, with_stored};
 ghost use Rattle.domain.specs.Heads.{descriptor_of};
 ghost use Rattle.domain.specs.State.{Emission, item_at, start_state, with_emission, without};
 ghost use Rattle.domain.specs.Submits.{submitted};
+ghost use Rattle.domain.specs.Tags.{is_open};
+ghost use Rattle.domain.specs.WellMade.{IsWellMade};
 
-use crate::consume::Carriage;
 use crate::counts::Counts;
+use crate::deliver::{Arrival, Record, arrival_for};
+use crate::ending::{Deed, Ending, Reply};
 use crate::flight::Flight;
 use crate::registers::{RegisterPage, first_registers};
-use crate::tags::{OpenTag, TagUse, is_open, tag_to_open};
+use crate::tags::{OpenTag, TagUse, close, tag_to_open};
 use fab_types::{Bdf, DomainId, NoMemory, Origin, Parties};
 use frame_log::{Frame, Log};
 use host_memory::HostMemory;
@@ -37,12 +40,25 @@ fn write_runs(memory: &mut HostMemory, frame: u16, first: usize, view: &TlpView)
     }
 }
 
+/// Closes the Tag that the completion names, and keeps the record of it.
+fn record(tags: &mut Vec<OpenTag>, records: &mut Vec<Record>, delivery: Record)
+    requires is_open { is_open tags.old.items delivery.owner delivery.tag ≡ true }
+    requires room { length tags.old.items + length records.old.items ≤ vec_capacity records.old }
+    ensures tags { tags.new.items ≡ closed tags.old.items delivery.owner delivery.tag }
+    ensures records { records.new.items ≡ records.old.items ++ delivery ∷ [] }
+    ensures room { length tags.new.items + length records.new.items ≤ vec_capacity records.new }
+{
+    close(tags, delivery.owner(), delivery.tag());
+    records.push_reserved(delivery);
+}
+
 /// A domain's memory, registers, open Tags, counts and packets in flight.
 #[derive(Drop)]
 pub(crate) struct State {
     memory: HostMemory,
     registers: Vec<RegisterPage>,
     open_tags: Vec<OpenTag>,
+    records: Vec<Record>,
     counts: Counts,
     flight: Flight,
 }
@@ -52,13 +68,15 @@ impl Model for State {
 
     ghost Value = { Alone };
 
-    ghost use Rattle.domain.specs.States.{alone_of};
+    ghost use Rattle.domain.specs.States.{alone_of, HasRoom};
 
     ghost view = { alone_of };
+
+    ghost invariant = { HasRoom };
 }
 
 impl State {
-    /// The state at the start, with room for three packets a begin. It answers `NoMemory` where
+    /// The state at the start, with room for three packets and one record a begin. It answers `NoMemory` where
     /// memory was refused.
     pub(crate) fn new(alloc: Global, start: &Start, log: Arc<Log>) -> Result<State, NoMemory>
         ensures { IfOk result (λ state. state ≡ start_state start.now) }
@@ -68,6 +86,7 @@ impl State {
             memory: HostMemory::new(alloc, start)?,
             registers: first_registers(alloc, start)?,
             open_tags: Vec::new(alloc),
+            records: Vec::with_capacity(alloc, start.budget() as usize)?,
             counts: Counts {
                 begins: 0,
                 blocked: 0,
@@ -91,7 +110,8 @@ impl State {
 
     /// The packet in flight under this number.
     pub(crate) fn item(&self, number: u64) -> Option<(Parties, &[u8])>
-        ensures { MatchOption result (item_at self.now.flight number ≡ None)
+        ensures well_made { IfSome result (λ item. IsWellMade item.0 item.1.now) }
+        ensures value { MatchOption result (item_at self.now.flight number ≡ None)
             (λ item. item_at self.now.flight number ≡ Some (record { parties = item.0; bytes = item.1.now })) }
     {
         self.flight.item(number)
@@ -112,6 +132,8 @@ impl State {
         ensures err { OnErr result (self.new ≡ self.old) }
     {
         self.open_tags.reserve(1)?;
+        // It was reserved at the start; the room of an open Tag is for the record that closes it.
+        self.records.reserve(self.open_tags.len() + 1)?;
         let frame = self
             .flight
             .emit(rt, domain, Parties::Upward(function), bytes)?;
@@ -126,15 +148,30 @@ impl State {
         Ok(frame)
     }
 
-    /// The packet of this number is in flight no more.
-    pub(crate) fn end(&mut self, number: u64)
-        ensures { self.new ≡ without self.old number }
+    /// Emits what answers a packet, if anything does. Where memory was refused nothing changes.
+    fn send<R: Wait>(
+        &mut self,
+        rt: &R,
+        domain: DomainId,
+        reply: Option<Reply>,
+    ) -> Result<Option<Frame>, NoMemory>
+        ensures state { IfOk result (λ _. self.new ≡ replied self.old reply) }
+        ensures sent { IfOk result (λ sent. sent ≡ option_map (descriptor_of domain (length self.old.flight)) reply) }
+        ensures err { OnErr result ((self.new ≡ self.old) × IsSome reply) }
     {
-        self.flight.end(number);
+        match reply {
+            None => Ok(None),
+            Some(reply) => {
+                let frame = self
+                    .flight
+                    .emit(rt, domain, reply.parties(), reply.bytes())?;
+                Ok(Some(frame))
+            }
+        }
     }
 
     /// Counts a request without a mapping.
-    pub(crate) fn block(&mut self)
+    fn block(&mut self)
         requires { self.old.counts.blocked + 1 < 2 ^ 32 }
         ensures { self.new ≡ blocked self.old }
     {
@@ -143,7 +180,7 @@ impl State {
 
     /// Writes the enabled bytes of the packet of this number, a well-formed one, to a frame from byte
     /// `first` on.
-    pub(crate) fn store(&mut self, number: u64, frame: u16, first: usize)
+    fn store(&mut self, number: u64, frame: u16, first: usize)
         requires { (e : Emission) → item_at self.old.flight number ≡ Some e → first + length (packet_of e.bytes).payload ≤ 4096 }
         ensures { (e : Emission) → item_at self.old.flight number ≡ Some e → malformed e.bytes ≡ None →
             self.new ≡ with_stored self.old frame first (runs (packet_of e.bytes)) }
@@ -156,18 +193,87 @@ impl State {
         }
     }
 
-    /// Does what the host does with the packet of this number, and ends the packet.
-    pub(crate) fn carry(&mut self, number: u64, carriage: Carriage)
+    /// Does what the end of the packet of this number does.
+    fn perform(&mut self, number: u64, deed: Deed)
         requires blocks { self.old.counts.blocked + 1 < 2 ^ 32 }
-        requires fits { (e : Emission) → item_at self.old.flight number ≡ Some e → CarriageFits e.bytes carriage }
-        ensures { (e : Emission) → item_at self.old.flight number ≡ Some e → malformed e.bytes ≡ None →
-            self.new ≡ carriage_state self.old number e.bytes carriage }
+        requires fits { (e : Emission) → item_at self.old.flight number ≡ Some e → DeedFits e.bytes deed }
+        ensures { (e : Emission) → item_at self.old.flight number ≡ Some e → self.new ≡ done self.old e.bytes deed }
     {
-        match carriage {
-            Carriage::Block => self.block(),
-            Carriage::Store(frame, first) => self.store(number, frame, first),
+        match deed {
+            Deed::Leave => {}
+            Deed::Block => self.block(),
+            Deed::Store(frame, first) => self.store(number, frame, first),
         }
-        self.end(number);
+    }
+
+    /// Ends the packet of this number: emits what answers it, and does what its end does. Where memory
+    /// was refused, which comes only where something answers it, nothing changes.
+    pub(crate) fn conclude<R: Wait>(
+        &mut self,
+        rt: &R,
+        domain: DomainId,
+        number: u64,
+        ending: Ending,
+    ) -> Result<Option<Frame>, NoMemory>
+        requires waits { IsSome (item_at self.old.flight number) }
+        requires blocks { self.old.counts.blocked + 1 < 2 ^ 32 }
+        requires fits { (e : Emission) → item_at self.old.flight number ≡ Some e → DeedFits e.bytes ending.deed }
+        ensures state { IfOk result (λ _. (e : Emission) → item_at self.old.flight number ≡ Some e → self.new ≡ (conclude self.old number e.bytes ending).state) }
+        ensures sent { IfOk result (λ sent. sent ≡ option_map (descriptor_of domain (length self.old.flight)) ending.reply) }
+        ensures err { OnErr result ((self.new ≡ self.old) × IsSome ending.reply) }
+    {
+        let Ending { deed, reply } = ending;
+        let sent = self.send(rt, domain, reply)?;
+        self.perform(number, deed);
+        self.flight.end(number);
+        Ok(sent)
+    }
+
+    /// Ends the packet of this number, a completion that is delivered so.
+    pub(crate) fn deliver(&mut self, number: u64, arrival: Arrival)
+        requires counts { self.old.counts.unexpected + 1 < 2 ^ 32 }
+        requires is_open { arrival.is_awaited ≡ true → is_open self.old.open_tags (arrival.delivery).owner (arrival.delivery).tag ≡ true }
+        ensures { self.new ≡ arrived (without self.old number) arrival }
+    {
+        let Arrival {
+            delivery,
+            is_awaited,
+        } = arrival;
+        if is_awaited {
+            record(&mut self.open_tags, &mut self.records, delivery);
+        } else {
+            self.counts.unexpected += 1;
+        }
+        self.flight.end(number);
+    }
+
+    /// What a packet in flight is to the one that it goes to, if it is a completion for somebody.
+    pub(crate) fn arrival(&self, number: u64) -> Option<Arrival>
+        ensures { result ≡ arrival self.now.open_tags (item_at self.now.flight number) }
+    {
+        let Some((parties, bytes)) = self.flight.item(number) else {
+            return None;
+        };
+        match parties {
+            Parties::Answer(answerer, addressee) => {
+                arrival_for(&self.open_tags, bytes, answerer, addressee)
+            }
+            Parties::Upward(_) => None,
+            Parties::Downward(_) => None,
+        }
+    }
+
+    /// The completions that were delivered, oldest first.
+    pub(crate) fn records(&self) -> &[Record]
+        ensures { result.now ≡ self.now.deliveries }
+    {
+        &self.records
+    }
+
+    pub(crate) fn memory(&self) -> &HostMemory
+        ensures { result.now ≡ self.now.frames }
+    {
+        &self.memory
     }
 
     /// The bytes of this frame of memory, if it is of the domain.

@@ -3,6 +3,7 @@
 ghost use Rattle.std.specs.Prelude.{◌≡◌, if◌then◌else◌, Some, None};
 ghost use Rattle.tlp_view.specs.Bytes.{packet_of};
 ghost use Rattle.domain.specs.Tags.{completes, is_open, opens_tag, same_origin};
+ghost use Rattle.domain.specs.Deliveries.{closed};
 
 use fab_types::{Class, Origin};
 use tlp_view::TlpView;
@@ -46,6 +47,13 @@ pub(crate) fn is_open(tags: &[OpenTag], owner: Origin, tag: u8) -> bool
 {
     tags.iter()
         .any(|open| same_origin(open.owner, owner) && open.tag == tag)
+}
+
+/// Closes this Tag of this owner.
+pub(crate) fn close(tags: &mut Vec<OpenTag>, owner: Origin, tag: u8)
+    ensures { tags.new.items ≡ closed tags.old.items owner tag }
+{
+    tags.retain(|open| !(same_origin(open.owner, owner) && open.tag == tag));
 }
 
 /// The Tag that the bytes open: that of a well-formed non-posted request.

@@ -2,3 +2,4 @@ pub mod Firsts
 pub mod Steps
 pub mod Waiting
 pub mod Running
+pub mod Few

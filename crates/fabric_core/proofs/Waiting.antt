@@ -1,18 +1,21 @@
 -- What a step does to the packets that wait.
-use Rattle.std.proofs.Common.{◌≡◌, ℕ, zero, suc, ◌+◌, ◌<◌, Bool, true, List, [], ◌∷◌, ◌++◌, length, take, drop, Option, Some, None, refl, sym, ap, ◌∙◌, subst, arith}
+use Rattle.std.proofs.Common.{◌≡◌, ℕ, zero, suc, ◌<◌, List, [], ◌∷◌, ◌++◌, length, take, Option, Some, None, refl, sym, ap, ◌∙◌, subst, arith}
 use Rattle.std.specs.Prelude.{insert, slice_index_or, option_map, option_to_list}
 use Rattle.std.proofs.lemmas.List.{append-nil}
 use Rattle.std.specs.List.{remove}
-use Rattle.fab_types.specs.declared.class.Class.TheVariants.{Posted}
+use Rattle.std.specs.Option.{IsSome}
+use Rattle.fab_types.specs.declared.class.Class.{Class}
+use Rattle.fab_types.specs.declared.class.Class.TheVariants.{Completion}
 use Rattle.frame_log.specs.Descriptor.{Descriptor}
-use Rattle.fabric_core.specs.declared.event.Event.TheVariants.{Root}
 use Rattle.frame_log.specs.declared.fault.FrameFault.{FrameFault}
-use Rattle.frame_log.specs.declared.fault.FrameFault.TheVariants.{Stray}
+use Rattle.domain.specs.declared.entry.Entry.{Entry}
+use Rattle.domain.specs.declared.entry.Entry.TheVariants.{Deliver}
 use Rattle.domain.specs.Domains.{DomainView}
 use Rattle.domain.specs.Heads.{descriptor_of}
 use Rattle.domain.specs.State.{Change, Emission}
-use Rattle.fabric_core.specs.Events.{after, end_entry, entered, effect, own_change, rooted, joined_by, world, Ends, Stays}
-use Rattle.fabric_core.specs.World.{World, is_posted, take_first}
+use Rattle.fabric_core.specs.declared.event.Event.TheVariants.{Arrive, Root}
+use Rattle.fabric_core.specs.Events.{delivered, effect, end_entry, ended, joined_by, own_change, rooted, world, Ends, Stays}
+use Rattle.fabric_core.specs.World.{goes_to, take_first, take_head}
 
 -- a packet that is put back where it was taken
 pub insert-remove : {X : Type 0} (xs : List X) (i : ℕ) (x : X) → i < length xs → x ≡ slice_index_or xs i x → insert (remove xs i) i x ≡ xs
@@ -20,47 +23,82 @@ insert-remove {X = X} [] i x lt is = absurd (omega arith)
 insert-remove {X = X} (y ∷ xs) zero x lt is = ap (λ (z : X). z ∷ xs) is
 insert-remove {X = X} (y ∷ xs) (suc i) x lt is = ap (λ (zs : List X). y ∷ zs) (insert-remove xs i x (omega arith) is)
 
--- the packets that wait, with what was emitted
-joined_is : (waiting : List Descriptor) (d : DomainView) (o : Option Emission) (sent : Option Descriptor) → sent ≡ option_map (descriptor_of d.share.domain (length d.state.flight)) o
-    → joined_by waiting d o ≡ waiting ++ option_to_list sent
-joined_is waiting d None sent e = rw e (sym (append-nil waiting))
-joined_is waiting d (Some x) sent e = rw e refl
+-- the packets of a place, with what was emitted
+joined_is : (frames : List Descriptor) (d : DomainView) (o : Option Emission) (sent : Option Descriptor) → sent ≡ option_map (descriptor_of d.share.domain (length d.state.flight)) o
+    → joined_by frames d o ≡ frames ++ option_to_list sent
+joined_is frames d None sent e = rw e (sym (append-nil frames))
+joined_is frames d (Some x) sent e = rw e refl
 
-taken_is : (w : World) (taken : Descriptor × List Descriptor) → take_first is_posted w.waiting ≡ Some taken → effect w (Root Posted) ≡ entered w.domain taken.1 (end_entry w.domain taken.0.number) (own_change w.domain taken.0)
-taken_is w taken e = ap (rooted w.domain) e
+-- ---- a packet that the host takes
 
--- a packet that ended
-pub root_moved : (w : World) (i : ℕ) (frame : Descriptor) (new : DomainView) (waiting : List Descriptor) (sent : Option Descriptor) → take_first is_posted w.waiting ≡ Some (frame, remove w.waiting i)
-    → Ends w.domain frame new sent → waiting ≡ remove w.waiting i ++ option_to_list sent → effect w (Root Posted) ≡ Some (world new waiting)
-root_moved w i frame new waiting sent found e is =
-    let rest = remove w.waiting i in
-    taken_is w (frame, rest) found
-    ∙ ap (entered w.domain rest (end_entry w.domain frame.number)) e.legal
-    ∙ ap (λ (d : DomainView). Some (world d (joined_by rest w.domain e.made.emission))) (sym e.state)
-    ∙ ap (λ (ws : List Descriptor). Some (world new ws)) (joined_is rest w.domain e.made.emission sent e.emitted ∙ sym is)
+-- it ended
+pub root_moved : (d : DomainView) (ws rs : List Descriptor) (class : Class) (frame : Descriptor) (rest : List Descriptor) (new : DomainView) (rs' : List Descriptor) (sent : Option Descriptor)
+    → take_head class ws ≡ Some (frame, rest) → Ends d frame (end_entry d frame.number) new sent → rs' ≡ rs ++ option_to_list sent → effect (world d ws rs) (Root class) ≡ Some (world new rest rs')
+root_moved d ws rs class frame rest new rs' sent found e is =
+    ap (rooted d rs) found
+    ∙ ap (ended d rest rs (end_entry d frame.number)) e.legal
+    ∙ ap (λ (x : DomainView). Some (world x rest (joined_by rs d e.made.emission))) (sym e.state)
+    ∙ ap (λ (l : List Descriptor). Some (world new rest l)) (joined_is rs d e.made.emission sent e.emitted ∙ sym is)
 
--- a packet that stays
-pub root_stays : (w : World) (i : ℕ) (frame : Descriptor) → take_first is_posted w.waiting ≡ Some (frame, remove w.waiting i) → own_change w.domain frame ≡ None → effect w (Root Posted) ≡ None
-root_stays w i frame found none = taken_is w (frame, remove w.waiting i) found ∙ ap (entered w.domain (remove w.waiting i) (end_entry w.domain frame.number)) none
+-- it stays
+pub root_stays : (d : DomainView) (ws rs : List Descriptor) (class : Class) (frame : Descriptor) (rest : List Descriptor) → take_head class ws ≡ Some (frame, rest)
+    → own_change d frame (end_entry d frame.number) ≡ None → effect (world d ws rs) (Root class) ≡ None
+root_stays d ws rs class frame rest found none = ap (rooted d rs) found ∙ ap (ended d rest rs (end_entry d frame.number)) none
 
-pub found_is : (xs : List Descriptor) (i : ℕ) (frame : Descriptor) → ((e : Descriptor) → take_first is_posted xs ≡ Some (slice_index_or xs i e, remove xs i)) → frame ≡ slice_index_or xs i frame
-    → take_first is_posted xs ≡ Some (frame, remove xs i)
-found_is xs i frame found is = found frame ∙ ap (λ (x : Descriptor). Some (x, remove xs i)) (sym is)
+some_ended : (d : DomainView) (ws rs : List Descriptor) (e : Entry) (o : Option Change) → IsSome o → IsSome (ended d ws rs e o)
+some_ended d ws rs e None h = absurd cc
+some_ended d ws rs e (Some c) h = refl
+
+-- it would move, but for memory
+pub root_wants : (d : DomainView) (ws rs : List Descriptor) (class : Class) (frame : Descriptor) (rest : List Descriptor) → take_head class ws ≡ Some (frame, rest)
+    → IsSome (own_change d frame (end_entry d frame.number)) → IsSome (effect (world d ws rs) (Root class))
+root_wants d ws rs class frame rest found some =
+    subst IsSome (sym (ap (rooted d rs) found)) (some_ended d rest rs (end_entry d frame.number) (own_change d frame (end_entry d frame.number)) some)
+
+pub root_idle : (d : DomainView) (ws rs : List Descriptor) (class : Class) → take_head class ws ≡ None → effect (world d ws rs) (Root class) ≡ None
+root_idle d ws rs class none = ap (rooted d rs) none
+
+-- ---- a completion that a function takes
+
+pub arrive_moved : (d : DomainView) (ws rs : List Descriptor) (f : ℕ) (frame : Descriptor) (rest : List Descriptor) (new : DomainView)
+    → take_first (goes_to f) rs ≡ Some (frame, rest) → Ends d frame (Deliver frame.number) new None → effect (world d ws rs) (Arrive f Completion) ≡ Some (world new ws rest)
+arrive_moved d ws rs f frame rest new found e =
+    ap (delivered d ws) found
+    ∙ ap (ended d ws rest (Deliver frame.number)) e.legal
+    ∙ ap (λ (x : DomainView). Some (world x ws (joined_by rest d e.made.emission))) (sym e.state)
+    ∙ ap (λ (l : List Descriptor). Some (world new ws l)) (joined_is rest d e.made.emission None e.emitted ∙ append-nil rest)
+
+pub arrive_stays : (d : DomainView) (ws rs : List Descriptor) (f : ℕ) (frame : Descriptor) (rest : List Descriptor) → take_first (goes_to f) rs ≡ Some (frame, rest)
+    → own_change d frame (Deliver frame.number) ≡ None → effect (world d ws rs) (Arrive f Completion) ≡ None
+arrive_stays d ws rs f frame rest found none = ap (delivered d ws) found ∙ ap (ended d ws rest (Deliver frame.number)) none
+
+pub arrive_idle : (d : DomainView) (ws rs : List Descriptor) (f : ℕ) → take_first (goes_to f) rs ≡ None → effect (world d ws rs) (Arrive f Completion) ≡ None
+arrive_idle d ws rs f none = ap (delivered d ws) none
+
+-- ---- what was found in what was lent
+
+abbrev pub Found : (List Descriptor → Option (Descriptor × List Descriptor)) → List Descriptor → ℕ → Type 0
+Found take xs i = (e : Descriptor) → take xs ≡ Some (slice_index_or xs i e, remove xs i)
+
+pub found_in : (take : List Descriptor → Option (Descriptor × List Descriptor)) (xs ys : List Descriptor) (i : ℕ) (frame : Descriptor) (rest : List Descriptor) → ys ≡ xs → Found take ys i → frame ≡ slice_index_or xs i frame
+    → rest ≡ remove xs i → take xs ≡ Some (frame, rest)
+found_in take xs ys i frame rest same found is removed =
+    let here : Found take xs i = subst (λ (l : List Descriptor). Found take l i) same found in
+    here frame ∙ ap (λ (x : Descriptor). Some (x, remove xs i)) (sym is) ∙ ap (λ (l : List Descriptor). Some (frame, l)) (sym removed)
+
+pub none_in : (take : List Descriptor → Option (Descriptor × List Descriptor)) (xs ys : List Descriptor) → ys ≡ xs → take ys ≡ None → take xs ≡ None
+none_in take xs ys same none = subst (λ (l : List Descriptor). take l ≡ None) same none
+
+pub within_in : (xs ys : List Descriptor) (i : ℕ) → ys ≡ xs → i < length ys → i < length xs
+within_in xs ys i same lt = subst (λ (l : List Descriptor). i < length l) same lt
 
 -- the frame that was given back is in its place again
 pub back_is : (xs ys zs : List Descriptor) (i : ℕ) (frame given : Descriptor) → i < length xs → frame ≡ slice_index_or xs i frame → ys ≡ remove xs i → given ≡ frame → zs ≡ insert ys i given → zs ≡ xs
 back_is xs ys zs i frame given lt is removed same put =
     put ∙ ap (λ (l : List Descriptor). insert l i given) removed ∙ ap (insert (remove xs i) i) same ∙ insert-remove xs i frame lt is
 
-pub same_world : (d d' : DomainView) (ws ws' : List Descriptor) → d' ≡ d → ws' ≡ ws → world d' ws' ≡ world d ws
-same_world d d' ws ws' p q = ap (λ (x : DomainView). world x ws') p ∙ ap (world d) q
+pub same_world : (d d' : DomainView) (ws ws' rs rs' : List Descriptor) → d' ≡ d → ws' ≡ ws → rs' ≡ rs → world d' ws' rs' ≡ world d ws rs
+same_world d d' ws ws' rs rs' p q r = ap (λ (x : DomainView). world x ws' rs') p ∙ ap (λ (l : List Descriptor). world d l rs') q ∙ ap (world d ws) r
 
--- what was found in what was lent
-pub found_in : (xs ys : List Descriptor) (i : ℕ) → ys ≡ xs → ((e : Descriptor) → take_first is_posted ys ≡ Some (slice_index_or ys i e, remove ys i)) → (e : Descriptor) → take_first is_posted xs ≡ Some (slice_index_or xs i e, remove xs i)
-found_in xs ys i same found = subst (λ (l : List Descriptor). (e : Descriptor) → take_first is_posted l ≡ Some (slice_index_or l i e, remove l i)) same found
-
-pub within_in : (xs ys : List Descriptor) (i : ℕ) → ys ≡ xs → i < length ys → i < length xs
-within_in xs ys i same lt = subst (λ (l : List Descriptor). i < length l) same lt
-
-pub stays_is : (d : DomainView) (frame given : Descriptor) (fault : FrameFault) → fault ≡ Stray given → Stays d frame fault → Stays d frame (Stray given)
-stays_is d frame given fault is h = subst (Stays d frame) is h
+pub stays_is : (d : DomainView) (frame given : Descriptor) (e : Entry) (fault f : FrameFault) → fault ≡ f → Stays d frame e fault → Stays d frame e f
+stays_is d frame given e fault f is h = subst (Stays d frame e) is h

@@ -1,3 +1,4 @@
 pub mod World
 pub mod Events
 pub mod Runs
+pub mod Kept

@@ -5,7 +5,7 @@ use Rattle.fab_types.specs.declared.outcome.Outcome.TheVariants.{Moved, Idle, Re
 use Rattle.domain.specs.declared.entry.Entry.{Entry}
 use Rattle.domain.specs.declared.entry.Entry.TheVariants as entry
 use Rattle.fabric_core.specs.declared.event.Event.{Event}
-use Rattle.fabric_core.specs.declared.event.Event.TheVariants.{Submit, Root}
+use Rattle.fabric_core.specs.declared.event.Event.TheVariants.{Submit, Root, Arrive}
 use Rattle.fabric_core.specs.Events.{StepsTo}
 use Rattle.fabric_core.specs.World.{World}
 
@@ -22,6 +22,7 @@ begins_of [] = []
 begins_of (entry.Submit f b ∷ journal) = (f, b) ∷ begins_of journal
 begins_of (entry.Refuse n ∷ journal) = begins_of journal
 begins_of (entry.Carry n ∷ journal) = begins_of journal
+begins_of (entry.Deliver n ∷ journal) = begins_of journal
 
 abbrev pub accepted_one : Event → Outcome → List (ℕ × List ℕ)
 accepted_one (Submit f b) Moved = (f, b) ∷ []
@@ -29,6 +30,7 @@ accepted_one (Submit f b) Idle = []
 accepted_one (Submit f b) (Refused fault) = []
 accepted_one (Submit f b) NoMemory = []
 accepted_one (Root class) outcome = []
+accepted_one (Arrive function class) outcome = []
 
 -- the submits that were accepted, in their order
 abbrev pub accepted : List Event → List Outcome → List (ℕ × List ℕ)

@@ -8,4 +8,6 @@ pub enum Event {
     Submit(Bdf, PacketBytes),
     /// The host takes a packet of this class.
     Root(Class),
+    /// This function takes a packet of this class.
+    Arrive(Bdf, Class),
 }

@@ -1,16 +1,17 @@
 //! The fabric: what each event does, and runs over lists of events.
 
-ghost use Rattle.std.specs.Prelude.{◌≡◌, ◌==◌, ◌++◌, Some, None, [], IfOk, IfErr, OnErr, ◌≤◌, ◌<◌, vec_len, vec_capacity, insert, if◌then◌else◌};
-ghost use Rattle.fabric_core.specs.declared.event.Event.TheVariants.{Root, Submit};
-ghost use Rattle.fabric_core.specs.Events.{Ends, Stays, StepsTo, world};
+ghost use Rattle.std.specs.Prelude.{◌≡◌, ◌==◌, ◌+◌, ◌++◌, List, Some, None, [], IfOk, IfErr, OnErr, ◌≤◌, ◌<◌, length, vec_len, vec_capacity, insert, if◌then◌else◌};
+ghost use Rattle.frame_log.specs.Descriptor.{Descriptor};
+ghost use Rattle.fabric_core.specs.declared.event.Event.TheVariants.{Arrive, Root, Submit};
+ghost use Rattle.fabric_core.specs.Events.{Ends, Stays, StepsTo, end_entry, world};
 ghost use Rattle.std.specs.Option.{option_copied};
-ghost use Rattle.fab_types.specs.declared.class.Class.TheVariants.{Posted};
+ghost use Rattle.fab_types.specs.declared.class.Class.TheVariants.{Completion};
 ghost use Rattle.layout.specs.First.{first_share};
 ghost use Rattle.domain.specs.Machine.{replay};
 ghost use Rattle.domain.specs.State.{start_state};
 
 use crate::event::Event;
-use crate::queue::oldest_posted;
+use crate::queue::{eligible_head, oldest_for};
 use domain::{Domain, Fate};
 use fab_types::{Bdf, BeginFault, Class, DomainId, NoMemory, Outcome, PortId, SubmitFault};
 use frame_log::{Frame, FrameFault, Log, PacketBytes};
@@ -26,8 +27,8 @@ fn only_port() -> PortId {
 
 /// Has the packet stopped by its sender's first port or carried by the host, as its fate is.
 fn end<R: Wait>(rt: &R, domain: &mut Domain, frame: Frame) -> Result<Option<Frame>, FrameFault>
-    ensures ok { IfOk result (λ sent. Ends domain.old frame domain.new sent) }
-    ensures fault { IfErr result (λ fault. Stays domain.old frame fault) }
+    ensures ok { IfOk result (λ sent. Ends domain.old frame (end_entry domain.old frame.number) domain.new sent) }
+    ensures fault { IfErr result (λ fault. Stays domain.old frame (end_entry domain.old frame.number) fault) }
     ensures err { OnErr result (domain.new ≡ domain.old) }
 {
     match domain.fate(frame.number()) {
@@ -42,7 +43,8 @@ fn end<R: Wait>(rt: &R, domain: &mut Domain, frame: Frame) -> Result<Option<Fram
 fn put_back(frames: &mut Vec<Frame>, index: usize, frame: Frame)
     requires within { index ≤ vec_len frames.old }
     requires room { vec_len frames.old < vec_capacity frames.old }
-    ensures { frames.new.items ≡ insert frames.old.items index frame }
+    ensures value { frames.new.items ≡ insert frames.old.items index frame }
+    ensures capacity { vec_capacity frames.new ≡ vec_capacity frames.old }
 {
     match frames.insert(index, frame) {
         Ok(()) => {}
@@ -50,18 +52,27 @@ fn put_back(frames: &mut Vec<Frame>, index: usize, frame: Frame)
     }
 }
 
-/// The host takes the oldest posted packet that waits.
-fn root<R: Wait>(rt: &R, domain: &mut Domain, outbox: &mut Vec<Frame>) -> Outcome
-    ensures { StepsTo (world domain.old outbox.old.items) (Root Posted) result (world domain.new outbox.new.items) }
+/// The host takes a packet of this class that waits, and what answers it arrives.
+fn root<R: Wait>(
+    rt: &R,
+    domain: &mut Domain,
+    outbox: &mut Vec<Frame>,
+    arriving: &mut Vec<Frame>,
+    class: Class,
+) -> Outcome
+    requires { length outbox.old.items + length arriving.old.items ≤ vec_capacity arriving.old }
+    ensures step { StepsTo (world domain.old outbox.old.items arriving.old.items) (Root class) result (world domain.new outbox.new.items arriving.new.items) }
+    ensures outbox { vec_capacity outbox.new ≡ vec_capacity outbox.old }
+    ensures arriving { vec_capacity arriving.new ≡ vec_capacity arriving.old }
 {
-    let Some(index) = oldest_posted(outbox) else {
+    let Some(index) = eligible_head(outbox, class) else {
         return Outcome::Idle;
     };
     let frame = outbox.remove(index);
     match end(rt, domain, frame) {
         Ok(None) => Outcome::Moved,
         Ok(Some(sent)) => {
-            outbox.push_reserved(sent);
+            arriving.push_reserved(sent);
             Outcome::Moved
         }
         Err(FrameFault::Stray(frame)) => {
@@ -75,11 +86,32 @@ fn root<R: Wait>(rt: &R, domain: &mut Domain, outbox: &mut Vec<Frame>) -> Outcom
     }
 }
 
-/// A fabric: its domain, and the packets that wait in outboxes. A contract sees a `World`.
+/// A function takes a completion that arrives there.
+fn arrive(domain: &mut Domain, arriving: &mut Vec<Frame>, function: Bdf) -> Outcome
+    ensures step { (waiting : List Descriptor) → StepsTo (world domain.old waiting arriving.old.items) (Arrive function Completion) result (world domain.new waiting arriving.new.items) }
+    ensures arriving { vec_capacity arriving.new ≡ vec_capacity arriving.old }
+{
+    let Some(index) = oldest_for(arriving, function) else {
+        return Outcome::Idle;
+    };
+    let frame = arriving.remove(index);
+    match domain.deliver(frame) {
+        Ok(_) => Outcome::Moved,
+        Err(FrameFault::Stray(frame)) => {
+            put_back(arriving, index, frame);
+            Outcome::Idle
+        }
+        Err(FrameFault::NoMemory(_)) => unreachable!(),
+    }
+}
+
+/// A fabric: its domain, the packets that wait in outboxes, and the completions that arrive at
+/// functions. A contract sees a `World`.
 #[derive(Drop)]
 pub struct Fabric {
     domain: Domain,
     outbox: Vec<Frame>,
+    arriving: Vec<Frame>,
 }
 
 impl Model for Fabric {
@@ -87,7 +119,11 @@ impl Model for Fabric {
 
     ghost Value = { World };
 
-    ghost view = { λ f. record { domain = f.domain; waiting = f.outbox.items } };
+    ghost use Rattle.fabric_core.specs.Kept.{world_of, Kept};
+
+    ghost view = { world_of };
+
+    ghost invariant = { Kept };
 }
 
 impl Fabric {
@@ -96,13 +132,15 @@ impl Fabric {
     /// The smallest fabric: domain 1 with function 03:00.0, whose page 1 is mapped to frame 0. It
     /// answers `NoMemory` where memory was refused.
     pub fn first(alloc: Global) -> Result<Fabric, NoMemory>
-        ensures { IfOk result (λ fabric. fabric ≡ record { domain = record { share = first_share; state = start_state first_share; journal = [] }; waiting = [] }) }
+        ensures { IfOk result (λ fabric. fabric ≡ record { domain = record { share = first_share; state = start_state first_share; journal = [] }; waiting = []; arriving = [] }) }
     {
         let start = Start::first(alloc)?;
+        let room = start.budget() as usize;
         let log = Arc::new(alloc, Log::new(alloc)?)?;
         Ok(Fabric {
             domain: Domain::new(alloc, &start, log)?,
-            outbox: Vec::new(alloc),
+            outbox: Vec::with_capacity(alloc, room)?,
+            arriving: Vec::with_capacity(alloc, room)?,
         })
     }
 
@@ -118,24 +156,22 @@ impl Fabric {
     }
 
     /// Makes one event, and says what came of it. `Moved`: the fabric did what the event does. `Idle`:
-    /// there was nothing to take. `Refused`: the domain refused the begin. `NoMemory`: memory was
-    /// refused. All but `Moved` change nothing.
+    /// there was nothing to take. `Refused`: the domain refused the begin. `NoMemory`: the event would
+    /// move something, but memory was refused. All but `Moved` change nothing.
     pub fn step<R: Wait>(&mut self, rt: &R, event: &Event) -> Outcome
         ensures { StepsTo self.old event.now result self.new }
     {
         match event {
             Event::Submit(function, bytes) => self.submit(rt, *function, bytes),
-            Event::Root(Class::Posted) => self.root_posted(rt),
-            Event::Root(_) => Outcome::Idle,
+            Event::Root(class) => self.root(rt, *class),
+            Event::Arrive(function, Class::Completion) => self.arrive(*function),
+            Event::Arrive(..) => Outcome::Idle,
         }
     }
 
     fn submit<R: Wait>(&mut self, rt: &R, function: Bdf, bytes: &PacketBytes) -> Outcome
         ensures { StepsTo self.old (Submit function bytes.now) result self.new }
     {
-        if self.outbox.reserve(1).is_err() {
-            return Outcome::NoMemory;
-        }
         match self.domain.submit(rt, function, bytes.as_slice()) {
             Ok(frame) => {
                 self.outbox.push_reserved(frame);
@@ -146,10 +182,24 @@ impl Fabric {
         }
     }
 
-    fn root_posted<R: Wait>(&mut self, rt: &R) -> Outcome
-        ensures { StepsTo self.old (Root Posted) result self.new }
+    fn root<R: Wait>(&mut self, rt: &R, class: Class) -> Outcome
+        ensures { StepsTo self.old (Root class) result self.new }
     {
-        root(rt, &mut self.domain, &mut self.outbox)
+        // It tells that the journal's replay is the state, and so how many begins there were.
+        let _ = self.domain.journal();
+        root(
+            rt,
+            &mut self.domain,
+            &mut self.outbox,
+            &mut self.arriving,
+            class,
+        )
+    }
+
+    fn arrive(&mut self, function: Bdf) -> Outcome
+        ensures { StepsTo self.old (Arrive function Completion) result self.new }
+    {
+        arrive(&mut self.domain, &mut self.arriving, function)
     }
 
     /// Makes the events in turn, and says what came of each. It answers `NoMemory` where memory for

@@ -3,6 +3,7 @@
 
 mod lines;
 mod owners;
+mod reach;
 mod start;
 
 pub use lines::{Access, FunctionLine, MapLine, MapTarget, PortLine, Rights, SwitchLine};

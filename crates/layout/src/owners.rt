@@ -35,7 +35,7 @@ fn owner_of_bus(ports: &[PortLine], bus: u8) -> Option<DomainId>
         .map(|port| port.owner)
 }
 
-fn port_above(ports: &[PortLine], bus: u8) -> Option<&PortLine>
+pub(crate) fn port_above(ports: &[PortLine], bus: u8) -> Option<&PortLine>
     ensures { option_copied result ≡ find (λ port. port.secondary == bus) ports.now }
 {
     ports.iter().find(|port| port.secondary == bus)

@@ -16,7 +16,7 @@ use Rattle.pciefab.specs.Report.{memory_lines, refusal_line}
 
 -- the smallest fabric at its start
 abbrev pub first_world : World
-first_world = record { domain = record { share = first_share; state = start_state first_share; journal = [] }; waiting = [] }
+first_world = record { domain = record { share = first_share; state = start_state first_share; journal = [] }; waiting = []; arriving = [] }
 
 -- function 03:00.0 submits the bytes, and the host takes a posted packet
 abbrev pub first_events : List ℕ → List Event

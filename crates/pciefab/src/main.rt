@@ -11,6 +11,8 @@ mod packet_word;
 mod program;
 mod report;
 #[cfg(test)]
+mod scenes;
+#[cfg(test)]
 mod tests;
 
 use files::HostFiles;

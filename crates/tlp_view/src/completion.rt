@@ -1,6 +1,6 @@
 //! Completions that answer a request (PCIe 4.0, 2.2.9 and 2.3.1).
 
-ghost use Rattle.std.specs.Prelude.{◌≡◌, ◌<◌, ◌≤◌, ◌*◌, ◌^◌, [], ◌++◌, replicate};
+ghost use Rattle.std.specs.Prelude.{◌≡◌, ◌<◌, ◌≤◌, ◌*◌, ◌^◌, [], ◌++◌, length, replicate};
 ghost use Rattle.tlp_view.specs.Spelling.{word, header, status_bits};
 ghost use Rattle.tlp_view.specs.Completions.{completion, HeadFits, first_place, last_end, byte_count, lower_address};
 
@@ -194,6 +194,7 @@ impl CplBuf {
     pub fn bytes(&self) -> &[u8]
         ensures spelled { Spells result.now self.now }
         ensures value { result.now ≡ completion_bytes self.now }
+        ensures short { length result.now ≤ 268 }
     {
         &self.cells.xs[..12 + self.len]
     }

@@ -159,8 +159,9 @@ impl<'a> TlpView<'a> {
         }
     }
 
-    /// The Length field in DW, also where the kind has none.
-    pub(crate) fn dw_length(&self) -> u16
+    /// The Length field in DW, in which 0 stands for 1,024. Where the kind has no Length it is what stands
+    /// in the field's place.
+    pub fn dw_length(&self) -> u16
         ensures value { result ≡ dw_count self.now.length }
         ensures some { 0 < result }
     {

@@ -1,8 +1,8 @@
-use Rattle.std.proofs.Common.{◌≡◌, ℕ, List, length, ap, sym, subst, ◌∙◌}
+use Rattle.std.proofs.Common.{◌≡◌, length, ap, sym, subst, ◌∙◌}
 use Rattle.std.specs.List.{AllByRecursion}
 use Rattle.tlp_view.specs.Runs.{runs}
 use Rattle.domain.proofs.PageFits.{IsWithin, runs-within}
-use Rattle.domain.specs.Carries.{stored}
+use Rattle.domain.specs.Ends.{stored}
 use Rattle.domain.proofs.state.write_runs.Goals as goal
 
 pub loop-offset-init : goal.loop-offset-init

@@ -2,7 +2,7 @@ use Rattle.std.proofs.Common.{◌≡◌, ◌+◌, ◌≤◌, length}
 use Rattle.std.specs.List.{AllByRecursion}
 use Rattle.tlp_view.specs.Runs.{runs}
 use Rattle.domain.proofs.PageFits.{IsWithin}
-use Rattle.domain.specs.Carries.{stored}
+use Rattle.domain.specs.Ends.{stored}
 use Rattle.domain.proofs.state.write_runs.Given as goal
 
 -- what is left to be stored gives the whole

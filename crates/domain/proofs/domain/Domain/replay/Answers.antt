@@ -1,4 +1,4 @@
-use Rattle.std.proofs.Common.{◌≡◌, None, sym, subst}
+use Rattle.std.proofs.Common.{◌≡◌, None, subst}
 use Rattle.layout.specs.Share.{Share}
 use Rattle.domain.specs.Machine.{change}
 use Rattle.domain.proofs.Replaying.{replay_stops, there_is}

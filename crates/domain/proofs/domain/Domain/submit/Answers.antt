@@ -1,10 +1,7 @@
-use Rattle.std.proofs.Common.{◌≡◌, ℕ, ◌*◌, ◌<◌, List, length, None, ap, refl, sym, ◌∙◌, subst, arith}
+use Rattle.std.proofs.Common.{ℕ, ◌*◌, ◌<◌, length, ap, refl, ◌∙◌, arith}
 use Rattle.domain.specs.declared.entry.Entry.TheVariants.{Submit}
-use Rattle.domain.specs.Domains.{DomainView}
 use Rattle.domain.specs.Heads.{descriptor_of}
 use Rattle.domain.specs.Kept.{view_of}
-use Rattle.domain.specs.State.{Alone}
-use Rattle.domain.specs.Submits.{submit_fault}
 use Rattle.domain.proofs.Keeping.{upward, makes_seen, replays_more, submit_legal, submit_copied, not_refused, journal_room, makes_submit}
 use Rattle.domain.proofs.domain.Domain.submit.Goals as goal
 

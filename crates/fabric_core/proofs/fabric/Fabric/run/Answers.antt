@@ -1,4 +1,4 @@
-use Rattle.std.proofs.Common.{length, arith}
+use Rattle.std.proofs.Common.{arith}
 use Rattle.fabric_core.proofs.Running.{run_begins, run_next, run_whole}
 use Rattle.fabric_core.proofs.fabric.Fabric.run.Goals as goal
 

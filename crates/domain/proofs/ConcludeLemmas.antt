@@ -1,0 +1,77 @@
+-- A packet that is answered and ends, and Tags that are closed.
+use Rattle.std.proofs.Common.{◌≡◌, ℕ, ◌+◌, ◌≤◌, Bool, true, false, cond, ◌||◌, ◌&&◌, not, ◌==◌, List, [], ◌∷◌, ◌++◌, length, Option, Some, None, refl, sym, ap, ◌∙◌, arith, length-append}
+use Rattle.std.specs.Prelude.{filter}
+use Rattle.std.specs.List.{list_any}
+use Rattle.std.specs.Option.{IsSome}
+use Rattle.fab_types.specs.declared.place.Origin.{Origin}
+use Rattle.tlp_view.specs.Bytes.{packet_of}
+use Rattle.tlp_view.specs.Runs.{runs}
+use Rattle.domain.proofs.FlightLemmas.{clear_push, item_push}
+use Rattle.domain.specs.declared.ending.Deed.{Deed}
+use Rattle.domain.specs.declared.ending.Deed.TheVariants.{Leave, Block, Store}
+use Rattle.domain.specs.declared.tags.OpenTag.{OpenTag}
+use Rattle.domain.specs.Deliveries.{closed}
+use Rattle.domain.specs.Ends.{DeedFits, blocked, done, replied, with_stored}
+use Rattle.domain.specs.State.{Alone, Delivery, Emission, item_at, without}
+use Rattle.domain.specs.Tags.{is_open, same_origin}
+
+abbrev pub with_flight : Alone → List (Option Emission) → Alone
+with_flight s flight = record { frames = s.frames; registers = s.registers; open_tags = s.open_tags; deliveries = s.deliveries; counts = s.counts; flight = flight }
+
+-- ---- the reply is put into flight before the packet leaves it
+
+pub item_replied : (s : Alone) (o : Option Emission) (n : ℕ) → IsSome (item_at s.flight n) → item_at (replied s o).flight n ≡ item_at s.flight n
+item_replied s None n h = refl
+item_replied s (Some x) n h = item_push s.flight (Some x) n h
+
+ended_answered : (s : Alone) (o : Option Emission) (n : ℕ) (bytes : List ℕ) (d : Deed) → IsSome (item_at s.flight n) → without (done (replied s o) bytes d) n ≡ replied (done (without s n) bytes d) o
+ended_answered s None n bytes Leave h = refl
+ended_answered s None n bytes Block h = refl
+ended_answered s None n bytes (Store k first) h = refl
+ended_answered s (Some x) n bytes Leave h = ap (with_flight s) (clear_push s.flight (Some x) n h)
+ended_answered s (Some x) n bytes Block h = ap (with_flight (blocked s)) (clear_push s.flight (Some x) n h)
+ended_answered s (Some x) n bytes (Store k first) h = ap (with_flight (with_stored s k first (runs (packet_of bytes)))) (clear_push s.flight (Some x) n h)
+
+pub concludes : (s t u : Alone) (o : Option Emission) (n : ℕ) (e : Emission) (d : Deed) → IsSome (item_at s.flight n) → item_at s.flight n ≡ Some e → t ≡ replied s o
+    → ((x : Emission) → item_at t.flight n ≡ Some x → u ≡ done t x.bytes d) → without u n ≡ replied (done (without s n) e.bytes d) o
+concludes s t u o n e d h is sent does =
+    let there : item_at t.flight n ≡ Some e = ap (λ (v : Alone). item_at v.flight n) sent ∙ (item_replied s o n h ∙ is) in
+    ap (λ (v : Alone). without v n) (does e there ∙ ap (λ (v : Alone). done v e.bytes d) sent) ∙ ended_answered s o n e.bytes d h
+
+pub fits_after : (s t : Alone) (o : Option Emission) (n : ℕ) (d : Deed) (e : Emission) → IsSome (item_at s.flight n) → t ≡ replied s o → ((x : Emission) → item_at s.flight n ≡ Some x → DeedFits x.bytes d)
+    → item_at t.flight n ≡ Some e → DeedFits e.bytes d
+fits_after s t o n d e h sent fits is = fits e (sym (item_replied s o n h) ∙ (ap (λ (v : Alone). item_at v.flight n) (sym sent) ∙ is))
+
+pub unblocked : (s t : Alone) (o : Option Emission) → t ≡ replied s o → t.counts ≡ s.counts
+unblocked s t None sent = ap (λ (v : Alone). v.counts) sent
+unblocked s t (Some x) sent = ap (λ (v : Alone). v.counts) sent
+
+-- ---- an open Tag that is closed gives its room to a record
+
+no_more : {X : Type 0} (p : X → Bool) (xs : List X) → length (filter p xs) ≤ length xs
+no_more p [] = omega arith
+no_more p (x ∷ xs) = by (p x) (filter p xs) (no_more p xs) where
+  by : (b : Bool) (ys : List _) → length ys ≤ length xs → length (cond b (x ∷ ys) ys) ≤ length (x ∷ xs)
+  by true ys le = omega (arith, le)
+  by false ys le = omega (arith, le)
+
+fewer_by : {X : Type 0} (b rest : Bool) (x : X) (ys : List X) (m : ℕ) → (b || rest) ≡ true → (rest ≡ true → length ys + 1 ≤ m) → length ys ≤ m → length (cond (not b) (x ∷ ys) ys) + 1 ≤ m + 1
+fewer_by true rest x ys m h of le = omega (arith, le)
+fewer_by false rest x ys m h of le = omega (arith, of h)
+
+fewer : {X : Type 0} (p : X → Bool) (xs : List X) → list_any p xs ≡ true → length (filter (λ x. not (p x)) xs) + 1 ≤ length xs
+fewer p [] h = absurd cc
+fewer p (x ∷ xs) h =
+    let le = fewer_by (p x) (list_any p xs) x (filter (λ y. not (p y)) xs) (length xs) h (fewer p xs) (no_more (λ y. not (p y)) xs) in omega (arith, le)
+
+pub room_closed : (tags : List OpenTag) (owner : Origin) (tag : ℕ) → is_open tags owner tag ≡ true → length (closed tags owner tag) + 1 ≤ length tags
+room_closed tags owner tag h = fewer (λ (t : OpenTag). same_origin t.owner owner && (t.tag == tag)) tags h
+
+pub room_recorded : (tags tags' : List OpenTag) (rs rs' : List Delivery) (d : Delivery) (owner : Origin) (tag cap : ℕ) → is_open tags d.owner d.tag ≡ true → length tags + length rs ≤ cap
+    → owner ≡ d.owner → tag ≡ d.tag → tags' ≡ closed tags owner tag → rs' ≡ rs ++ d ∷ [] → length tags' + length rs' ≤ cap
+room_recorded tags tags' rs rs' d owner tag cap opened room owner_is tag_is shut grown =
+    let same : tags' ≡ closed tags d.owner d.tag = shut ∙ (ap (λ (o : Origin). closed tags o tag) owner_is ∙ ap (closed tags d.owner) tag_is) in
+    let fewer : length (closed tags d.owner d.tag) + 1 ≤ length tags = room_closed tags d.owner d.tag opened in
+    let now : length tags' ≡ length (closed tags d.owner d.tag) = ap length same in
+    let more : length rs' ≡ length rs + 1 = ap length grown ∙ length-append rs (d ∷ []) in
+    omega (arith, fewer, now, more, room)

@@ -1,0 +1,179 @@
+-- How a packet in flight ends is what the machine says of its entry.
+use Rattle.std.proofs.Common.{◌≡◌, ℕ, ◌/◌, Bool, true, false, cond, List, Option, Some, None, refl, sym, ap, ◌∙◌, subst}
+use Rattle.std.specs.Prelude.{nat_lt, option_map}
+use Rattle.fab_types.specs.declared.faults.malformed.Malformed.{Malformed}
+use Rattle.fab_types.specs.declared.head.Parties.{Parties}
+use Rattle.fab_types.specs.declared.head.Parties.TheVariants.{Upward, Downward, Answer}
+use Rattle.layout.specs.declared.lines.Access.TheVariants.{Read, Write}
+use Rattle.layout.specs.declared.lines.MapTarget.{MapTarget}
+use Rattle.layout.specs.declared.lines.MapTarget.TheVariants.{Frame, Peer}
+use Rattle.layout.specs.declared.lines.PortLine.{PortLine}
+use Rattle.layout.specs.Owners.{first_port}
+use Rattle.layout.specs.Share.{Share}
+use Rattle.layout.specs.Tables.{target_of}
+use Rattle.tlp_view.specs.Bytes.{packet_of}
+use Rattle.tlp_view.specs.Malformed.{malformed}
+use Rattle.tlp_view.specs.Packet.{Packet, dw_count}
+use Rattle.tlp_view.specs.Runs.{is_write}
+use Rattle.domain.proofs.PageFits.{write_in_page}
+use Rattle.domain.specs.declared.ending.Deed.TheVariants.{Leave}
+use Rattle.domain.specs.declared.ending.Ending.{Ending}
+use Rattle.domain.specs.declared.entry.Entry.TheVariants.{Carry, Deliver, Refuse}
+use Rattle.domain.specs.declared.fate.Fate.{Fate}
+use Rattle.domain.specs.declared.fate.Fate.TheVariants.{Vanish, Refused, ToHost}
+use Rattle.domain.specs.Answers.{address_of, host_refusal}
+use Rattle.domain.specs.Carries.{carriage_by, carriage_end, carriage_of, is_carried, port_id, read_from, refusal_by, refusal_end, refusal_of, serve, serve_read, write_to}
+use Rattle.domain.specs.Domains.{DomainView, EndsBy}
+use Rattle.domain.specs.Ends.{DeedFits, conclude}
+use Rattle.domain.specs.Fates.{fate, fate_at, fate_below, fate_unless, packet_fate}
+use Rattle.domain.specs.Machine.{carry, change, ended, refuse}
+use Rattle.domain.specs.State.{Alone, Change, Emission, emits_nothing, item_at, without}
+use Rattle.domain.specs.declared.deliver.Arrival.{Arrival}
+use Rattle.domain.specs.declared.tags.OpenTag.{OpenTag}
+use Rattle.domain.specs.Deliveries.{arrival, arrived}
+
+abbrev some : {A : Type 0} → A → Option A
+some x = Some x
+
+some_is : {A : Type 0} (x y : A) → some x ≡ some y → x ≡ y
+some_is x y e = cc
+
+-- ---- what goes on to the host is well formed
+
+well_unless : (m : Option Malformed) (port : PortLine) (b : List ℕ) → fate_unless m port b ≡ ToHost → m ≡ None
+well_unless None port b e = refl
+well_unless (Some cause) port b e = absurd cc
+
+well_below : (o : Option PortLine) (b : List ℕ) → fate_below o b ≡ ToHost → malformed b ≡ None
+well_below None b e = absurd cc
+well_below (Some port) b e = well_unless (malformed b) port b e
+
+-- what a port lets go on is carried by its fate there
+pub past_port : (share : Share) (frames : List (ℕ × List ℕ)) (port : PortLine) (b : List ℕ) (t : Packet) (r : Fate) → malformed b ≡ None → t ≡ packet_of b → r ≡ packet_fate port t → r ≡ ToHost
+    → cond (is_carried share t) (serve share frames t) None ≡ carriage_by share frames b (fate_at port b)
+past_port share frames port b t r good same is to =
+    let on : fate_at port b ≡ ToHost = ap (λ (m : Option Malformed). fate_unless m port b) good ∙ (ap (packet_fate port) (sym same) ∙ (sym is ∙ to)) in
+    ap (λ (u : Packet). cond (is_carried share u) (serve share frames u) None) same ∙ ap (carriage_by share frames b) (sym on)
+
+-- ---- what is written lies within a page
+
+-- the deed of an end
+abbrev Fits : List ℕ → Ending → Type 0
+Fits b a = DeedFits b a.deed
+
+refusal_by_fits : (port f : ℕ) (b : List ℕ) (g : Fate) (a : Ending) → refusal_by port f b g ≡ Some a → Fits b a
+refusal_by_fits port f b Vanish a e = subst (Fits b) (some_is _ a e) tt
+refusal_by_fits port f b (Refused status) a e = subst (Fits b) (some_is _ a e) tt
+refusal_by_fits port f b ToHost a e = absurd cc
+
+refusal_fits : (share : Share) (b : List ℕ) (p : Parties) (a : Ending) → refusal_of share b p ≡ Some a → Fits b a
+refusal_fits share b (Upward f) a e = refusal_by_fits (port_id (first_port share.ports f)) f b (fate share.ports f b) a e
+refusal_fits share b (Downward g) a e = absurd cc
+refusal_fits share b (Answer by x) a e = absurd cc
+
+write_fits : (b : List ℕ) (target : Option MapTarget) (a : Ending) → malformed b ≡ None → is_write (packet_of b).kind ≡ true → write_to (packet_of b) target ≡ Some a → Fits b a
+write_fits b None a good w e = subst (Fits b) (some_is _ a e) tt
+write_fits b (Some (Frame k)) a good w e = subst (Fits b) (some_is _ a e) (good, write_in_page b good w)
+write_fits b (Some (Peer g)) a good w e = absurd cc
+
+read_fits : (share : Share) (frames : List (ℕ × List ℕ)) (b : List ℕ) (t : Packet) (target : Option MapTarget) (a : Ending) → read_from share frames t target ≡ Some a → Fits b a
+read_fits share frames b t None a e = subst (Fits b) (some_is _ a e) tt
+read_fits share frames b t (Some (Frame k)) a e = subst (Fits b) (some_is _ a e) tt
+read_fits share frames b t (Some (Peer g)) a e = absurd cc
+
+-- whichever of two it is
+either_fits : (c : Bool) (x y : Option Ending) (b : List ℕ) (a : Ending) → (c ≡ true → x ≡ Some a → Fits b a) → (y ≡ Some a → Fits b a) → cond c x y ≡ Some a → Fits b a
+either_fits true x y b a of_x of_y e = of_x refl e
+either_fits false x y b a of_x of_y e = of_y e
+
+none_fits : (b : List ℕ) (a : Ending) (o : Option Ending) → o ≡ None → o ≡ Some a → Fits b a
+none_fits b a o none e = absurd cc
+
+serve_read_fits : (share : Share) (frames : List (ℕ × List ℕ)) (b : List ℕ) (t : Packet) (a : Ending) → serve_read share frames t ≡ Some a → Fits b a
+serve_read_fits share frames b t a e =
+    let target = target_of share.maps t.requester (address_of t / 4096) Read in
+    either_fits (nat_lt 64 (dw_count t.length)) (Some (record { deed = Leave; reply = Some (host_refusal share t) })) (read_from share frames t target) b a
+    (λ long is. subst (Fits b) (some_is _ a is) tt) (read_fits share frames b t target a) e
+
+carriage_by_fits : (share : Share) (frames : List (ℕ × List ℕ)) (b : List ℕ) (g : Fate) (a : Ending) → (g ≡ ToHost → malformed b ≡ None) → carriage_by share frames b g ≡ Some a → Fits b a
+carriage_by_fits share frames b Vanish a good e = absurd cc
+carriage_by_fits share frames b (Refused status) a good e = absurd cc
+carriage_by_fits share frames b ToHost a good e =
+    let t = packet_of b in
+    let target = target_of share.maps t.requester (address_of t / 4096) Write in
+    either_fits (is_carried share t) (serve share frames t) None b a
+    (λ carried. either_fits (is_write t.kind) (write_to t target) (serve_read share frames t) b a (write_fits b target a (good refl)) (serve_read_fits share frames b t a))
+    (none_fits b a None refl) e
+
+carriage_fits : (share : Share) (frames : List (ℕ × List ℕ)) (b : List ℕ) (p : Parties) (a : Ending) → carriage_of share frames b p ≡ Some a → Fits b a
+carriage_fits share frames b (Upward f) a e = carriage_by_fits share frames b (fate share.ports f b) a (well_below (first_port share.ports f) b) e
+carriage_fits share frames b (Downward g) a e = absurd cc
+carriage_fits share frames b (Answer by x) a e = absurd cc
+
+-- ---- a packet in flight
+
+record Ends (s : Alone) (n : ℕ) (o : Option Emission) (a : Ending) (made : Option Change) : Type 0 where
+  emission : Emission
+  waits : o ≡ Some emission
+  fits : DeedFits emission.bytes a.deed
+  made_is : made ≡ Some (conclude s n emission.bytes a)
+
+ended_with : (s : Alone) (n : ℕ) (e : Emission) (a : Ending) (r : Option Ending) → r ≡ Some a → ended s n (Some e) r ≡ Some (conclude s n e.bytes a)
+ended_with s n e a r is = ap (ended s n (Some e)) is
+
+refuses : (share : Share) (s : Alone) (n : ℕ) (o : Option Emission) (a : Ending) → refusal_end share o ≡ Some a → Ends s n o a (refuse share s n o)
+refuses share s n None a is = absurd cc
+refuses share s n (Some e) a is = record {
+  emission = e;
+  waits = refl;
+  fits = refusal_fits share e.bytes e.parties a is;
+  made_is = ended_with s n e a (refusal_end share (Some e)) is;
+}
+
+carries : (share : Share) (s : Alone) (n : ℕ) (o : Option Emission) (a : Ending) → carriage_end share s.frames o ≡ Some a → Ends s n o a (carry share s n o)
+carries share s n None a is = absurd cc
+carries share s n (Some e) a is = record {
+  emission = e;
+  waits = refl;
+  fits = carriage_fits share s.frames e.bytes e.parties a is;
+  made_is = ended_with s n e a (carriage_end share s.frames (Some e)) is;
+}
+
+pub refused_ends : (v : DomainView) (n : ℕ) (r : Option Ending) (a : Ending) → r ≡ Some a → r ≡ refusal_end v.share (item_at v.state.flight n) → EndsBy v (Refuse n) n a
+refused_ends v n r a some is =
+    let h = refuses v.share v.state n (item_at v.state.flight n) a (sym is ∙ some) in record { emission = h.emission; waits = h.waits; fits = h.fits; step = h.made_is }
+
+pub carried_ends : (v : DomainView) (n : ℕ) (r : Option Ending) (a : Ending) → r ≡ Some a → r ≡ carriage_end v.share v.state.frames (item_at v.state.flight n) → EndsBy v (Carry n) n a
+carried_ends v n r a some is =
+    let h = carries v.share v.state n (item_at v.state.flight n) a (sym is ∙ some) in record { emission = h.emission; waits = h.waits; fits = h.fits; step = h.made_is }
+
+-- ---- where it doesn't end so, the entry is illegal
+
+none_ended : (s : Alone) (n : ℕ) (o : Option Emission) (r : Option Ending) → r ≡ None → ended s n o r ≡ None
+none_ended s n None r is = refl
+none_ended s n (Some e) r is = ap (ended s n (Some e)) is
+
+pub not_refused_here : (v : DomainView) (n : ℕ) (r : Option Ending) → r ≡ None → r ≡ refusal_end v.share (item_at v.state.flight n) → change v.share v.state (Refuse n) ≡ None
+not_refused_here v n r none is = none_ended v.state n (item_at v.state.flight n) (refusal_end v.share (item_at v.state.flight n)) (sym is ∙ none)
+
+pub not_carried : (v : DomainView) (n : ℕ) (r : Option Ending) → r ≡ None → r ≡ carriage_end v.share v.state.frames (item_at v.state.flight n) → change v.share v.state (Carry n) ≡ None
+not_carried v n r none is = none_ended v.state n (item_at v.state.flight n) (carriage_end v.share v.state.frames (item_at v.state.flight n)) (sym is ∙ none)
+
+-- ---- a completion that is delivered
+
+pub record Waits (o : Option Emission) : Type 0 where
+  pub emission : Emission
+  pub is : o ≡ Some emission
+
+waits_if : (tags : List OpenTag) (o : Option Emission) (a : Arrival) → arrival tags o ≡ Some a → Waits o
+waits_if tags None a e = absurd cc
+waits_if tags (Some e) a is = record { emission = e; is = refl }
+
+-- what is delivered was in flight
+pub delivered_waits : (s : Alone) (n : ℕ) (r : Option Arrival) (a : Arrival) → r ≡ Some a → r ≡ arrival s.open_tags (item_at s.flight n) → Waits (item_at s.flight n)
+delivered_waits s n r a some is = waits_if s.open_tags (item_at s.flight n) a (sym is ∙ some)
+
+pub delivered_so : (share : Share) (s t : Alone) (n : ℕ) (r : Option Arrival) (a : Arrival) → r ≡ Some a → r ≡ arrival s.open_tags (item_at s.flight n) → t ≡ arrived (without s n) a
+    → change share s (Deliver n) ≡ Some (record { state = t; emission = None })
+delivered_so share s t n r a some is left =
+    ap (option_map (λ (b : Arrival). emits_nothing (arrived (without s n) b))) (sym is ∙ some) ∙ ap (λ (u : Alone). Some (emits_nothing u)) (sym left)

@@ -1,0 +1,75 @@
+-- What becomes of a completion at the function or host that it goes to (PCIe 4.0, 2.3.2).
+use Rattle.std.specs.Prelude.{ℕ, ◌+◌, ◌==◌, Bool, true, false, ◌&&◌, ◌||◌, not, List, [], ◌∷◌, ◌++◌, filter, Option, Some, None, unwrap_or, if◌then◌else◌}
+use Rattle.fab_types.specs.declared.head.Answerer.{Answerer}
+use Rattle.fab_types.specs.declared.head.Answerer.TheVariants as by
+use Rattle.fab_types.specs.declared.head.Parties.{Parties}
+use Rattle.fab_types.specs.declared.head.Parties.TheVariants.{Upward, Downward, Answer}
+use Rattle.fab_types.specs.declared.place.Origin.{Origin}
+use Rattle.fab_types.specs.declared.status.Status.TheVariants.{SC}
+use Rattle.tlp_view.specs.Bytes.{packet_of}
+use Rattle.tlp_view.specs.Packet.{Packet, status_in}
+use Rattle.domain.specs.declared.deliver.Arrival.{Arrival}
+use Rattle.domain.specs.declared.tags.OpenTag.{OpenTag}
+use Rattle.domain.specs.Heads.{origin_id}
+use Rattle.domain.specs.State.{Alone, Delivery, Emission}
+use Rattle.domain.specs.Tags.{is_open, same_origin}
+
+abbrev pub is_port : Answerer → Bool
+is_port by.Port = true
+is_port by.Host = false
+is_port by.Function = false
+
+abbrev pub delivery_of : Origin → Packet → List ℕ → Delivery
+delivery_of owner t bytes = record { owner = owner; tag = t.tag; status = unwrap_or (status_in t.body) SC; bytes = bytes }
+
+-- awaited is a completion with an open Tag of the addressee; only a port's answer may bear another Requester ID
+abbrev pub is_awaited : List OpenTag → Answerer → Origin → Packet → Bool
+is_awaited tags answerer owner t = is_open tags owner t.tag && (is_port answerer || (t.requester == origin_id owner))
+
+abbrev pub arrival_for : List OpenTag → List ℕ → Answerer → Option Origin → Option Arrival
+arrival_for tags bytes answerer None = None
+arrival_for tags bytes answerer (Some owner) =
+    Some (record { delivery = delivery_of owner (packet_of bytes) bytes; is_awaited = is_awaited tags answerer owner (packet_of bytes) })
+
+abbrev pub arrival_of : List OpenTag → List ℕ → Parties → Option Arrival
+arrival_of tags bytes (Upward function) = None
+arrival_of tags bytes (Downward function) = None
+arrival_of tags bytes (Answer answerer addressee) = arrival_for tags bytes answerer addressee
+
+-- what a packet in flight is to the one that it goes to, if it is a completion for somebody
+abbrev pub arrival : List OpenTag → Option Emission → Option Arrival
+arrival tags None = None
+arrival tags (Some e) = arrival_of tags e.bytes e.parties
+
+-- the open Tags without this one
+abbrev pub closed : List OpenTag → Origin → ℕ → List OpenTag
+closed tags owner tag = filter (λ open_tag. not (same_origin open_tag.owner owner && (open_tag.tag == tag))) tags
+
+-- the Tag is closed, and the completion recorded
+abbrev pub recorded : Alone → Delivery → Alone
+recorded s delivery = record {
+  frames = s.frames;
+  registers = s.registers;
+  open_tags = closed s.open_tags delivery.owner delivery.tag;
+  deliveries = s.deliveries ++ delivery ∷ [];
+  counts = s.counts;
+  flight = s.flight;
+}
+
+-- one more completion that nobody waits for
+abbrev pub unexpected : Alone → Alone
+unexpected s = record {
+  frames = s.frames;
+  registers = s.registers;
+  open_tags = s.open_tags;
+  deliveries = s.deliveries;
+  counts = record { begins = s.counts.begins; blocked = s.counts.blocked; unexpected = s.counts.unexpected + 1 };
+  flight = s.flight;
+}
+
+abbrev pub arrived : Alone → Arrival → Alone
+arrived s a = if a.is_awaited then recorded s a.delivery else unexpected s
+
+-- the record that is made of it, if any
+abbrev pub record_of_arrival : Arrival → Option Delivery
+record_of_arrival a = if a.is_awaited then Some a.delivery else None

@@ -1,0 +1,145 @@
+//! What the host does with a request.
+
+ghost use Rattle.std.specs.Prelude.{◌≡◌, ◌/◌, true, None, if◌then◌else◌};
+ghost use Rattle.fab_types.specs.declared.head.Parties.TheVariants.{Upward};
+ghost use Rattle.tlp_view.specs.Kinds.{is_memory};
+ghost use Rattle.tlp_view.specs.Packet.{dw_count};
+ghost use Rattle.tlp_view.specs.Runs.{is_write};
+ghost use Rattle.domain.specs.Carries.{carriage_by, carriage_of, is_carried, is_owner, serve, serve_read, write_to, read_from};
+ghost use Rattle.layout.specs.Tables.{target_of};
+ghost use Rattle.layout.specs.declared.lines.Access.TheVariants as access;
+ghost use Rattle.domain.specs.Answers.{address_of};
+ghost use Rattle.domain.specs.Fates.{fate_at};
+
+use crate::answers::{host_data, host_refusal};
+use crate::ending::{Deed, Ending};
+use crate::fate::{Fate, is_untranslated, packet_fate};
+use fab_types::{Bdf, DomainId};
+use host_memory::HostMemory;
+use host_table::{HostTable, Target};
+use layout::{Access, PortLine, Start};
+use tlp_view::{Kind, TlpView};
+
+fn is_write(kind: Kind) -> bool
+    ensures { result ≡ is_write kind }
+{
+    matches!(kind, Kind::MWr)
+}
+
+fn is_owner(owner: Option<DomainId>, domain: DomainId) -> bool
+    ensures { result ≡ is_owner owner domain }
+{
+    match owner {
+        Some(owner) => owner == domain,
+        None => false,
+    }
+}
+
+/// Does the request claim no translation, in the name of a requester of this domain?
+fn is_carried(start: &Start, view: &TlpView) -> bool
+    requires { is_memory (view.now).kind ≡ true }
+    ensures { result ≡ is_carried start.now view.now }
+{
+    match view.at() {
+        Some(address_type) => {
+            is_untranslated(address_type) && is_owner(start.owner(view.requester()), start.domain())
+        }
+        None => unreachable!(),
+    }
+}
+
+/// What the host does with a write.
+fn serve_write(table: &HostTable, view: &TlpView) -> Option<Ending>
+    ensures { result ≡ write_to view.now (target_of table.now view.now.requester (address_of view.now / 4096) access.Write) }
+{
+    let address = view.address().unwrap_or(0);
+    let deed = match table.lookup(view.requester(), address / 4096, Access::Write) {
+        Target::Frame(frame) => Deed::Store(frame, (address % 4096) as usize),
+        Target::Peer(_) => return None,
+        Target::None => Deed::Block,
+    };
+    Some(Ending { deed, reply: None })
+}
+
+/// What the host does with a read.
+fn serve_read(
+    start: &Start,
+    table: &HostTable,
+    memory: &HostMemory,
+    view: &TlpView,
+) -> Option<Ending>
+    requires { table.now ≡ (start.now).maps }
+    ensures { result ≡ serve_read start.now memory.now view.now }
+{
+    if view.dw_length() > 64 {
+        return Some(Ending {
+            deed: Deed::Leave,
+            reply: Some(host_refusal(start, view)),
+        });
+    }
+    let page = view.address().unwrap_or(0) / 4096;
+    match table.lookup(view.requester(), page, Access::Read) {
+        Target::Frame(frame) => Some(Ending {
+            deed: Deed::Leave,
+            reply: Some(host_data(start, memory, frame, view)),
+        }),
+        Target::Peer(_) => None,
+        Target::None => Some(Ending {
+            deed: Deed::Block,
+            reply: Some(host_refusal(start, view)),
+        }),
+    }
+}
+
+/// What the host does with a memory request.
+fn carried(start: &Start, table: &HostTable, memory: &HostMemory, view: &TlpView) -> Option<Ending>
+    requires table { table.now ≡ (start.now).maps }
+    requires is_memory { is_memory (view.now).kind ≡ true }
+    ensures { result ≡ (if is_carried start.now view.now then serve start.now memory.now view.now else None) }
+{
+    if !is_carried(start, view) {
+        None
+    } else if is_write(view.kind()) {
+        serve_write(table, view)
+    } else {
+        serve_read(start, table, memory, view)
+    }
+}
+
+/// What the host does with what passes this first port of its sender.
+fn carriage_past(
+    port: &PortLine,
+    start: &Start,
+    table: &HostTable,
+    memory: &HostMemory,
+    bytes: &[u8],
+) -> Option<Ending>
+    requires { table.now ≡ (start.now).maps }
+    ensures { result ≡ carriage_by start.now memory.now bytes.now (fate_at port.now bytes.now) }
+{
+    let Ok(view) = TlpView::read(bytes) else {
+        return None;
+    };
+    match packet_fate(port, &view) {
+        Fate::ToHost => carried(start, table, memory, &view),
+        Fate::Vanish => None,
+        Fate::Refused(_) => None,
+    }
+}
+
+/// What the host does with these bytes of a function.
+pub(crate) fn carriage_of(
+    start: &Start,
+    table: &HostTable,
+    memory: &HostMemory,
+    function: Bdf,
+    bytes: &[u8],
+) -> Option<Ending>
+    requires { table.now ≡ (start.now).maps }
+    ensures { result ≡ carriage_of start.now memory.now bytes.now (Upward function) }
+{
+    match start.first_port(function) {
+        Some(port) => carriage_past(&port, start, table, memory, bytes),
+        None => None,
+    }
+}

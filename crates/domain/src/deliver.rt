@@ -1,0 +1,153 @@
+//! The delivery of a completion to the function or host that it goes to.
+
+ghost use Rattle.std.specs.Prelude.{◌≡◌, ◌≤◌, length, None};
+ghost use Rattle.tlp_view.specs.Malformed.{malformed};
+ghost use Rattle.domain.specs.Deliveries.{arrival_for, delivery_of, is_awaited, is_port, record_of_arrival};
+
+use crate::heads::origin_id;
+use crate::tags::{OpenTag, is_open};
+use arrayvec::ArrayVec;
+use fab_types::{Answerer, Origin, Status};
+use std::marker::Model;
+use tlp_view::TlpView;
+
+/// A completion that was delivered. It holds a copy of the packet in itself. A contract sees a
+/// `Delivery`.
+#[derive(Drop)]
+pub struct Record {
+    owner: Origin,
+    tag: u8,
+    status: Status,
+    bytes: ArrayVec<u8, 272>,
+}
+
+impl Model for Record {
+    ghost use Rattle.domain.specs.State.{Delivery};
+
+    ghost Value = { Delivery };
+
+    ghost use Rattle.domain.specs.Records.{delivery_in};
+
+    ghost view = { delivery_in };
+}
+
+impl Record {
+    /// The function or host whose request was completed.
+    pub fn owner(&self) -> Origin
+        ensures { result ≡ self.now.owner }
+    {
+        self.owner
+    }
+
+    /// The Tag that it closed.
+    pub fn tag(&self) -> u8
+        ensures { result ≡ self.now.tag }
+    {
+        self.tag
+    }
+
+    pub fn status(&self) -> Status
+        ensures { result ≡ self.now.status }
+    {
+        self.status
+    }
+
+    /// The whole completion, header and payload.
+    pub fn bytes(&self) -> &[u8]
+        ensures { result.now ≡ self.now.bytes }
+    {
+        self.bytes.as_slice()
+    }
+
+    /// The same record once more. No caller outside may double one.
+    fn copy(&self) -> Record
+        ensures { result ≡ self.now }
+    {
+        Record {
+            owner: self.owner,
+            tag: self.tag,
+            status: self.status,
+            bytes: copied(self.bytes.as_slice()),
+        }
+    }
+}
+
+fn copied(bytes: &[u8]) -> ArrayVec<u8, 272>
+    requires { length bytes.now ≤ 272 }
+    ensures { result.items ≡ bytes.now }
+{
+    let mut copy = ArrayVec::new();
+    if copy.try_extend_from_slice(bytes).is_err() {
+        unreachable!();
+    }
+    copy
+}
+
+/// A completion that is to be delivered, and whether its addressee waits for it.
+#[derive(Drop)]
+pub(crate) struct Arrival {
+    pub(crate) delivery: Record,
+    pub(crate) is_awaited: bool,
+}
+
+impl Arrival {
+    /// The record of the completion, if its addressee waits for it.
+    pub(crate) fn record(&self) -> Option<Record>
+        ensures { result ≡ record_of_arrival self.now }
+    {
+        if self.is_awaited {
+            Some(self.delivery.copy())
+        } else {
+            None
+        }
+    }
+}
+
+fn is_port(answerer: Answerer) -> bool
+    ensures { result ≡ is_port answerer }
+{
+    matches!(answerer, Answerer::Port)
+}
+
+fn is_awaited(tags: &[OpenTag], answerer: Answerer, owner: Origin, view: &TlpView) -> bool
+    ensures { result ≡ is_awaited tags.now answerer owner view.now }
+{
+    let same = owner;
+    let addressee = origin_id(same);
+    is_open(tags, owner, view.tag()) && (is_port(answerer) || view.requester() == addressee)
+}
+
+fn record_of(owner: Origin, view: &TlpView, bytes: &[u8]) -> Record
+    requires { length bytes.now ≤ 272 }
+    ensures { result ≡ delivery_of owner view.now bytes.now }
+{
+    Record {
+        owner,
+        tag: view.tag(),
+        status: view.status().unwrap_or(Status::SC),
+        bytes: copied(bytes),
+    }
+}
+
+/// What a well-formed completion is to its addressee.
+pub(crate) fn arrival_for(
+    tags: &[OpenTag],
+    bytes: &[u8],
+    answerer: Answerer,
+    addressee: Option<Origin>,
+) -> Option<Arrival>
+    requires well_formed { malformed bytes.now ≡ None }
+    requires short { length bytes.now ≤ 272 }
+    ensures { result ≡ arrival_for tags.now bytes.now answerer addressee }
+{
+    let owner = addressee?;
+    let Ok(view) = TlpView::read(bytes) else {
+        unreachable!();
+    };
+    let same = owner;
+    let is_awaited = is_awaited(tags, answerer, same, &view);
+    Some(Arrival {
+        delivery: record_of(owner, &view, bytes),
+        is_awaited,
+    })
+}

@@ -1,0 +1,42 @@
+//! Which function or host an ID leads to.
+
+ghost use Rattle.std.specs.Prelude.{◌≡◌};
+ghost use Rattle.layout.specs.Reach.{function_at, holds_bus_if_any, reach};
+ghost use Rattle.layout.specs.Owners.{first_port};
+
+use crate::lines::{FunctionLine, PortLine};
+use crate::owners::port_above;
+use crate::start::Start;
+use fab_types::{Bdf, Origin};
+
+/// Is the bus below the function's first port?
+fn is_reached(ports: &[PortLine], line: &FunctionLine, bus: u8) -> bool
+    ensures { result ≡ holds_bus_if_any (first_port ports.now line.now.id) bus }
+{
+    match port_above(ports, line.id.bus()) {
+        Some(port) => port.holds_bus(bus),
+        None => false,
+    }
+}
+
+fn function_at(ports: &[PortLine], functions: &[FunctionLine], bus: u8) -> Option<Bdf>
+    ensures { result ≡ function_at ports.now functions.now bus }
+{
+    functions
+        .iter()
+        .find(|line| is_reached(ports, line, bus))
+        .map(|line| line.id)
+}
+
+impl Start {
+    /// The function or host that an ID leads to: the domain's host, if it is that host's ID, or the
+    /// function whose first port has the ID's bus below it.
+    pub fn reach(&self, id: Bdf) -> Option<Origin>
+        ensures { result ≡ reach self.now id }
+    {
+        if id == self.domain().host() {
+            return Some(Origin::Host(self.domain()));
+        }
+        function_at(self.ports(), self.functions(), id.bus()).map(Origin::Function)
+    }
+}
