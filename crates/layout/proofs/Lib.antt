@@ -1,1 +1,11 @@
 pub mod OwnerLemmas
+pub mod TextLemmas
+pub mod Pieces
+pub mod Bools
+pub mod NoFault
+pub mod Nesting
+pub mod Levels
+pub mod Sharing
+pub mod Keeping
+pub mod Ranges
+pub mod Reached

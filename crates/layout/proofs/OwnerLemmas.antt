@@ -1,7 +1,7 @@
 -- The owner of a number, found by a search over the ports.
 use Rattle.std.proofs.Common.{◌≡◌, ℕ, ◌==◌, Bool, true, false, cond, List, [], ◌∷◌, Option, Some, None, refl, sym, ap, ◌∙◌}
 use Rattle.std.specs.Prelude.{◌||◌, option_map}
-use Rattle.std.specs.List.{find, list_any}
+use Rattle.std.specs.List.{find}
 use Rattle.std.proofs.lemmas.Bool.{eqb-true}
 use Rattle.layout.specs.declared.lines.PortLine.{PortLine}
 use Rattle.layout.specs.Owners.{owns_port, owner_of_bus, owner_of_parts}
@@ -36,3 +36,7 @@ host_owner ports bus device function o e f h =
 pub no_host_owner : (ports : List PortLine) (bus device function : ℕ) → bus ≡ 0 → function ≡ 0 → numbered ports device ≡ None → owner_of_parts ports bus device function ≡ owner_of_bus ports bus
 no_host_owner ports bus device function e f h =
     rw (e, f) (none_is (owns_port ports device) device (owner_of_bus ports 0) (sym (numbered_is ports device) ∙ h))
+
+-- a search for the ports of a domain that owns one finds it
+pub owner_found : (ports : List PortLine) (d : ℕ) (found : Option ℕ) → found ≡ numbered ports d → owns_port ports d ≡ true → found ≡ Some d
+owner_found ports d found e owned = e ∙ numbered_is ports d ∙ ap (λ (b : Bool). cond {A = Option ℕ} b (Some d) None) owned

@@ -1,5 +1,5 @@
 -- The smallest platform: one switch, one port, one function, whose page 1 is mapped to frame 0.
-use Rattle.std.specs.Prelude.{ℕ, true, [], ◌∷◌, None}
+use Rattle.std.specs.Prelude.{true, [], ◌∷◌, None}
 use Rattle.fab_types.specs.Id.{id_of}
 use Rattle.fab_types.specs.declared.controls.AcsControl.{AcsControl}
 use Rattle.layout.specs.declared.lines.SwitchLine.{SwitchLine}
@@ -7,7 +7,6 @@ use Rattle.layout.specs.declared.lines.PortLine.{PortLine}
 use Rattle.layout.specs.declared.lines.FunctionLine.{FunctionLine}
 use Rattle.layout.specs.declared.lines.MapLine.{MapLine}
 use Rattle.layout.specs.declared.lines.MapTarget.TheVariants.{Frame}
-use Rattle.layout.specs.declared.lines.Rights.{Rights}
 use Rattle.layout.specs.Share.{Share}
 
 abbrev pub first_switch : SwitchLine

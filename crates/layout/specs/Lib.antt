@@ -1,3 +1,13 @@
+pub mod Text
+pub mod Statements
+pub mod Platform
+pub mod Tree
+pub mod Rules
+pub mod Additions
+pub mod Reading
+pub mod Views
+pub mod Laws
+pub mod Layouts
 pub mod Share
 pub mod Owners
 pub mod Reach

@@ -1,9 +1,7 @@
 -- Who owns an ID, and where the ports lead (PCIe 4.0, 7.5.1.3).
-use Rattle.std.specs.Prelude.{ℕ, ◌==◌, Bool, true, false, ◌&&◌, nat_le, List, [], ◌∷◌, Option, Some, None, is_some, option_map, if◌then◌else◌}
+use Rattle.std.specs.Prelude.{ℕ, ◌==◌, Bool, ◌&&◌, nat_le, List, Option, Some, option_map, if◌then◌else◌}
 use Rattle.std.specs.List.{find, list_any}
-use Rattle.fab_types.specs.Id.{bus_of, device_of, function_of, host_of}
-use Rattle.fab_types.specs.declared.place.Origin.{Origin}
-use Rattle.fab_types.specs.declared.place.Origin.TheVariants.{Function, Host}
+use Rattle.fab_types.specs.Id.{bus_of, device_of, function_of}
 use Rattle.layout.specs.declared.lines.PortLine.{PortLine}
 use Rattle.layout.specs.declared.lines.FunctionLine.{FunctionLine}
 use Rattle.layout.specs.Share.{Share}

@@ -1,12 +1,22 @@
 //! The lines of a platform layout, who owns what, and what a domain starts from.
 #![tactic(auto)]
 
+mod additions;
 mod lines;
 mod owners;
+mod platform;
 mod reach;
+mod read;
+mod rules;
 mod start;
+mod text;
+mod views;
 
-pub use lines::{Access, FunctionLine, MapLine, MapTarget, PortLine, Rights, SwitchLine};
+pub use lines::{
+    Access, BudgetLine, CreditLimits, CreditLine, FunctionLine, MapLine, MapTarget, PortLine,
+    Rights, SwitchLine,
+};
+pub use platform::Layout;
 pub use start::Start;
 
 #[cfg(test)]

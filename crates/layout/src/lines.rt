@@ -68,3 +68,31 @@ pub struct MapLine {
     pub target: MapTarget,
     pub rights: Rights,
 }
+
+/// How many begins a domain may make.
+#[derive(Clone, Copy, Debug, PartialEq, Eq)]
+pub struct BudgetLine {
+    pub domain: DomainId,
+    /// 1 to 16,384.
+    pub begins: u32,
+}
+
+/// The credits that each receiver of a link advertises at the start (PCIe 4.0, 2.6.1). A header
+/// credit is one header, a data credit 16 bytes.
+#[derive(Clone, Copy, Debug, PartialEq, Eq)]
+pub struct CreditLimits {
+    pub posted_headers: u16,
+    pub posted_data: u16,
+    pub non_posted_headers: u16,
+    pub non_posted_data: u16,
+    pub completion_headers: u16,
+    pub completion_data: u16,
+}
+
+/// The credits of both directions of a link.
+#[derive(Clone, Copy, Debug, PartialEq, Eq)]
+pub struct CreditLine {
+    /// The lower end of the link: a function or the upstream port of a switch.
+    pub id: Bdf,
+    pub limits: CreditLimits,
+}

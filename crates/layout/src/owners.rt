@@ -41,7 +41,7 @@ pub(crate) fn port_above(ports: &[PortLine], bus: u8) -> Option<&PortLine>
     ports.iter().find(|port| port.secondary == bus)
 }
 
-fn is_function(functions: &[FunctionLine], id: Bdf) -> bool
+pub(crate) fn is_function(functions: &[FunctionLine], id: Bdf) -> bool
     ensures { result ≡ is_function functions.now id }
 {
     functions.iter().any(|line| line.id == id)
@@ -64,7 +64,12 @@ fn owner_of_number(ports: &[PortLine], domain: u8) -> Option<DomainId>
         .map(|port| port.owner)
 }
 
-fn owner_of_parts(ports: &[PortLine], bus: u8, device: u8, function: u8) -> Option<DomainId>
+pub(crate) fn owner_of_parts(
+    ports: &[PortLine],
+    bus: u8,
+    device: u8,
+    function: u8,
+) -> Option<DomainId>
     ensures { result ≡ owner_of_parts ports.now bus device function }
 {
     if bus != 0 {

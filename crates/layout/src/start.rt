@@ -1,10 +1,13 @@
 //! What a domain starts from.
 
-ghost use Rattle.std.specs.Prelude.{◌≡◌, IfOk, [], ◌∷◌};
+ghost use Rattle.std.specs.Prelude.{◌≡◌, ◌≤◌, IfOk, [], ◌∷◌};
+ghost use Rattle.std.specs.List.Sorted.{IsStrictlyIncreasing};
 ghost use Rattle.layout.specs.Share.{Share, IsShare, is_guarded};
 ghost use Rattle.layout.specs.First.{first_share};
 
 use crate::lines::{FunctionLine, MapLine, MapTarget, PortLine, Rights, SwitchLine};
+use crate::platform::Layout;
+use crate::views::are_guarded;
 use fab_types::{AcsControl, Bdf, DomainId, NoMemory, PortId};
 use std::alloc::Global;
 use std::marker::Model;
@@ -77,6 +80,32 @@ impl Start {
         })
     }
 
+    /// The share of this domain in a platform: its budget, 1 to 16,384, its frames, rising, and its
+    /// mappings. It answers `NoMemory` where memory was refused.
+    pub(crate) fn of(
+        alloc: Global,
+        layout: &Layout,
+        domain: DomainId,
+        budget: u32,
+        frames: Vec<u16>,
+        maps: Vec<MapLine>,
+    ) -> Result<Start, NoMemory>
+        requires least { 1 ≤ budget }
+        requires most { budget ≤ 16384 }
+        requires rising { IsStrictlyIncreasing frames.items }
+        ensures { IfOk result (λ start. start ≡ record { domain = domain; budget = budget; frames = frames.items; maps = maps.items; switches = layout.now.switches; ports = layout.now.ports; functions = layout.now.functions }) }
+    {
+        Ok(Start {
+            domain,
+            budget,
+            frames,
+            maps,
+            switches: Vec::from_slice(alloc, layout.switches())?,
+            ports: Vec::from_slice(alloc, layout.ports())?,
+            functions: Vec::from_slice(alloc, layout.functions())?,
+        })
+    }
+
     /// The same start once more. It answers `NoMemory` where memory was refused.
     pub fn try_clone(&self, alloc: Global) -> Result<Start, NoMemory>
         ensures { IfOk result (λ start. start ≡ self.now) }
@@ -120,6 +149,13 @@ impl Start {
         ensures { result.now ≡ self.now.maps }
     {
         &self.maps
+    }
+
+    /// Are all five ACS controls set on each downstream port of the layout?
+    pub fn is_guarded(&self) -> bool
+        ensures { result ≡ is_guarded self.now }
+    {
+        are_guarded(&self.ports)
     }
 
     /// All switches of the layout.

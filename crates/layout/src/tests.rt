@@ -1,3 +1,6 @@
+mod calls;
+mod texts;
+
 use crate::Start;
 use std::test::Fail;
 

@@ -24,7 +24,7 @@ address_type_again TranslationRequest = refl
 address_type_again Translated = refl
 address_type_again Reserved = refl
 
-address_type_small : (at : AddressType) → address_type_bits at < 4
+pub address_type_small : (at : AddressType) → address_type_bits at < 4
 address_type_small Untranslated = omega arith
 address_type_small TranslationRequest = omega arith
 address_type_small Translated = omega arith
@@ -42,7 +42,7 @@ status_small UR = omega arith
 status_small CRS = omega arith
 status_small CA = omega arith
 
-same_packet : {a b : Packet} → a.kind ≡ b.kind → a.is_wide ≡ b.is_wide → a.attributes ≡ b.attributes → a.address_type ≡ b.address_type → a.length ≡ b.length → a.requester ≡ b.requester → a.tag ≡ b.tag → a.body ≡ b.body → a.payload ≡ b.payload → a ≡ b
+pub same_packet : {a b : Packet} → a.kind ≡ b.kind → a.is_wide ≡ b.is_wide → a.attributes ≡ b.attributes → a.address_type ≡ b.address_type → a.length ≡ b.length → a.requester ≡ b.requester → a.tag ≡ b.tag → a.body ≡ b.body → a.payload ≡ b.payload → a ≡ b
 same_packet k w a t l r g b p = λ i. record { kind = k i; is_wide = w i; attributes = a i; address_type = t i; length = l i; requester = r i; tag = g i; body = b i; payload = p i }
 
 -- byte 2

@@ -34,7 +34,9 @@ runs_with-within (Some enables) payload =
     let e : 0 + length payload ≡ length payload = omega arith in
     subst (λ end. AllByRecursion (EndsBy end) (runs_from (is_enabled enables (length payload)) 0 payload)) e (runs_from-within (is_enabled enables (length payload)) 0 payload)
 
+-- the same run by run
+pub runs-within_each : (t : Packet) → AllByRecursion (λ run. run.0 + length run.1 ≤ length t.payload) (runs t)
+runs-within_each t = chosen (is_write t.kind) (length t.payload) (runs_with (enables_in t.body) t.payload) [] (λ _. runs_with-within (enables_in t.body) t.payload) (λ _. tt)
+
 pub runs-within : (t : Packet) → All (λ run. run.0 + length run.1 ≤ length t.payload) (runs t)
-runs-within t =
-    All-from_recursion (EndsBy (length t.payload)) (runs t)
-    (chosen (is_write t.kind) (length t.payload) (runs_with (enables_in t.body) t.payload) [] (λ _. runs_with-within (enables_in t.body) t.payload) (λ _. tt))
+runs-within t = All-from_recursion (EndsBy (length t.payload)) (runs t) (runs-within_each t)

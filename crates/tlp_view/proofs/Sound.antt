@@ -20,7 +20,7 @@ fine_memory a b c d e v w x y z fine =
     let fourth = passes d y _ third.1 in
     (third.0, (passes e z None fourth.1).0)
 
-second_false : (a b : Bool) → a ≡ true → (a && b) ≡ false → b ≡ false
+pub second_false : (a b : Bool) → a ≡ true → (a && b) ≡ false → b ≡ false
 second_false a b t e = elim (and_cases a b e) [ inl f ↦ absurd (both_ways a f t) | inr f ↦ f ]
 
 whole_dw : (kind : Kind) (bytes : List ℕ) → has_bad_field kind bytes ≡ false → is_memory kind ≡ true → address_at bytes % 4 ≡ 0
@@ -28,7 +28,7 @@ unfolding has_bad_field
 whole_dw kind bytes fine memory =
     eqb-true (address_at bytes % 4) 0 (not-false _ (second_false (is_memory kind) _ memory (or_parts _ _ (or_parts _ _ fine).0).1))
 
-aligned_within : (kind : Kind) (bytes : List ℕ) → malformed_of_kind kind bytes ≡ None → is_memory kind ≡ true → (address_at bytes % 4 ≡ 0) × (address_at bytes % 4096 + 4 * dw_count (length_at bytes) ≤ 4096)
+pub aligned_within : (kind : Kind) (bytes : List ℕ) → malformed_of_kind kind bytes ≡ None → is_memory kind ≡ true → (address_at bytes % 4 ≡ 0) × (address_at bytes % 4096 + 4 * dw_count (length_at bytes) ≤ 4096)
 unfolding malformed_of_kind crosses
 aligned_within kind bytes fine memory =
     let tests = fine_memory (has_bad_size kind bytes) (is_memory kind && has_bad_enables (dw_count (length_at bytes)) (address_at bytes) (slice_index bytes 7 % 16) (slice_index bytes 7 / 16)) (is_memory kind && crosses (dw_count (length_at bytes)) (address_at bytes)) (is_memory kind && is_wide_at bytes && nat_lt (address_at bytes) (2 ^ 32)) (has_bad_field kind bytes) Size BadEnables Crosses HighForm Field fine in

@@ -10,3 +10,5 @@ pub mod Completions
 pub mod Buffer
 pub mod Lent
 pub mod LentPayload
+pub mod Requests
+pub mod RequestBuffer

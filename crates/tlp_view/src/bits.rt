@@ -76,7 +76,8 @@ pub(crate) fn address_type(field: u8) -> AddressType
 
 pub(crate) fn enables(bytes: &[u8]) -> Enables
     requires { 12 ≤ length bytes.now }
-    ensures { result ≡ enables_at bytes.now }
+    ensures value { result ≡ enables_at bytes.now }
+    ensures last { result.last < 16 }
 {
     Enables {
         first: bytes[7] % 16,

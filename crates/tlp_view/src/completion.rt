@@ -224,7 +224,7 @@ fn with_header(header: &[u8; 12]) -> [u8; 268]
 }
 
 /// A number of 16 bits, the high byte first.
-fn word(n: u16) -> [u8; 2]
+pub(crate) fn word(n: u16) -> [u8; 2]
     ensures { result ≡ word n }
 {
     let mut bytes = [0; 2];

@@ -1,6 +1,6 @@
 //! Laws of the definitions alone.
 
-ghost use Rattle.std.specs.Prelude.{◌≡◌, ◌+◌, All, ◌%◌, ◌^◌, ◌<◌, ◌≤◌, ℕ, List, length, slice_index};
+ghost use Rattle.std.specs.Prelude.{◌≡◌, ◌+◌, All, ◌/◌, ◌%◌, ◌^◌, ◌<◌, ◌≤◌, ℕ, List, length, slice_index};
 ghost use Rattle.tlp_view.specs.Packet.{Packet};
 ghost use Rattle.tlp_view.specs.Bytes.{packet_of};
 ghost use Rattle.tlp_view.specs.Malformed.{malformed};
@@ -9,6 +9,8 @@ ghost use Rattle.tlp_view.specs.Runs.{runs};
 ghost use Rattle.tlp_view.specs.Spelling.{Spells};
 ghost use Rattle.tlp_view.specs.declared.completion.CompletionHead.{CompletionHead};
 ghost use Rattle.tlp_view.specs.Completions.{completion_of, completion_bytes, HeadFits};
+ghost use Rattle.tlp_view.specs.declared.request.RequestHead.{RequestHead};
+ghost use Rattle.tlp_view.specs.Requests.{RequestFits, packet_bytes, read_request, write_request};
 
 /// A byte list spells at most one packet.
 pub fn spelled_once()
@@ -34,4 +36,17 @@ pub fn runs_within()
 pub fn completion_spelled()
     ensures { (head : CompletionHead) (payload : List ℕ) → HeadFits head → head.completer < 2 ^ 16 → head.requester < 2 ^ 16 → head.tag < 2 ^ 8
         → length payload ≤ 256 → length payload % 4 ≡ 0 → Spells (completion_bytes (completion_of head payload)) (completion_of head payload) }
+{}
+
+/// The bytes of a memory read that was made spell it, and so are read back as what they were made
+/// from.
+pub fn read_request_spelled()
+    ensures { (head : RequestHead) (count : ℕ) → RequestFits head count → head.requester < 2 ^ 16 → head.tag < 2 ^ 8 → head.address < 2 ^ 64
+        → Spells (packet_bytes (read_request head count)) (read_request head count) }
+{}
+
+/// The same of a memory write of at most 64 DW.
+pub fn write_request_spelled()
+    ensures { (head : RequestHead) (payload : List ℕ) → RequestFits head (length payload / 4) → head.requester < 2 ^ 16 → head.tag < 2 ^ 8 → head.address < 2 ^ 64
+        → length payload ≤ 256 → length payload % 4 ≡ 0 → Spells (packet_bytes (write_request head payload)) (write_request head payload) }
 {}

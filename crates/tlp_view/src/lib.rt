@@ -9,6 +9,7 @@ mod enables;
 mod faults;
 mod kind;
 mod laws;
+mod request;
 mod runs;
 mod view;
 
@@ -17,8 +18,10 @@ pub use completion::{CompletionHead, CplBuf};
 pub use enables::Enables;
 pub use kind::Kind;
 pub use laws::{
-    completion_spelled, runs_within, spelled_once, well_formed_sound, well_formed_spelled,
+    completion_spelled, read_request_spelled, runs_within, spelled_once, well_formed_sound,
+    well_formed_spelled, write_request_spelled,
 };
+pub use request::{RequestBuf, RequestHead};
 pub use runs::Runs;
 pub use view::{TlpView, cost};
 

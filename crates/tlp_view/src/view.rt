@@ -1,8 +1,8 @@
 //! A packet, read in place.
 
-ghost use Rattle.std.specs.Prelude.{◌≡◌, ◌<◌, ◌≤◌, ◌*◌, length, ◌↔◌, take, drop, IsSome, IfSome, IfOk, IfErr};
+ghost use Rattle.std.specs.Prelude.{true, ◌≡◌, ◌^◌, ◌<◌, ◌≤◌, ◌*◌, length, ◌↔◌, take, drop, IsSome, IfSome, IfOk, IfErr};
 ghost use Rattle.tlp_view.specs.Packet.{Packet, dw_count, address_in, enables_in, status_in, byte_count_in, lower_address_in};
-ghost use Rattle.tlp_view.specs.Kinds.{class_of_kind};
+ghost use Rattle.tlp_view.specs.Kinds.{class_of_kind, is_memory};
 ghost use Rattle.tlp_view.specs.Bytes.{packet_of};
 ghost use Rattle.tlp_view.specs.Malformed.{malformed};
 ghost use Rattle.tlp_view.specs.Spelling.{Spells};
@@ -15,6 +15,7 @@ use crate::bits;
 use crate::enables::Enables;
 use crate::faults::{fault_of, is_short};
 use crate::kind::Kind;
+use crate::request::RequestHead;
 use crate::runs::Runs;
 use fab_types::{AddressType, Bdf, Class, Cost, Malformed, Status};
 use std::marker::Model;
@@ -41,6 +42,9 @@ impl<'a> Model for TlpView<'a> {
 }
 
 impl<'a> TlpView<'a> {
+    ghost use Rattle.tlp_view.specs.Requests.{moved, request, IsSamePlace, RequestFits};
+    ghost use Rattle.tlp_view.specs.RequestBuffer.{IsMade};
+
     /// The packet that these bytes are, or the first cause that they are none.
     #[inline]
     pub fn read(bytes: &'a [u8]) -> Result<TlpView<'a>, Malformed>
@@ -164,8 +168,28 @@ impl<'a> TlpView<'a> {
     pub fn dw_length(&self) -> u16
         ensures value { result ≡ dw_count self.now.length }
         ensures some { 0 < result }
+        ensures field { (self.now).length < 2 ^ 10 }
     {
         bits::dw_count(bits::length_field(self.bytes))
+    }
+
+    /// The fields of the same memory request at another address, with the same place in 4,096 bytes.
+    pub(crate) fn head_at(&self, address: u64) -> RequestHead
+        requires memory { is_memory (self.now).kind ≡ true }
+        requires place { IsSamePlace self.now address }
+        requires field { (self.now).length < 2 ^ 10 }
+        ensures fits { RequestFits result (dw_count (self.now).length) }
+        ensures made { IsMade (self.now).kind (dw_count (self.now).length) (self.now).payload }
+        ensures value { request (self.now).kind result (dw_count (self.now).length) (self.now).payload ≡ moved self.now address }
+    {
+        RequestHead {
+            requester: self.requester(),
+            tag: self.tag(),
+            enables: bits::enables(self.bytes),
+            address,
+            address_type: bits::address_type(self.bytes[2] / 4 % 4),
+            attributes: self.attr(),
+        }
     }
 
     /// Of a completion.

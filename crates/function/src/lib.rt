@@ -1,0 +1,19 @@
+//! An endpoint function: its register page and the DMA program in it.
+#![tactic(auto)]
+
+mod buffer;
+mod function;
+mod laws;
+mod line;
+mod plan;
+mod reads;
+mod registers;
+mod tags;
+
+pub use function::Function;
+pub use laws::{fixed_bytes_stay, lowest_free_tag_is_taken};
+pub use plan::{Plan, Tick};
+pub use tags::{OpenTag, TagUse, is_open};
+
+#[cfg(test)]
+mod tests;

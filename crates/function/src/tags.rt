@@ -1,0 +1,75 @@
+//! Tags that wait for completions.
+
+ghost use Rattle.std.specs.Prelude.{◌≡◌};
+ghost use Rattle.function.specs.Tags.{awaits_line, free_tag, is_line, is_open, same_origin};
+
+use fab_types::{Bdf, Origin};
+
+/// What a Tag was opened for.
+#[derive(Clone, Copy, Debug, PartialEq, Eq)]
+pub enum TagUse {
+    /// A submitted packet.
+    Raw,
+    /// A read line of a DMA program, whose data go to this offset of the buffer (bytes), with this
+    /// count (DW).
+    Line(u16, u8),
+}
+
+/// A Tag that a function or a domain's host has open: a completion is awaited (PCIe 4.0, 2.2.6.2).
+#[derive(Clone, Copy, Debug, PartialEq, Eq)]
+pub struct OpenTag {
+    pub owner: Origin,
+    pub tag: u8,
+    pub usage: TagUse,
+}
+
+fn same_origin(one: Origin, other: Origin) -> bool
+    ensures { result ≡ same_origin one other }
+{
+    match one {
+        Origin::Function(f) => match other {
+            Origin::Function(g) => f == g,
+            Origin::Host(_) => false,
+        },
+        Origin::Host(d) => match other {
+            Origin::Function(_) => false,
+            Origin::Host(e) => d == e,
+        },
+    }
+}
+
+/// Does this owner have this Tag open?
+pub fn is_open(tags: &[OpenTag], owner: Origin, tag: u8) -> bool
+    ensures { result ≡ is_open tags.now owner tag }
+{
+    tags.iter()
+        .any(|open| same_origin(open.owner, owner) && open.tag == tag)
+}
+
+fn is_line(usage: TagUse) -> bool
+    ensures { result ≡ is_line usage }
+{
+    match usage {
+        TagUse::Raw => false,
+        TagUse::Line(_, _) => true,
+    }
+}
+
+/// Does a read line of this function's program await its data?
+pub(crate) fn awaits_line(tags: &[OpenTag], function: Bdf) -> bool
+    ensures { result ≡ awaits_line tags.now function }
+{
+    tags.iter().any(|open| same_origin(open.owner, Origin::Function(function))
+        && is_line(open.usage))
+}
+
+/// The lowest of the Tags of read lines that the function doesn't have open.
+#[tactic(auto, unfolding(crate::specs::Tags::free_tag))]
+pub(crate) fn free_tag(tags: &[OpenTag], function: Bdf) -> Option<u8>
+    ensures { result ≡ free_tag tags.now function }
+{
+    [0, 1, 2, 3, 4, 5, 6, 7]
+        .iter()
+        .copied()
+        .find(|tag| !is_open(tags, Origin::Function(function), *tag))
+}

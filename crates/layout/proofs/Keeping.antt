@@ -1,0 +1,263 @@
+-- What holds of a platform holds with one line more, if nothing is wrong with it.
+use Rattle.std.proofs.Common.{◌≡◌, ℕ, ◌+◌, ◌==◌, ◌≤◌, ◌<◌, Bool, true, false, cond, List, [], ◌∷◌, ◌++◌, length, length-append, Option, Some, None, refl, arith, leb-true, leb-false, ltb-false, lt-ltb, eqb-true, ◌%◌}
+use Rattle.std.specs.Prelude.{◌&&◌, ◌||◌, not, nat_le, nat_lt, count_by}
+use Rattle.fab_types.specs.Id.{bus_of, id_of}
+use Rattle.fab_types.specs.declared.faults.layout.LayoutCause.TheVariants as cause
+use Rattle.layout.specs.declared.lines.SwitchLine.{SwitchLine}
+use Rattle.layout.specs.declared.lines.PortLine.{PortLine}
+use Rattle.layout.specs.declared.lines.FunctionLine.{FunctionLine}
+use Rattle.layout.specs.declared.lines.MapLine.{MapLine}
+use Rattle.layout.specs.declared.text.statement.SwitchText.{SwitchText}
+use Rattle.layout.specs.declared.text.statement.PortText.{PortText}
+use Rattle.layout.specs.declared.text.statement.MapText.{MapText}
+use Rattle.layout.specs.declared.text.statement.BudgetText.{BudgetText}
+use Rattle.layout.specs.declared.text.statement.CreditText.{CreditText}
+use Rattle.layout.specs.Owners.{is_function}
+use Rattle.layout.specs.Platform.{Platform}
+use Rattle.layout.specs.Tree.{port_at, port_over, domain_of, switch_on, port_above, is_third_level, is_taken, id_below}
+use Rattle.layout.specs.Rules.{is_within, frames_fault, root_fault, switch_fault, switch_fault_below, port_fault, port_fault_on, port_fault_below, is_past_port_limits, is_on_bus, function_fault, function_fault_below, map_fault, has_full_table, is_of_requester, budget_fault, has_good_credits, credit_fault, is_known_target, is_past_frames, is_foreign, is_mapped}
+use Rattle.layout.specs.Additions.{root_line, switch_line, port_line, map_line, budget_line, credit_line}
+use Rattle.layout.specs.Laws.{IsPlatform, is_good_budget, is_good_credit, are_apart, is_nested, is_hung, is_hung_below, is_level, is_level_below, is_placed, is_placed_below, is_known_map, is_home_map, share_no_frame}
+use Rattle.layout.proofs.Nesting.{nested-stays, nested-among, nested-new, hung-stays, placed-stays, apart-new}
+use Rattle.layout.proofs.Levels.{level-stays, level-among, level-new}
+use Rattle.layout.proofs.Sharing.{home-stays, unshared-stays, known-new, home-new, unshared-new, known-stays}
+use Rattle.layout.proofs.NoFault.{none-first, none-rest, three-none, four-none}
+use Rattle.layout.proofs.Bools.{and-second, and-both, or-first, or-second, not-false, all-more, all-weaker, all-weaker-among, all-found, all-none, pair-more, pair-weaker, count-kept}
+
+room : (requester : ℕ) (maps : List MapLine) (map : MapText) → has_full_table maps map.requester ≡ false → is_of_requester requester (map_line map) ≡ true → count_by (is_of_requester requester) maps < 64
+unfolding has_full_table
+room requester maps map few same =
+    let e : map.requester ≡ requester = eqb-true map.requester requester same in
+    rw (← e) (leb-false _ _ few)
+
+place : (bus : ℕ) (ports : List PortLine) (port : PortText) → is_past_port_limits ports port ≡ false → is_on_bus bus (port_line port) ≡ true → count_by (is_on_bus bus) ports < 8
+unfolding is_past_port_limits
+place bus ports port few same =
+    let e : bus_of port.id ≡ bus = eqb-true (bus_of port.id) bus same in
+    rw (← e) (leb-false _ _ (or-second _ _ few))
+
+-- a budget
+pub keeps-budget : (p : Platform) (budget : BudgetText) → IsPlatform p → None ≡ budget_fault p budget → IsPlatform (record p { budgets = p.budgets ++ budget_line budget ∷ [] })
+unfolding budget_fault
+keeps-budget p budget h none = record {
+  limits = record {
+    frames = h.limits.frames;
+    switches = h.limits.switches;
+    ports = h.limits.ports;
+    maps = h.limits.maps;
+    budgets = all-more is_good_budget p.budgets (budget_line budget) h.limits.budgets (not-false (is_within 1 16384 budget.begins) (none-first _ _ _ (none-rest _ _ _ none)));
+    credits = h.limits.credits;
+  };
+  apart = h.apart;
+  nested = h.nested;
+  hung = h.hung;
+  levels = h.levels;
+  placed = h.placed;
+  known = h.known;
+  home = h.home;
+  unshared = h.unshared;
+}
+
+-- credits
+pub keeps-credit : (p : Platform) (credit : CreditText) → IsPlatform p → None ≡ credit_fault p credit → IsPlatform (record p { credits = p.credits ++ credit_line credit ∷ [] })
+unfolding credit_fault has_good_credits
+keeps-credit p credit h none = record {
+  limits = record {
+    frames = h.limits.frames;
+    switches = h.limits.switches;
+    ports = h.limits.ports;
+    maps = h.limits.maps;
+    budgets = h.limits.budgets;
+    credits = all-more is_good_credit p.credits (credit_line credit) h.limits.credits (not-false (has_good_credits credit) (none-first _ _ _ (none-rest _ _ _ none)));
+  };
+  apart = h.apart;
+  nested = h.nested;
+  hung = h.hung;
+  levels = h.levels;
+  placed = h.placed;
+  known = h.known;
+  home = h.home;
+  unshared = h.unshared;
+}
+
+-- a mapping
+pub keeps-map : (p : Platform) (map : MapText) → IsPlatform p → None ≡ map_fault p map → IsPlatform (record p { maps = p.maps ++ map_line map ∷ [] })
+unfolding map_fault
+keeps-map p map h none =
+    let rules = four-none (not (is_function p.functions map.requester) || not (is_known_target p.functions map.target)) (is_past_frames p.frames map.target || has_full_table p.maps map.requester)
+    (is_foreign p.ports p.maps (domain_of p.ports map.requester) map.target) (is_mapped p.maps map.requester map.page) cause.Line cause.Limit cause.MapForeign cause.MapTwice none in
+    record {
+      limits = record {
+        frames = h.limits.frames;
+        switches = h.limits.switches;
+        ports = h.limits.ports;
+        maps = λ requester. count-kept (is_of_requester requester) p.maps (map_line map) 64 (h.limits.maps requester) (room requester p.maps map (or-second _ _ rules.1));
+        budgets = h.limits.budgets;
+        credits = h.limits.credits;
+      };
+      apart = h.apart;
+      nested = h.nested;
+      hung = h.hung;
+      levels = h.levels;
+      placed = h.placed;
+      known = all-more (is_known_map p.functions p.frames) p.maps (map_line map) h.known (and-both _ _ (not-false (is_function p.functions map.requester) (or-first _ _ rules.0)) (known-new p.functions p.frames map.target (not-false (is_known_target p.functions map.target) (or-second _ _ rules.0)) (or-first _ _ rules.1)));
+      home = all-more (is_home_map p.ports) p.maps (map_line map) h.home (home-new p.ports p.maps (domain_of p.ports map.requester) map.target rules.2);
+      unshared = pair-more (share_no_frame p.ports) p.maps (map_line map) h.unshared (unshared-new p.ports p.maps (domain_of p.ports map.requester) map.target rules.2);
+    }
+
+-- a port
+pub below-none : (p : Platform) (port : PortText) (switch : Option SwitchLine) → None ≡ port_fault_on p port switch → (s : SwitchLine) × (switch ≡ Some s) × (None ≡ port_fault_below p.ports (port_above p.ports s) port)
+below-none p port None e = absurd cc
+below-none p port (Some s) e = (s, refl, e)
+
+pub limits-kept : (ports : List PortLine) (above : Option PortLine) (port : PortText) → None ≡ port_fault_below ports above port → is_past_port_limits ports port ≡ false
+unfolding port_fault_below
+limits-kept ports above port none = none-first _ _ _ (none-rest _ _ _ none)
+
+pub keeps-port : (p : Platform) (port : PortText) → IsPlatform p → None ≡ port_fault p port → IsPlatform (record p { ports = p.ports ++ port_line port ∷ [] })
+unfolding port_fault
+keeps-port p port h none =
+    let on = below-none p port (switch_on p.switches (bus_of port.id)) none in
+    record {
+      limits = record {
+        frames = h.limits.frames;
+        switches = h.limits.switches;
+        ports = λ bus. count-kept (is_on_bus bus) p.ports (port_line port) 8 (h.limits.ports bus) (place bus p.ports port (limits-kept p.ports (port_above p.ports on.0) port on.2));
+        maps = h.limits.maps;
+        budgets = h.limits.budgets;
+        credits = h.limits.credits;
+      };
+      apart = pair-more are_apart p.ports (port_line port) h.apart (apart-new p.ports (port_above p.ports on.0) port on.2);
+      nested = all-more (is_nested p.switches (p.ports ++ port_line port ∷ [])) p.ports (port_line port)
+          (all-weaker (is_nested p.switches p.ports) (is_nested p.switches (p.ports ++ port_line port ∷ [])) p.ports (λ other. nested-stays p.switches p.ports (port_line port ∷ []) other h.hung) h.nested)
+          (nested-stays p.switches p.ports (port_line port ∷ []) (port_line port) h.hung (rw on.1 (nested-new p.ports on.0 port on.2)));
+      hung = all-weaker (is_hung p.ports) (is_hung (p.ports ++ port_line port ∷ [])) p.switches (λ switch. hung-stays p.ports (port_line port ∷ []) switch.above switch) h.hung;
+      levels = all-weaker-among (is_hung p.ports) (is_level p.switches p.ports) (is_level p.switches (p.ports ++ port_line port ∷ [])) p.switches (λ switch. level-stays p.switches p.ports (port_line port ∷ []) switch h.hung) h.hung h.levels;
+      placed = all-weaker (is_placed p.ports) (is_placed (p.ports ++ port_line port ∷ [])) p.functions (placed-stays p.ports (port_line port ∷ [])) h.placed;
+      known = h.known;
+      home = all-weaker-among (is_known_map p.functions p.frames) (is_home_map p.ports) (is_home_map (p.ports ++ port_line port ∷ [])) p.maps (λ line. home-stays p.ports (port_line port ∷ []) p.functions p.frames line h.placed) h.known h.home;
+      unshared = pair-weaker (is_known_map p.functions p.frames) (share_no_frame p.ports) (share_no_frame (p.ports ++ port_line port ∷ [])) p.maps (λ one other. unshared-stays p.ports (port_line port ∷ []) p.functions p.frames one other h.placed) h.known h.unshared;
+    }
+
+placed-new : (p : Platform) (function : FunctionLine) (above : Option PortLine) → None ≡ function_fault_below p function above → is_placed_below above function ≡ true
+placed-new p function None none = absurd cc
+placed-new p function (Some port) none =
+    let fits = none-first _ _ _ (none-rest _ _ _ none) in
+    and-both _ _ (not-false (function.bar % 4096 == 0) (or-first _ _ fits)) (not-false (nat_le port.base function.bar && nat_le (function.bar + 4095) port.limit) (or-second _ _ fits))
+
+-- a function
+pub keeps-function : (p : Platform) (function : FunctionLine) → IsPlatform p → None ≡ function_fault p function → IsPlatform (record p { functions = p.functions ++ function ∷ [] })
+unfolding function_fault
+keeps-function p function h none = record {
+  limits = record {
+    frames = h.limits.frames;
+    switches = h.limits.switches;
+    ports = h.limits.ports;
+    maps = h.limits.maps;
+    budgets = h.limits.budgets;
+    credits = h.limits.credits;
+  };
+  apart = h.apart;
+  nested = h.nested;
+  hung = h.hung;
+  levels = h.levels;
+  placed = all-more (is_placed p.ports) p.functions function h.placed (placed-new p function (port_over p.ports function.id) none);
+  known = all-weaker (is_known_map p.functions p.frames) (is_known_map (p.functions ++ function ∷ []) p.frames) p.maps (known-stays p.functions (function ∷ []) p.frames) h.known;
+  home = h.home;
+  unshared = h.unshared;
+}
+
+-- a switch
+few-switches : (p : Platform) (id : ℕ) (above : Option PortLine) → None ≡ switch_fault_below p id above → nat_le 8 (length p.switches) ≡ false
+few-switches p id None none = absurd cc
+few-switches p id (Some port) none = or-first _ _ (none-first _ _ _ (none-rest _ _ _ none))
+
+hung-new : (p : Platform) (switch : SwitchText) (above : Option PortLine) → None ≡ switch_fault_below p switch.id above → is_hung_below above (switch_line switch) ≡ true
+hung-new p switch None none = absurd cc
+hung-new p switch (Some port) none =
+    let rules = three-none (not (switch.id == id_below port) || is_taken p.switches p.functions switch.id) (nat_le 8 (length p.switches) || is_third_level p.switches p.ports (bus_of port.id)) (nat_lt port.subordinate (port.secondary + 1))
+    cause.Line cause.Limit cause.BusOutside none in
+    let room : port.secondary + 1 ≤ port.subordinate = ltb-false port.subordinate (port.secondary + 1) rules.2 in
+    and-both _ _ (not-false (switch.id == id_below port) (or-first _ _ rules.0)) (lt-ltb port.secondary port.subordinate (omega arith))
+
+level-hung : (p : Platform) (switch : SwitchText) (above : Option PortLine) → IsPlatform p → ((port : PortLine) → above ≡ Some port → is_nested p.switches p.ports port ≡ true) → None ≡ switch_fault_below p switch.id above → is_level_below (p.switches ++ switch_line switch ∷ []) p.ports above ≡ true
+level-hung p switch None h nested none = refl
+level-hung p switch (Some port) h nested none =
+    let rules = three-none (not (switch.id == id_below port) || is_taken p.switches p.functions switch.id) (nat_le 8 (length p.switches) || is_third_level p.switches p.ports (bus_of port.id)) (nat_lt port.subordinate (port.secondary + 1))
+    cause.Line cause.Limit cause.BusOutside none in
+    level-new p.switches (switch_line switch ∷ []) p.ports port h.nested (nested port refl) (or-second (nat_le 8 (length p.switches)) (is_third_level p.switches p.ports (bus_of port.id)) rules.1)
+
+pub keeps-switch : (p : Platform) (switch : SwitchText) → IsPlatform p → None ≡ switch_fault p switch → IsPlatform (record p { switches = p.switches ++ switch_line switch ∷ [] })
+unfolding switch_fault
+keeps-switch p switch h none = record {
+  limits = record {
+    frames = h.limits.frames;
+    switches = let few : length p.switches < 8 = leb-false _ _ (few-switches p switch.id (port_at p.ports switch.above) none) in simp length-append (omega arith);
+    ports = h.limits.ports;
+    maps = h.limits.maps;
+    budgets = h.limits.budgets;
+    credits = h.limits.credits;
+  };
+  apart = h.apart;
+  nested = all-weaker (is_nested p.switches p.ports) (is_nested (p.switches ++ switch_line switch ∷ []) p.ports) p.ports (nested-among p.switches (switch_line switch ∷ []) p.ports) h.nested;
+  hung = all-more (is_hung p.ports) p.switches (switch_line switch) h.hung (hung-new p switch (port_at p.ports switch.above) none);
+  levels = all-more (is_level (p.switches ++ switch_line switch ∷ []) p.ports) p.switches (switch_line switch)
+      (all-weaker (is_level p.switches p.ports) (is_level (p.switches ++ switch_line switch ∷ []) p.ports) p.switches (λ other. level-among p.switches (switch_line switch ∷ []) p.ports other h.nested) h.levels)
+      (level-hung p switch (port_at p.ports switch.above) h (λ port e. all-found (λ (other : PortLine). other.id == switch.above) (is_nested p.switches p.ports) p.ports port e h.nested) none);
+  placed = h.placed;
+  known = h.known;
+  home = h.home;
+  unshared = h.unshared;
+}
+
+pub keeps-frames : (p : Platform) (count : ℕ) → IsPlatform p → None ≡ frames_fault p count → IsPlatform (record p { frames = count })
+unfolding frames_fault
+keeps-frames p count h none = record {
+  limits = record {
+    frames = leb-true _ _ (and-second _ _ (not-false (is_within 1 1024 count) (none-first _ _ _ (none-rest _ _ _ none))));
+    switches = h.limits.switches;
+    ports = h.limits.ports;
+    maps = h.limits.maps;
+    budgets = h.limits.budgets;
+    credits = h.limits.credits;
+  };
+  apart = h.apart;
+  nested = h.nested;
+  hung = h.hung;
+  levels = h.levels;
+  placed = h.placed;
+  known = all-none (is_known_map p.functions count) p.maps (eqb-true (length p.maps) 0 (not-false (length p.maps == 0) (or-second _ _ (none-first _ _ _ none))));
+  home = h.home;
+  unshared = h.unshared;
+}
+
+pub keeps-root : (p : Platform) (id : ℕ) → IsPlatform p → None ≡ root_fault p id → IsPlatform (record p { switches = p.switches ++ root_line id ∷ [] })
+unfolding root_fault
+keeps-root p id h none = record {
+  limits = record {
+    frames = h.limits.frames;
+    switches = let few : length p.switches ≡ 0 = eqb-true (length p.switches) 0 (not-false (length p.switches == 0) (or-second (not (id == id_of 1 0 0)) (not (length p.switches == 0)) (none-first _ _ _ none))) in simp length-append (omega arith);
+    ports = h.limits.ports;
+    maps = h.limits.maps;
+    budgets = h.limits.budgets;
+    credits = h.limits.credits;
+  };
+  apart = h.apart;
+  nested = all-weaker (is_nested p.switches p.ports) (is_nested (p.switches ++ root_line id ∷ []) p.ports) p.ports (nested-among p.switches (root_line id ∷ []) p.ports) h.nested;
+  hung = all-more (is_hung p.ports) p.switches (root_line id) h.hung (not-false (id == id_of 1 0 0) (or-first _ _ (none-first _ _ _ none)));
+  levels = all-more (is_level (p.switches ++ root_line id ∷ []) p.ports) p.switches (root_line id)
+      (all-weaker (is_level p.switches p.ports) (is_level (p.switches ++ root_line id ∷ []) p.ports) p.switches (λ other. level-among p.switches (root_line id ∷ []) p.ports other h.nested) h.levels) refl;
+  placed = h.placed;
+  known = h.known;
+  home = h.home;
+  unshared = h.unshared;
+}
+
+-- the same of whatever lists came out
+pub kept : (p q : Platform) → p ≡ q → IsPlatform q → IsPlatform p
+kept p q e h = rw e h
+
+-- and if memory for the line was refused, nothing changed
+pub kept-either : {X : Type 0} (b : Bool) (old new items : List X) (f : List X → Platform) → items ≡ cond b new old → IsPlatform (f old) → IsPlatform (f new) → IsPlatform (f items)
+kept-either true old new items f e was is = rw e is
+kept-either false old new items f e was is = rw e was

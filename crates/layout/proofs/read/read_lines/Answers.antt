@@ -1,0 +1,22 @@
+use Rattle.std.proofs.Common.{sym, ◌∙◌, inl, inr, arith}
+use Rattle.layout.specs.Text.{pieces}
+use Rattle.layout.proofs.Pieces.{read-line, read-fault, read-end, reading-is}
+use Rattle.layout.proofs.Reached.{reached}
+use Rattle.layout.proofs.read.read_lines.Goals as goal
+
+pub returns-in-Err-clause-exact : goal.returns-in-Err-clause-exact
+returns-in-Err-clause-exact c = elim c.in-Err.ensures [
+  | inl h ↦ inl (h, rw c.loop-parts.invariant.left (reached c.loop-parts.layout c.loop-parts.line (pieces c.loop-parts.rest.now) c.loop-parts.invariant.small))
+  | inr h ↦ inr (c.loop-parts.invariant.left ∙ read-fault c.loop-parts.layout c.loop-parts.line c.in-Err.cause c.in-Some.parts.before.now c.in-Some.parts.after.now c.loop-parts.rest.now c.in-Some.ensures.parts h)
+]
+
+pub loop-parts-preserved : goal.loop-parts-preserved
+loop-parts-preserved c = record {
+  left =
+      rw c.saturating_add-line.ensures (
+      c.loop-parts.invariant.left ∙ read-line c.loop-parts.layout c.take_line.new.self c.loop-parts.line c.in-Some.parts.before.now c.in-Some.parts.after.now c.loop-parts.rest.now c.in-Some.ensures.parts c.in_default-take_line.ensures);
+  small = omega (arith, c.saturating_add-line.ensures);
+}
+
+pub returns-clause-exact : goal.returns-clause-exact
+returns-clause-exact c = reading-is _ c.ended.result (c.loop-parts.invariant.left ∙ read-end c.loop-parts.layout c.loop-parts.line c.loop-parts.rest.now c.in_default.ensures.parts ∙ sym c.ended.ensures.value)

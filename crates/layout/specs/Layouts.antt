@@ -1,0 +1,18 @@
+-- What a clause sees of a `Layout`.
+use Rattle.layout.specs.Platform.{Platform}
+use Rattle.layout.specs.Laws.{IsPlatform}
+use Rattle.layout.specs.declared.platform.Layout.TheInside.{Inside}
+
+abbrev pub platform_of : Inside → Platform
+platform_of s = record {
+  frames = s.frames;
+  switches = s.switches.items;
+  ports = s.ports.items;
+  functions = s.functions.items;
+  maps = s.maps.items;
+  budgets = s.budgets.items;
+  credits = s.credits.items;
+}
+
+pub record IsKept (s : Inside) : Type 0 where
+  pub platform : IsPlatform (platform_of s)

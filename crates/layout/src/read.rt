@@ -1,0 +1,67 @@
+//! Reading a layout text.
+
+ghost use Rattle.std.specs.Prelude.{◌≡◌, IfOk};
+ghost use Rattle.layout.specs.Text.{pieces};
+ghost use Rattle.layout.specs.Platform.{no_lines};
+ghost use Rattle.layout.specs.Laws.{IsPlatform};
+ghost use Rattle.layout.specs.Reading.{ended, read_from, reading, IsReading};
+
+use crate::platform::Layout;
+use crate::rules::tree::has_root;
+use crate::text::fields::{cut, is_word};
+use fab_types::{LayoutCause, LayoutFault};
+use std::alloc::Global;
+
+// Behind the last line feed stands nothing, and by then there is a switch below the root port.
+fn ended(layout: Layout, line: u32, rest: &[u8]) -> Result<Layout, LayoutFault>
+    ensures value { result ≡ ended layout line rest.now }
+    ensures laws { IfOk result (λ layout. IsPlatform layout) }
+{
+    if is_word(rest, "") && has_root(layout.switches()) {
+        return Ok(layout);
+    }
+    let cause = LayoutCause::Line;
+    Err(LayoutFault { cause, line })
+}
+
+fn read_lines(alloc: Global, text: &[u8]) -> Result<Layout, LayoutFault>
+    ensures exact { IsReading (read_from no_lines 2 (pieces text.now)) result }
+    ensures laws { IfOk result (λ layout. IsPlatform layout) }
+{
+    let mut layout = Layout::empty(alloc);
+    let mut line: u32 = 2;
+    let mut rest = text;
+    while let Some(parts) = cut(rest, b'\n') {
+        if let Err(cause) = layout.take_line(parts.before) {
+            return Err(LayoutFault { cause, line });
+        }
+        line = line.saturating_add(1);
+        rest = parts.after;
+    }
+    ended(layout, line, rest)
+}
+
+impl Layout {
+    /// Reads a layout text.
+    ///
+    /// # Errors
+    ///
+    /// The first faulty line, counted from 1 (the line after the last where no switch stands below the
+    /// root port), and the least numbered cause that applies to it; or `NoMemory` and the line at which
+    /// memory was refused.
+    pub fn read(alloc: Global, text: &str) -> Result<Layout, LayoutFault>
+        ensures exact { IsReading (reading text.now) result }
+        ensures laws { IfOk result (λ layout. IsPlatform layout) }
+    {
+        match cut(text.as_bytes(), b'\n') {
+            Some(first) => {
+                if is_word(first.before, "pciefab 1") {
+                    return read_lines(alloc, first.after);
+                }
+            }
+            None => {}
+        }
+        let (cause, line) = (LayoutCause::Line, 1);
+        Err(LayoutFault { cause, line })
+    }
+}

@@ -1,0 +1,121 @@
+//! Where switches, ports and functions stand (PCIe 4.0, 7.5.1.3).
+
+ghost use Rattle.std.specs.Prelude.{◌≡◌, ◌==◌};
+ghost use Rattle.std.specs.List.{find};
+ghost use Rattle.std.specs.Option.{option_copied};
+ghost use Rattle.layout.specs.Tree.{port_at, id_below, port_over, is_switch, has_root, internal_bus, switch_on, port_above, port_above_bus, is_third_level, is_taken, domain_of};
+
+use crate::lines::{FunctionLine, PortLine, SwitchLine};
+use crate::owners::{is_function, port_above as port_over_bus};
+use fab_types::{Bdf, PortId};
+
+fn find_port(ports: &[PortLine], id: PortId) -> Option<&PortLine>
+    ensures { option_copied result ≡ port_at ports.now id }
+{
+    ports.iter().find(|port| port.id == id)
+}
+
+pub(crate) fn port_at(ports: &[PortLine], id: Bdf) -> Option<PortLine>
+    ensures { result ≡ port_at ports.now id }
+{
+    find_port(ports, PortId::new(id)).copied()
+}
+
+/// The ID of whatever stands directly below a port.
+pub(crate) fn id_below(port: &PortLine) -> Bdf
+    ensures { result ≡ id_below port.now }
+{
+    Bdf::from_bits(u16::from(port.secondary) * 256)
+}
+
+fn find_port_over(ports: &[PortLine], id: Bdf) -> Option<&PortLine>
+    ensures { option_copied result ≡ port_over ports.now id }
+{
+    ports.iter().find(|port| id_below(port) == id)
+}
+
+/// The port directly above what has this ID.
+pub(crate) fn port_over(ports: &[PortLine], id: Bdf) -> Option<PortLine>
+    ensures { result ≡ port_over ports.now id }
+{
+    find_port_over(ports, id).copied()
+}
+
+pub(crate) fn is_switch(switches: &[SwitchLine], id: Bdf) -> bool
+    ensures { result ≡ is_switch switches.now id }
+{
+    switches.iter().any(|switch| switch.id == id)
+}
+
+/// Is there a switch below the root port?
+pub(crate) fn has_root(switches: &[SwitchLine]) -> bool
+    ensures { result ≡ has_root switches.now }
+{
+    switches.iter().any(|switch| switch.above.is_none())
+}
+
+fn internal_bus(switch: &SwitchLine) -> u16
+    ensures { result ≡ internal_bus switch.now }
+{
+    u16::from(switch.id.bus()) + 1
+}
+
+fn find_switch(switches: &[SwitchLine], bus: u8) -> Option<&SwitchLine>
+    ensures { option_copied result ≡ switch_on switches.now bus }
+{
+    switches
+        .iter()
+        .find(|switch| internal_bus(switch) == u16::from(bus))
+}
+
+/// The switch whose downstream ports have this bus.
+pub(crate) fn switch_on(switches: &[SwitchLine], bus: u8) -> Option<SwitchLine>
+    ensures { result ≡ switch_on switches.now bus }
+{
+    find_switch(switches, bus).copied()
+}
+
+/// The port above a switch, if it isn't the top one.
+pub(crate) fn port_above(ports: &[PortLine], switch: &SwitchLine) -> Option<PortLine>
+    ensures { result ≡ port_above ports.now switch.now }
+{
+    let above = switch.above?;
+    port_at(ports, above.id())
+}
+
+#[tactic(auto, unfolding(crate::specs::Tree::port_above_bus))]
+fn port_above_bus(switches: &[SwitchLine], ports: &[PortLine], bus: u8) -> Option<PortLine>
+    ensures { result ≡ port_above_bus switches.now ports.now bus }
+{
+    let switch = switch_on(switches, bus)?;
+    port_above(ports, &switch)
+}
+
+/// Do two switches stand above the one whose ports have this bus?
+#[tactic(auto, unfolding(crate::specs::Tree::is_third_level))]
+pub(crate) fn is_third_level(switches: &[SwitchLine], ports: &[PortLine], bus: u8) -> bool
+    ensures { result ≡ is_third_level switches.now ports.now bus }
+{
+    match port_above_bus(switches, ports, bus) {
+        Some(port) => port_above_bus(switches, ports, port.id.id().bus()).is_some(),
+        None => false,
+    }
+}
+
+/// Does something stand there already?
+pub(crate) fn is_taken(switches: &[SwitchLine], functions: &[FunctionLine], id: Bdf) -> bool
+    ensures { result ≡ is_taken switches.now functions.now id }
+{
+    is_switch(switches, id) || is_function(functions, id)
+}
+
+/// The domain of a function: the owner of the port directly above it, or 0, which is no domain.
+#[tactic(auto, unfolding(crate::specs::Tree::domain_of))]
+pub(crate) fn domain_of(ports: &[PortLine], function: Bdf) -> u8
+    ensures { result ≡ domain_of ports.now function }
+{
+    match port_over_bus(ports, function.bus()) {
+        Some(port) => port.owner.get(),
+        None => 0,
+    }
+}

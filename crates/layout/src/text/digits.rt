@@ -1,0 +1,149 @@
+//! Numbers and IDs in a text.
+
+ghost use Rattle.std.specs.Prelude.{◌≡◌, ℕ, ◌<◌, ◌≤◌, ◌^◌, length, IfSome};
+ghost use Rattle.layout.specs.Text.{decimal_digit, hex_digit, digits, decimal, hexadecimal, hex_pair, id_of_known, id_of_parts, id_at};
+
+use fab_types::Bdf;
+
+fn decimal_digit(byte: u8) -> Option<u8>
+    ensures value { result ≡ decimal_digit byte }
+    ensures small { IfSome result (λ digit. digit < 10) }
+{
+    if b'0' <= byte && byte <= b'9' {
+        Some(byte - b'0')
+    } else {
+        None
+    }
+}
+
+/// A hexadecimal digit, in lower case.
+fn hex_digit(byte: u8) -> Option<u8>
+    ensures value { result ≡ hex_digit byte }
+    ensures small { IfSome result (λ digit. digit < 16) }
+{
+    if b'0' <= byte && byte <= b'9' {
+        return Some(byte - b'0');
+    }
+    if b'a' <= byte && byte <= b'f' {
+        return Some(byte - 87);
+    }
+    None
+}
+
+fn decimal_value(text: &[u8]) -> Option<u32>
+    requires { length text.now ≤ 9 }
+    ensures { result ≡ digits decimal_digit 10 0 text.now }
+{
+    let mut value: u32 = 0;
+    for byte in text {
+        match decimal_digit(*byte) {
+            Some(digit) => value = value * 10 + u32::from(digit),
+            None => return None,
+        }
+    }
+    Some(value)
+}
+
+fn hex_value(text: &[u8]) -> Option<u64>
+    requires { length text.now ≤ 13 }
+    ensures value { result ≡ digits hex_digit 16 0 text.now }
+    ensures small { IfSome result (λ value. value < 16 ^ length text.now) }
+{
+    let mut value: u64 = 0;
+    for byte in text {
+        match hex_digit(*byte) {
+            Some(digit) => value = value * 16 + u64::from(digit),
+            None => return None,
+        }
+    }
+    Some(value)
+}
+
+/// A number of one to nine decimal digits. Leading zeros are allowed.
+#[tactic(auto, unfolding(crate::specs::Text::decimal))]
+pub(crate) fn decimal(text: &[u8]) -> Option<u32>
+    ensures { result ≡ decimal text.now }
+{
+    if 1 <= text.len() && text.len() <= 9 {
+        decimal_value(text)
+    } else {
+        None
+    }
+}
+
+/// A number of `least` to `most` hexadecimal digits in lower case.
+#[tactic(auto, unfolding(crate::specs::Text::hexadecimal))]
+fn hexadecimal(text: &[u8], least: usize, most: usize) -> Option<u64>
+    requires { most ≤ 13 }
+    ensures value { result ≡ hexadecimal least most text.now }
+    ensures small { IfSome result (λ value. value < 16 ^ most) }
+{
+    if least <= text.len() && text.len() <= most {
+        hex_value(text)
+    } else {
+        None
+    }
+}
+
+/// A number of two hexadecimal digits.
+pub(crate) fn hex_byte(text: &[u8]) -> Option<u8>
+    ensures { result ≡ hexadecimal 2 2 text.now }
+{
+    match hexadecimal(text, 2, 2) {
+        Some(value) => Some(value as u8),
+        None => None,
+    }
+}
+
+/// A number of eight hexadecimal digits.
+pub(crate) fn hex_word(text: &[u8]) -> Option<u32>
+    ensures { result ≡ hexadecimal 8 8 text.now }
+{
+    match hexadecimal(text, 8, 8) {
+        Some(value) => Some(value as u32),
+        None => None,
+    }
+}
+
+/// The number of a page: 1 to 13 hexadecimal digits.
+pub(crate) fn page(text: &[u8]) -> Option<u64>
+    ensures { result ≡ hexadecimal 1 13 text.now }
+{
+    hexadecimal(text, 1, 13)
+}
+
+fn hex_pair(high: u8, low: u8) -> Option<u8>
+    ensures { result ≡ hex_pair high low }
+{
+    let high = hex_digit(high)?;
+    let low = hex_digit(low)?;
+    Some(high * 16 + low)
+}
+
+fn id_of_known(bus: u8, device: u8, function: u8) -> Option<Bdf>
+    ensures { result ≡ id_of_known bus device function }
+{
+    Bdf::new(bus, device, function)
+}
+
+fn id_of_parts(bus: Option<u8>, device: Option<u8>, function: Option<u8>) -> Option<Bdf>
+    ensures { result ≡ id_of_parts bus device function }
+{
+    id_of_known(bus?, device?, function?)
+}
+
+/// An ID, as `03:00.0`.
+#[tactic(auto, unfolding(crate::specs::Text::id_at))]
+pub(crate) fn id(text: &[u8]) -> Option<Bdf>
+    ensures { result ≡ id_at text.now }
+{
+    if text.len() == 7 && text[2] == b':' && text[5] == b'.' {
+        id_of_parts(
+            hex_pair(text[0], text[1]),
+            hex_pair(text[3], text[4]),
+            hex_digit(text[6]),
+        )
+    } else {
+        None
+    }
+}

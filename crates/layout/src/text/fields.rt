@@ -1,0 +1,41 @@
+//! A text cut into lines, and a line into fields.
+
+ghost use Rattle.std.specs.Prelude.{◌≡◌, ◌<◌, length, IfSome, option_map};
+ghost use Rattle.std.specs.Str.{bytes_eq};
+ghost use Rattle.std.specs.List.{position};
+ghost use Rattle.layout.specs.Text.{cut, is_byte};
+
+/// The two parts of a text that was cut.
+#[derive(Clone, Copy)]
+pub(crate) struct Parts<'a> {
+    pub before: &'a [u8],
+    pub after: &'a [u8],
+}
+
+fn first_place(text: &[u8], byte: u8) -> Option<usize>
+    ensures place { result ≡ position (is_byte byte) text.now }
+    ensures within { IfSome result (λ at. at < length text.now) }
+{
+    text.iter().position(|b| *b == byte)
+}
+
+/// Cuts a text at the first such byte, if there is one.
+pub(crate) fn cut(text: &[u8], byte: u8) -> Option<Parts<'_>>
+    ensures parts { option_map (λ parts. (parts.before.now, parts.after.now)) result ≡ cut byte text.now }
+    ensures shorter { IfSome result (λ parts. length parts.after.now < length text.now) }
+{
+    match first_place(text, byte) {
+        Some(at) => Some(Parts {
+            before: &text[..at],
+            after: &text[at + 1..],
+        }),
+        None => None,
+    }
+}
+
+/// Is the field this word?
+pub(crate) fn is_word(field: &[u8], word: &str) -> bool
+    ensures { result ≡ bytes_eq field.now word.now }
+{
+    field == word.as_bytes()
+}

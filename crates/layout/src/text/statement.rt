@@ -1,0 +1,310 @@
+//! What a line says, before any rule is tested.
+
+ghost use Rattle.std.specs.Prelude.{◌≡◌, option_map};
+ghost use Rattle.layout.specs.Text.{cut};
+ghost use Rattle.layout.specs.Statements.{frames_text, switch_below, switch_text, port_fields, port_text, function_text, rights_text, target_text, map_fields, map_text, budget_text, credit_fields, credit_text, statement_of_word, statement_of};
+
+use crate::lines::{FunctionLine, Rights};
+use crate::text::digits::{decimal, hex_byte, hex_word, id, page};
+use crate::text::fields::{Parts, cut, is_word};
+use fab_types::Bdf;
+
+/// What a `switch` line says that isn't the root's.
+#[derive(Clone, Copy, Debug)]
+pub(crate) struct SwitchText {
+    pub id: Bdf,
+    pub above: Bdf,
+}
+
+/// What a `port` line says.
+#[derive(Clone, Copy, Debug)]
+pub(crate) struct PortText {
+    pub id: Bdf,
+    pub secondary: u8,
+    pub subordinate: u8,
+    pub base: u32,
+    pub limit: u32,
+    pub controls: u8,
+    pub owner: u32,
+}
+
+/// What a `map` line maps to.
+#[derive(Clone, Copy, Debug)]
+pub(crate) enum TargetText {
+    Frame(u32),
+    Peer(Bdf),
+}
+
+/// What a `map` line says.
+#[derive(Clone, Copy, Debug)]
+pub(crate) struct MapText {
+    pub requester: Bdf,
+    pub page: u64,
+    pub target: TargetText,
+    pub rights: Rights,
+}
+
+/// What a `budget` line says.
+#[derive(Clone, Copy, Debug)]
+pub(crate) struct BudgetText {
+    pub domain: u32,
+    pub begins: u32,
+}
+
+/// What a `credit` line says.
+#[derive(Clone, Copy, Debug)]
+pub(crate) struct CreditText {
+    pub id: Bdf,
+    pub posted_headers: u32,
+    pub posted_data: u32,
+    pub non_posted_headers: u32,
+    pub non_posted_data: u32,
+    pub completion_headers: u32,
+    pub completion_data: u32,
+}
+
+/// What a line says: a variant for each form.
+#[derive(Clone, Copy, Debug)]
+pub(crate) enum Statement {
+    Frames(u32),
+    Root(Bdf),
+    Switch(SwitchText),
+    Port(PortText),
+    Function(FunctionLine),
+    Map(MapText),
+    Budget(BudgetText),
+    Credit(CreditText),
+}
+
+fn frames_text(rest: &[u8]) -> Option<Statement>
+    ensures { result ≡ frames_text rest.now }
+{
+    Some(Statement::Frames(decimal(rest)?))
+}
+
+fn switch_below(id: Bdf, above: &[u8]) -> Option<Statement>
+    ensures { result ≡ switch_below id above.now }
+{
+    if is_word(above, "root") {
+        return Some(Statement::Root(id));
+    }
+    let above = crate::text::digits::id(above)?;
+    Some(Statement::Switch(SwitchText { id, above }))
+}
+
+fn at_blank(text: &[u8]) -> Option<Parts<'_>>
+    ensures { option_map (λ parts. (parts.before.now, parts.after.now)) result ≡ cut 32 text.now }
+{
+    cut(text, b' ')
+}
+
+fn switch_text(rest: &[u8]) -> Option<Statement>
+    ensures { result ≡ switch_text rest.now }
+{
+    let first = at_blank(rest)?;
+    switch_below(id(first.before)?, first.after)
+}
+
+#[derive(Clone, Copy)]
+struct PortFields<'a> {
+    id: &'a [u8],
+    secondary: &'a [u8],
+    subordinate: &'a [u8],
+    base: &'a [u8],
+    limit: &'a [u8],
+    controls: &'a [u8],
+    owner: &'a [u8],
+}
+
+fn port_fields(fields: &PortFields<'_>) -> Option<Statement>
+    ensures { result ≡ port_fields fields.now.id.now fields.now.secondary.now fields.now.subordinate.now fields.now.base.now fields.now.limit.now fields.now.controls.now fields.now.owner.now }
+{
+    let port = PortText {
+        id: id(fields.id)?,
+        secondary: hex_byte(fields.secondary)?,
+        subordinate: hex_byte(fields.subordinate)?,
+        base: hex_word(fields.base)?,
+        limit: hex_word(fields.limit)?,
+        controls: hex_byte(fields.controls)?,
+        owner: decimal(fields.owner)?,
+    };
+    Some(Statement::Port(port))
+}
+
+fn port_text(rest: &[u8]) -> Option<Statement>
+    ensures { result ≡ port_text rest.now }
+{
+    let id = at_blank(rest)?;
+    let secondary = at_blank(id.after)?;
+    let subordinate = at_blank(secondary.after)?;
+    let base = at_blank(subordinate.after)?;
+    let limit = at_blank(base.after)?;
+    let controls = at_blank(limit.after)?;
+    port_fields(&PortFields {
+        id: id.before,
+        secondary: secondary.before,
+        subordinate: subordinate.before,
+        base: base.before,
+        limit: limit.before,
+        controls: controls.before,
+        owner: controls.after,
+    })
+}
+
+fn function_text(rest: &[u8]) -> Option<Statement>
+    ensures { result ≡ function_text rest.now }
+{
+    let first = at_blank(rest)?;
+    let id = id(first.before)?;
+    let bar = hex_word(first.after)?;
+    Some(Statement::Function(FunctionLine { id, bar }))
+}
+
+fn rights_text(field: &[u8]) -> Option<Rights>
+    ensures { result ≡ rights_text field.now }
+{
+    let (read, write) = if is_word(field, "r") {
+        (true, false)
+    } else if is_word(field, "w") {
+        (false, true)
+    } else if is_word(field, "rw") {
+        (true, true)
+    } else {
+        return None;
+    };
+    Some(Rights { read, write })
+}
+
+fn target_text(word: &[u8], field: &[u8]) -> Option<TargetText>
+    ensures { result ≡ target_text word.now field.now }
+{
+    if is_word(word, "frame") {
+        return Some(TargetText::Frame(decimal(field)?));
+    }
+    if is_word(word, "peer") {
+        return Some(TargetText::Peer(id(field)?));
+    }
+    None
+}
+
+fn map_fields(
+    requester: &[u8],
+    number: &[u8],
+    word: &[u8],
+    target: &[u8],
+    rights: &[u8],
+) -> Option<Statement>
+    ensures { result ≡ map_fields requester.now number.now word.now target.now rights.now }
+{
+    let requester = id(requester)?;
+    let page = page(number)?;
+    let target = target_text(word, target)?;
+    let rights = rights_text(rights)?;
+    Some(Statement::Map(MapText {
+        requester,
+        page,
+        target,
+        rights,
+    }))
+}
+
+fn map_text(rest: &[u8]) -> Option<Statement>
+    ensures { result ≡ map_text rest.now }
+{
+    let id = at_blank(rest)?;
+    let page = at_blank(id.after)?;
+    let word = at_blank(page.after)?;
+    let target = at_blank(word.after)?;
+    map_fields(
+        id.before,
+        page.before,
+        word.before,
+        target.before,
+        target.after,
+    )
+}
+
+fn budget_text(rest: &[u8]) -> Option<Statement>
+    ensures { result ≡ budget_text rest.now }
+{
+    let first = at_blank(rest)?;
+    let domain = decimal(first.before)?;
+    let begins = decimal(first.after)?;
+    Some(Statement::Budget(BudgetText { domain, begins }))
+}
+
+#[derive(Clone, Copy)]
+struct CreditFields<'a> {
+    id: &'a [u8],
+    posted_headers: &'a [u8],
+    posted_data: &'a [u8],
+    non_posted_headers: &'a [u8],
+    non_posted_data: &'a [u8],
+    completion_headers: &'a [u8],
+    completion_data: &'a [u8],
+}
+
+fn credit_fields(fields: &CreditFields<'_>) -> Option<Statement>
+    ensures { result ≡ credit_fields fields.now.id.now fields.now.posted_headers.now fields.now.posted_data.now fields.now.non_posted_headers.now fields.now.non_posted_data.now fields.now.completion_headers.now fields.now.completion_data.now }
+{
+    let credit = CreditText {
+        id: id(fields.id)?,
+        posted_headers: decimal(fields.posted_headers)?,
+        posted_data: decimal(fields.posted_data)?,
+        non_posted_headers: decimal(fields.non_posted_headers)?,
+        non_posted_data: decimal(fields.non_posted_data)?,
+        completion_headers: decimal(fields.completion_headers)?,
+        completion_data: decimal(fields.completion_data)?,
+    };
+    Some(Statement::Credit(credit))
+}
+
+fn credit_text(rest: &[u8]) -> Option<Statement>
+    ensures { result ≡ credit_text rest.now }
+{
+    let id = at_blank(rest)?;
+    let posted_headers = at_blank(id.after)?;
+    let posted_data = at_blank(posted_headers.after)?;
+    let non_posted_headers = at_blank(posted_data.after)?;
+    let non_posted_data = at_blank(non_posted_headers.after)?;
+    let completion_headers = at_blank(non_posted_data.after)?;
+    credit_fields(&CreditFields {
+        id: id.before,
+        posted_headers: posted_headers.before,
+        posted_data: posted_data.before,
+        non_posted_headers: non_posted_headers.before,
+        non_posted_data: non_posted_data.before,
+        completion_headers: completion_headers.before,
+        completion_data: completion_headers.after,
+    })
+}
+
+fn statement_of_word(word: &[u8], rest: &[u8]) -> Option<Statement>
+    ensures { result ≡ statement_of_word word.now rest.now }
+{
+    if is_word(word, "frames") {
+        frames_text(rest)
+    } else if is_word(word, "switch") {
+        switch_text(rest)
+    } else if is_word(word, "port") {
+        port_text(rest)
+    } else if is_word(word, "function") {
+        function_text(rest)
+    } else if is_word(word, "map") {
+        map_text(rest)
+    } else if is_word(word, "budget") {
+        budget_text(rest)
+    } else if is_word(word, "credit") {
+        credit_text(rest)
+    } else {
+        None
+    }
+}
+
+/// What a line says, if it has one of the forms.
+pub(crate) fn statement_of(line: &[u8]) -> Option<Statement>
+    ensures { result ≡ statement_of line.now }
+{
+    let first = at_blank(line)?;
+    statement_of_word(first.before, first.after)
+}

@@ -1,0 +1,176 @@
+//! What a platform gives: credits of a link, owners, and the share of a domain.
+
+ghost use Rattle.std.specs.Prelude.{◌≡◌, ◌≤◌, ◌==◌, IfOk, true};
+ghost use Rattle.std.specs.List.{find, list_all};
+ghost use Rattle.std.specs.List.Sorted.{IsStrictlyIncreasing};
+ghost use Rattle.std.specs.Option.{option_copied};
+ghost use Rattle.layout.specs.Share.{is_guarded_port};
+ghost use Rattle.layout.specs.Owners.{owner_of};
+ghost use Rattle.layout.specs.Laws.{is_good_budget};
+ghost use Rattle.layout.specs.Views.{usual_limits, limits_or_usual, credits_of, begins_or_usual, budget_of, is_map_of, maps_of, is_frame_of, frames_of, share_of_owner};
+
+use crate::lines::{BudgetLine, CreditLimits, CreditLine, MapLine, PortLine};
+use crate::owners::owner_of_parts;
+use crate::platform::Layout;
+use crate::rules::links::owns_port;
+use crate::rules::mappings::is_mapping_of;
+use crate::rules::tree::{domain_of, is_taken};
+use crate::start::Start;
+use fab_types::{Bdf, DomainId, NoMemory};
+use std::alloc::Global;
+
+// The credits of a link without a `credit` line.
+const USUAL_LIMITS: CreditLimits = CreditLimits {
+    posted_headers: 16,
+    posted_data: 64,
+    non_posted_headers: 16,
+    non_posted_data: 16,
+    completion_headers: 16,
+    completion_data: 64,
+};
+
+fn credit_line(credits: &[CreditLine], id: Bdf) -> Option<&CreditLine>
+    ensures { option_copied result ≡ find (λ line. line.id == id) credits.now }
+{
+    credits.iter().find(|line| line.id == id)
+}
+
+fn limits_or_usual(line: Option<&CreditLine>) -> CreditLimits
+    ensures { result ≡ limits_or_usual (option_copied line.entry) }
+{
+    match line {
+        Some(line) => line.limits,
+        None => USUAL_LIMITS,
+    }
+}
+
+fn budget_line(budgets: &[BudgetLine], domain: DomainId) -> Option<&BudgetLine>
+    ensures { option_copied result ≡ find (λ line. line.domain == domain) budgets.now }
+{
+    budgets.iter().find(|line| line.domain == domain)
+}
+
+fn budget_of(budgets: &[BudgetLine], domain: DomainId) -> u32
+    requires { list_all is_good_budget budgets.now ≡ true }
+    ensures value { result ≡ budget_of budgets.now domain }
+    ensures least { 1 ≤ result }
+    ensures most { result ≤ 16384 }
+{
+    match budget_line(budgets, domain) {
+        Some(line) => line.begins,
+        None => 256,
+    }
+}
+
+fn is_map_of(ports: &[PortLine], domain: DomainId, line: &MapLine) -> bool
+    ensures { result ≡ is_map_of ports.now domain line.now }
+{
+    domain_of(ports, line.requester) == domain.get()
+}
+
+fn is_frame_of(maps: &[MapLine], frame: u16) -> bool
+    ensures { result ≡ is_frame_of maps.now frame }
+{
+    maps.iter()
+        .any(|line| is_mapping_of(u32::from(frame), line.target))
+}
+
+fn frames_of(alloc: Global, frames: u16, maps: &[MapLine]) -> Result<Vec<u16>, NoMemory>
+    ensures { IfOk result (λ numbers. numbers.items ≡ frames_of frames maps.now) }
+{
+    Ok(
+        (0..frames)
+            .filter(|frame| is_frame_of(maps, *frame))
+            .collect(alloc)?,
+    )
+}
+
+fn rising_frames_of(alloc: Global, frames: u16, maps: &[MapLine]) -> Result<Vec<u16>, NoMemory>
+    ensures value { IfOk result (λ numbers. numbers.items ≡ frames_of frames maps.now) }
+    ensures rising { IfOk result (λ numbers. IsStrictlyIncreasing numbers.items) }
+{
+    let numbers = frames_of(alloc, frames, maps)?;
+    Ok(numbers)
+}
+
+fn is_guarded_port(port: &PortLine) -> bool
+    ensures { result ≡ is_guarded_port port.now }
+{
+    let controls = port.controls;
+    controls.validates_source()
+        && controls.blocks_translated()
+        && controls.redirects_requests()
+        && controls.redirects_completions()
+        && controls.forwards_upstream()
+}
+
+/// Are all five controls set on each port?
+pub(crate) fn are_guarded(ports: &[PortLine]) -> bool
+    ensures { result ≡ list_all is_guarded_port ports.now }
+{
+    ports.iter().all(|port| is_guarded_port(port))
+}
+
+impl Layout {
+    /// Are all five ACS controls set on each downstream port?
+    pub fn is_guarded(&self) -> bool
+        ensures { result ≡ list_all is_guarded_port self.now.ports }
+    {
+        are_guarded(self.ports())
+    }
+
+    /// The domain that owns an ID: the domain whose host has it, if that owns a port, or the one that
+    /// owns the ports above its bus.
+    pub fn owner(&self, id: Bdf) -> Option<DomainId>
+        ensures { result ≡ owner_of self.now.ports id }
+    {
+        owner_of_parts(self.ports(), id.bus(), id.device(), id.function())
+    }
+
+    /// What each receiver of a link advertises at the start, by the link's lower end: a function or
+    /// the upstream port of a switch. None where there is no such link.
+    pub fn credits(&self, id: Bdf) -> Option<CreditLimits>
+        ensures { result ≡ credits_of self.now id }
+    {
+        if is_taken(self.switches(), self.functions(), id) {
+            Some(limits_or_usual(credit_line(self.credit_lines(), id)))
+        } else {
+            None
+        }
+    }
+
+    fn maps_of(&self, alloc: Global, domain: DomainId) -> Result<Vec<MapLine>, NoMemory>
+        ensures { IfOk result (λ maps. maps.items ≡ maps_of self.now domain) }
+    {
+        let ports = self.ports();
+        Ok(
+            self.maps()
+                .iter()
+                .copied()
+                .filter(|line| is_map_of(ports, domain, line))
+                .collect(alloc)?,
+        )
+    }
+
+    /// What a domain starts from, or none where it owns no port. Where memory was refused, it answers
+    /// `NoMemory`.
+    pub fn start(&self, alloc: Global, domain: DomainId) -> Result<Option<Start>, NoMemory>
+        ensures { IfOk result (λ start. start ≡ share_of_owner self.now domain) }
+    {
+        if !owns_port(self.ports(), u32::from(domain.get())) {
+            return Ok(None);
+        }
+        let maps = self.maps_of(alloc, domain)?;
+        let frames = rising_frames_of(alloc, self.frames(), &maps)?;
+        let budget = self.budget(domain);
+        Ok(Some(Start::of(alloc, self, domain, budget, frames, maps)?))
+    }
+
+    fn budget(&self, domain: DomainId) -> u32
+        ensures value { result ≡ budget_of self.now.budgets domain }
+        ensures least { 1 ≤ result }
+        ensures most { result ≤ 16384 }
+    {
+        budget_of(self.budgets(), domain)
+    }
+}
