@@ -25,8 +25,8 @@ use Rattle.domain.specs.declared.entry.Entry.{Entry}
 use Rattle.domain.specs.declared.entry.Entry.TheVariants.{Submit, Refuse, Carry, Deliver}
 use Rattle.domain.specs.declared.fate.Fate.{Fate}
 use Rattle.domain.specs.declared.fate.Fate.TheVariants.{Vanish, Refused, ToHost}
-use Rattle.domain.specs.Answers.{address_of, host_refusal}
-use Rattle.domain.specs.Carries.{carriage_by, carriage_of, is_carried, port_id, read_from, refusal_by, refusal_of, serve, serve_read, write_to}
+use Rattle.domain.specs.Answers.{address_of, bar_of, host_refusal}
+use Rattle.domain.specs.Carries.{carriage_by, carriage_of, forward, is_carried, port_id, read_from, refusal_by, refusal_of, serve, serve_read, write_to}
 use Rattle.domain.specs.Deliveries.{arrival_of, arrived, recorded, unexpected}
 use Rattle.domain.specs.Ends.{blocked, conclude, done, replied, with_stored}
 use Rattle.domain.specs.Fates.{fate}
@@ -208,15 +208,19 @@ refusal_owes share b (Upward f) a h = refusal_by_owes (port_id (first_port share
 refusal_owes share b (Downward g) a h = absurd cc
 refusal_owes share b (Answer by x) a h = absurd cc
 
-write_owes : (t : Packet) (target : Option MapTarget) (a : Ending) → write_to t target ≡ Some a → Owes 2 a
-write_owes t None a h = subst (Owes 2) (some_is _ a h) (omega arith)
-write_owes t (Some (Frame k)) a h = subst (Owes 2) (some_is _ a h) (omega arith)
-write_owes t (Some (Peer g)) a h = absurd cc
+forward_owes : (g : ℕ) (t : Packet) (bar : Option ℕ) (a : Ending) → forward g t bar ≡ Some a → Owes 2 a
+forward_owes g t None a h = absurd cc
+forward_owes g t (Some bar) a h = subst (Owes 2) (some_is _ a h) (omega arith)
+
+write_owes : (share : Share) (t : Packet) (target : Option MapTarget) (a : Ending) → write_to share t target ≡ Some a → Owes 2 a
+write_owes share t None a h = subst (Owes 2) (some_is _ a h) (omega arith)
+write_owes share t (Some (Frame k)) a h = subst (Owes 2) (some_is _ a h) (omega arith)
+write_owes share t (Some (Peer g)) a h = forward_owes g t (bar_of share.functions g) a h
 
 read_owes : (share : Share) (frames : List (ℕ × List ℕ)) (t : Packet) (target : Option MapTarget) (a : Ending) → read_from share frames t target ≡ Some a → Owes 2 a
 read_owes share frames t None a h = subst (Owes 2) (some_is _ a h) (omega arith)
 read_owes share frames t (Some (Frame k)) a h = subst (Owes 2) (some_is _ a h) (omega arith)
-read_owes share frames t (Some (Peer g)) a h = absurd cc
+read_owes share frames t (Some (Peer g)) a h = forward_owes g t (bar_of share.functions g) a h
 
 -- whichever of two it is
 either_owes : (b : Bool) (x y : Option Ending) (a : Ending) → (x ≡ Some a → Owes 2 a) → (y ≡ Some a → Owes 2 a) → cond b x y ≡ Some a → Owes 2 a
@@ -230,8 +234,8 @@ serve_read_owes share frames t a h =
 
 serve_owes : (share : Share) (frames : List (ℕ × List ℕ)) (t : Packet) (a : Ending) → serve share frames t ≡ Some a → Owes 2 a
 serve_owes share frames t a h =
-    either_owes (is_write t.kind) (write_to t (target_of share.maps t.requester (address_of t / 4096) Write)) (serve_read share frames t) a
-    (write_owes t (target_of share.maps t.requester (address_of t / 4096) Write) a) (serve_read_owes share frames t a) h
+    either_owes (is_write t.kind) (write_to share t (target_of share.maps t.requester (address_of t / 4096) Write)) (serve_read share frames t) a
+    (write_owes share t (target_of share.maps t.requester (address_of t / 4096) Write) a) (serve_read_owes share frames t a) h
 
 carriage_by_owes : (share : Share) (frames : List (ℕ × List ℕ)) (b : List ℕ) (fate : Fate) (a : Ending) → carriage_by share frames b fate ≡ Some a → Owes 2 a
 carriage_by_owes share frames b Vanish a h = absurd cc

@@ -9,7 +9,7 @@ use Rattle.tlp_view.specs.Runs.{runs}
 use Rattle.domain.proofs.FlightLemmas.{clear_push, item_push}
 use Rattle.domain.specs.declared.ending.Deed.{Deed}
 use Rattle.domain.specs.declared.ending.Deed.TheVariants.{Leave, Block, Store}
-use Rattle.domain.specs.declared.tags.OpenTag.{OpenTag}
+use Rattle.function.specs.declared.tags.OpenTag.{OpenTag}
 use Rattle.domain.specs.Deliveries.{closed}
 use Rattle.domain.specs.Ends.{DeedFits, blocked, done, replied, with_stored}
 use Rattle.domain.specs.State.{Alone, Delivery, Emission, item_at, without}

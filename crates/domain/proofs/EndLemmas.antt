@@ -21,15 +21,15 @@ use Rattle.domain.specs.declared.ending.Ending.{Ending}
 use Rattle.domain.specs.declared.entry.Entry.TheVariants.{Carry, Deliver, Refuse}
 use Rattle.domain.specs.declared.fate.Fate.{Fate}
 use Rattle.domain.specs.declared.fate.Fate.TheVariants.{Vanish, Refused, ToHost}
-use Rattle.domain.specs.Answers.{address_of, host_refusal}
-use Rattle.domain.specs.Carries.{carriage_by, carriage_end, carriage_of, is_carried, port_id, read_from, refusal_by, refusal_end, refusal_of, serve, serve_read, write_to}
+use Rattle.domain.specs.Answers.{address_of, bar_of, host_refusal}
+use Rattle.domain.specs.Carries.{carriage_by, carriage_end, carriage_of, forward, is_carried, port_id, read_from, refusal_by, refusal_end, refusal_of, serve, serve_read, write_to}
 use Rattle.domain.specs.Domains.{DomainView, EndsBy}
 use Rattle.domain.specs.Ends.{DeedFits, conclude}
 use Rattle.domain.specs.Fates.{fate, fate_at, fate_below, fate_unless, packet_fate}
 use Rattle.domain.specs.Machine.{carry, change, ended, refuse}
 use Rattle.domain.specs.State.{Alone, Change, Emission, emits_nothing, item_at, without}
 use Rattle.domain.specs.declared.deliver.Arrival.{Arrival}
-use Rattle.domain.specs.declared.tags.OpenTag.{OpenTag}
+use Rattle.function.specs.declared.tags.OpenTag.{OpenTag}
 use Rattle.domain.specs.Deliveries.{arrival, arrived}
 
 abbrev some : {A : Type 0} → A → Option A
@@ -71,15 +71,19 @@ refusal_fits share b (Upward f) a e = refusal_by_fits (port_id (first_port share
 refusal_fits share b (Downward g) a e = absurd cc
 refusal_fits share b (Answer by x) a e = absurd cc
 
-write_fits : (b : List ℕ) (target : Option MapTarget) (a : Ending) → malformed b ≡ None → is_write (packet_of b).kind ≡ true → write_to (packet_of b) target ≡ Some a → Fits b a
-write_fits b None a good w e = subst (Fits b) (some_is _ a e) tt
-write_fits b (Some (Frame k)) a good w e = subst (Fits b) (some_is _ a e) (good, write_in_page b good w)
-write_fits b (Some (Peer g)) a good w e = absurd cc
+forward_fits : (b : List ℕ) (g : ℕ) (t : Packet) (bar : Option ℕ) (a : Ending) → forward g t bar ≡ Some a → Fits b a
+forward_fits b g t None a e = absurd cc
+forward_fits b g t (Some bar) a e = subst (Fits b) (some_is _ a e) tt
+
+write_fits : (share : Share) (b : List ℕ) (target : Option MapTarget) (a : Ending) → malformed b ≡ None → is_write (packet_of b).kind ≡ true → write_to share (packet_of b) target ≡ Some a → Fits b a
+write_fits share b None a good w e = subst (Fits b) (some_is _ a e) tt
+write_fits share b (Some (Frame k)) a good w e = subst (Fits b) (some_is _ a e) (good, write_in_page b good w)
+write_fits share b (Some (Peer g)) a good w e = forward_fits b g (packet_of b) (bar_of share.functions g) a e
 
 read_fits : (share : Share) (frames : List (ℕ × List ℕ)) (b : List ℕ) (t : Packet) (target : Option MapTarget) (a : Ending) → read_from share frames t target ≡ Some a → Fits b a
 read_fits share frames b t None a e = subst (Fits b) (some_is _ a e) tt
 read_fits share frames b t (Some (Frame k)) a e = subst (Fits b) (some_is _ a e) tt
-read_fits share frames b t (Some (Peer g)) a e = absurd cc
+read_fits share frames b t (Some (Peer g)) a e = forward_fits b g t (bar_of share.functions g) a e
 
 -- whichever of two it is
 either_fits : (c : Bool) (x y : Option Ending) (b : List ℕ) (a : Ending) → (c ≡ true → x ≡ Some a → Fits b a) → (y ≡ Some a → Fits b a) → cond c x y ≡ Some a → Fits b a
@@ -102,7 +106,7 @@ carriage_by_fits share frames b ToHost a good e =
     let t = packet_of b in
     let target = target_of share.maps t.requester (address_of t / 4096) Write in
     either_fits (is_carried share t) (serve share frames t) None b a
-    (λ carried. either_fits (is_write t.kind) (write_to t target) (serve_read share frames t) b a (write_fits b target a (good refl)) (serve_read_fits share frames b t a))
+    (λ carried. either_fits (is_write t.kind) (write_to share t target) (serve_read share frames t) b a (write_fits share b target a (good refl)) (serve_read_fits share frames b t a))
     (none_fits b a None refl) e
 
 carriage_fits : (share : Share) (frames : List (ℕ × List ℕ)) (b : List ℕ) (p : Parties) (a : Ending) → carriage_of share frames b p ≡ Some a → Fits b a

@@ -1,6 +1,5 @@
 pub mod PageFits
 pub mod FlightLemmas
-pub mod RegisterLemmas
 pub mod StoreLemmas
 pub mod ConcludeLemmas
 pub mod Accounting

@@ -1,8 +1,9 @@
 -- The completions by which ports and the host answer (PCIe 4.0, 2.3.1).
-use Rattle.std.specs.Prelude.{ℕ, ◌+◌, ◌*◌, ◌%◌, ◌==◌, Bool, false, ◌&&◌, List, Option, Some, None, unwrap_or, replicate, if◌then◌else◌}
+use Rattle.std.specs.Prelude.{ℕ, ◌+◌, ◌*◌, ◌/◌, ◌%◌, ◌==◌, Bool, false, ◌&&◌, List, Option, Some, None, option_map, unwrap_or, replicate, if◌then◌else◌}
+use Rattle.std.specs.List.{find}
 use Rattle.fab_types.specs.declared.head.Answerer.{Answerer}
 use Rattle.fab_types.specs.declared.head.Answerer.TheVariants as by
-use Rattle.fab_types.specs.declared.head.Parties.TheVariants.{Answer}
+use Rattle.fab_types.specs.declared.head.Parties.TheVariants.{Answer, Downward}
 use Rattle.fab_types.specs.declared.place.Origin.{Origin}
 use Rattle.fab_types.specs.declared.place.Origin.TheVariants.{Function}
 use Rattle.fab_types.specs.declared.status.Status.{Status}
@@ -13,7 +14,16 @@ use Rattle.layout.specs.Share.{Share}
 use Rattle.tlp_view.specs.declared.enables.Enables.{Enables}
 use Rattle.tlp_view.specs.Completions.{completion_bytes, read_completion, refusal}
 use Rattle.tlp_view.specs.Packet.{Packet, address_in, dw_count, enables_in}
+use Rattle.tlp_view.specs.Requests.{moved, packet_bytes}
+use Rattle.layout.specs.declared.lines.FunctionLine.{FunctionLine}
+use Rattle.domain.specs.declared.ending.Made.{Made}
+use Rattle.domain.specs.declared.ending.Made.TheVariants as made
 use Rattle.domain.specs.State.{Emission}
+
+-- the bytes of a packet that the domain itself makes
+abbrev pub made_bytes : Made → List ℕ
+made_bytes (made.Completion t) = completion_bytes t
+made_bytes (made.Request t) = packet_bytes t
 
 -- the ID of the host itself
 abbrev pub host_id : ℕ
@@ -53,3 +63,16 @@ abbrev pub shown : List (ℕ × List ℕ) → ℕ → Packet → List ℕ
 shown frames k t =
     if reads_nothing t then blank t
     else unwrap_or (part_of frames k (address_of t % 4096) (address_of t % 4096 + 4 * dw_count t.length)) (blank t)
+
+-- ---- a request to the register page of a function
+
+-- the address at which a function's register page begins; every BAR is the address of a page
+abbrev pub page_at : ℕ → ℕ
+page_at bar = bar / 4096 * 4096
+
+abbrev pub bar_of : List FunctionLine → ℕ → Option ℕ
+bar_of functions function = option_map (λ line. line.bar) (find (λ line. line.id == function) functions)
+
+-- the request goes on to the same place in the function's page, with all else kept
+abbrev pub forwarded : ℕ → ℕ → Packet → Emission
+forwarded function bar t = record { parties = Downward function; bytes = packet_bytes (moved t (page_at bar + address_of t % 4096)) }

@@ -16,7 +16,7 @@ use Rattle.tlp_view.specs.Bytes.{packet_of}
 use Rattle.domain.specs.declared.ending.Deed.TheVariants.{Leave, Block, Store}
 use Rattle.domain.specs.declared.ending.Ending.{Ending}
 use Rattle.domain.specs.State.{Emission}
-use Rattle.domain.specs.Answers.{address_of, host_data, host_refusal, port_answer, shown}
+use Rattle.domain.specs.Answers.{address_of, bar_of, forwarded, host_data, host_refusal, port_answer, shown}
 use Rattle.domain.specs.declared.fate.Fate.{Fate}
 use Rattle.domain.specs.declared.fate.Fate.TheVariants.{Vanish, Refused, ToHost}
 use Rattle.domain.specs.Fates.{fate, is_untranslated}
@@ -45,17 +45,22 @@ refusal_end share (Some e) = refusal_of share e.bytes e.parties
 
 -- ---- at the host
 
--- a write goes where its page is mapped; a write to a peer isn't made yet
-abbrev pub write_to : Packet → Option MapTarget → Option Ending
-write_to t None = Some (record { deed = Block; reply = None })
-write_to t (Some (Frame k)) = Some (record { deed = Store k (address_of t % 4096); reply = None })
-write_to t (Some (Peer function)) = None
+-- a request to a peer function goes down to its register page
+abbrev pub forward : ℕ → Packet → Option ℕ → Option Ending
+forward function t None = None
+forward function t (Some bar) = Some (record { deed = Leave; reply = Some (forwarded function bar t) })
 
--- a read is answered with what its page is mapped to; a read of a peer isn't made yet
+-- a write goes where its page is mapped
+abbrev pub write_to : Share → Packet → Option MapTarget → Option Ending
+write_to share t None = Some (record { deed = Block; reply = None })
+write_to share t (Some (Frame k)) = Some (record { deed = Store k (address_of t % 4096); reply = None })
+write_to share t (Some (Peer function)) = forward function t (bar_of share.functions function)
+
+-- a read is answered with what its page is mapped to
 abbrev pub read_from : Share → List (ℕ × List ℕ) → Packet → Option MapTarget → Option Ending
 read_from share frames t None = Some (record { deed = Block; reply = Some (host_refusal share t) })
 read_from share frames t (Some (Frame k)) = Some (record { deed = Leave; reply = Some (host_data share t (shown frames k t)) })
-read_from share frames t (Some (Peer function)) = None
+read_from share frames t (Some (Peer function)) = forward function t (bar_of share.functions function)
 
 -- a read of more than 64 DW is refused before its page is looked up
 abbrev pub serve_read : Share → List (ℕ × List ℕ) → Packet → Option Ending
@@ -67,7 +72,7 @@ serve_read share frames t =
 abbrev pub serve : Share → List (ℕ × List ℕ) → Packet → Option Ending
 serve share frames t =
     if is_write t.kind
-    then write_to t (target_of share.maps t.requester (address_of t / 4096) Write)
+    then write_to share t (target_of share.maps t.requester (address_of t / 4096) Write)
     else serve_read share frames t
 
 abbrev pub is_owner : Option ℕ → ℕ → Bool

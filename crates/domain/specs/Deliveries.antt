@@ -9,7 +9,7 @@ use Rattle.fab_types.specs.declared.status.Status.TheVariants.{SC}
 use Rattle.tlp_view.specs.Bytes.{packet_of}
 use Rattle.tlp_view.specs.Packet.{Packet, status_in}
 use Rattle.domain.specs.declared.deliver.Arrival.{Arrival}
-use Rattle.domain.specs.declared.tags.OpenTag.{OpenTag}
+use Rattle.function.specs.declared.tags.OpenTag.{OpenTag}
 use Rattle.domain.specs.Heads.{origin_id}
 use Rattle.domain.specs.State.{Alone, Delivery, Emission}
 use Rattle.domain.specs.Tags.{is_open, same_origin}

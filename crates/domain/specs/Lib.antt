@@ -4,7 +4,6 @@ pub mod WellMade
 pub mod Flights
 pub mod Fates
 pub mod Tags
-pub mod Registers
 pub mod States
 pub mod Submits
 pub mod Answers

@@ -5,9 +5,10 @@ use Rattle.fab_types.specs.declared.place.Origin.{Origin}
 use Rattle.fab_types.specs.declared.status.Status.{Status}
 use Rattle.layout.specs.Share.{Share}
 use Rattle.layout.specs.Owners.{is_own_function}
-use Rattle.host_memory.specs.Pages.{zeroed, zeros}
+use Rattle.function.specs.Registers.{first_page}
+use Rattle.host_memory.specs.Pages.{zeroed}
 use Rattle.domain.specs.declared.counts.Counts.{Counts}
-use Rattle.domain.specs.declared.tags.OpenTag.{OpenTag}
+use Rattle.function.specs.declared.tags.OpenTag.{OpenTag}
 
 -- a packet that the domain made: its parties and its bytes
 pub record Emission : Type 0 where
@@ -31,13 +32,9 @@ pub record Alone : Type 0 where
   pub counts : Counts
   pub flight : List (Option Emission)
 
--- a register page at the start: the ID register, and 0
-abbrev pub first_page : ℕ → ℕ × List ℕ
-first_page function = (function, function / 256 ∷ function % 256 ∷ 0x46 ∷ 0x42 ∷ zeros 4092)
-
--- one for each function of the domain
+-- a register page at the start for each function of the domain
 abbrev pub first_registers : Share → List (ℕ × List ℕ)
-first_registers share = map (λ line. first_page line.id) (filter (λ line. is_own_function share line.id) share.functions)
+first_registers share = map (λ line. (line.id, first_page line.id)) (filter (λ line. is_own_function share line.id) share.functions)
 
 -- where a domain starts from
 abbrev pub start_state : Share → Alone

@@ -2,12 +2,11 @@
 use Rattle.std.specs.Prelude.{◌+◌, ◌≤◌, length, vec_capacity}
 use Rattle.domain.specs.declared.state.State.TheInside.{Inside}
 use Rattle.domain.specs.State.{Alone}
-use Rattle.domain.specs.Registers.{pages}
 
 abbrev pub alone_of : Inside → Alone
 alone_of s = record {
   frames = s.memory;
-  registers = pages s.registers.items;
+  registers = s.registers.items;
   open_tags = s.open_tags.items;
   deliveries = s.records.items;
   counts = s.counts;

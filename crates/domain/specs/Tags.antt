@@ -9,8 +9,9 @@ use Rattle.fab_types.specs.declared.place.Origin.TheVariants.{Function, Host}
 use Rattle.tlp_view.specs.Kinds.{class_of_kind, is_completion}
 use Rattle.tlp_view.specs.Bytes.{packet_of}
 use Rattle.tlp_view.specs.Malformed.{malformed}
-use Rattle.domain.specs.declared.tags.OpenTag.{OpenTag}
-use Rattle.domain.specs.declared.tags.TagUse.TheVariants.{Raw}
+use Rattle.function.specs.declared.tags.OpenTag.{OpenTag}
+use Rattle.function.specs.declared.tags.TagUse.TheVariants.{Raw}
+pub use Rattle.function.specs.Tags.{is_open, same_origin}
 
 abbrev pub is_non_posted : Class → Bool
 is_non_posted Posted = false
@@ -32,15 +33,6 @@ is_completion_unless (Some cause) bytes = false
 -- are the bytes a well-formed completion?
 abbrev pub completes : List ℕ → Bool
 completes bytes = is_completion_unless (malformed bytes) bytes
-
-abbrev pub same_origin : Origin → Origin → Bool
-same_origin (Function f) (Function g) = f == g
-same_origin (Function f) (Host d) = false
-same_origin (Host d) (Function g) = false
-same_origin (Host d) (Host e) = d == e
-
-abbrev pub is_open : List OpenTag → Origin → ℕ → Bool
-is_open tags owner tag = list_any (λ open_tag. same_origin open_tag.owner owner && (open_tag.tag == tag)) tags
 
 -- the open Tags after a function submitted these bytes
 abbrev pub opened : List OpenTag → ℕ → List ℕ → List OpenTag

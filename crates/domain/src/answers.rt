@@ -1,24 +1,26 @@
 //! The completions by which ports and the host answer.
 
-ghost use Rattle.std.specs.Prelude.{◌≡◌, ◌+◌, ◌*◌, ◌%◌, ◌≤◌, IfSome, length, unwrap_or};
+ghost use Rattle.std.specs.Prelude.{◌≡◌, ◌+◌, ◌*◌, ◌%◌, ◌≤◌, IfSome, length, true, unwrap_or};
 ghost use Rattle.std.specs.Option.{option_copied};
 ghost use Rattle.host_memory.specs.Pages.{part_of};
 ghost use Rattle.tlp_view.specs.Completions.{HeadFits, completion_of, read_completion};
 ghost use Rattle.tlp_view.specs.Packet.{dw_count};
-ghost use Rattle.domain.specs.Answers.{address_of, blank, host_data, host_refusal, port_answer, reads_nothing, shown};
+ghost use Rattle.tlp_view.specs.Kinds.{is_memory};
+ghost use Rattle.domain.specs.Carries.{forward};
+ghost use Rattle.domain.specs.Answers.{address_of, bar_of, blank, forwarded, host_data, host_refusal, port_answer, reads_nothing, shown};
 
-use crate::ending::Reply;
+use crate::ending::{Deed, Ending, Reply};
 use fab_types::{Answerer, Bdf, Origin, PortId, Status};
 use host_memory::HostMemory;
-use layout::Start;
-use tlp_view::{CompletionHead, CplBuf, TlpView};
+use layout::{FunctionLine, Start};
+use tlp_view::{CompletionHead, CplBuf, RequestBuf, TlpView};
 
 /// A port refuses a request of this function.
 pub(crate) fn port_answer(port: PortId, function: Bdf, status: Status, view: &TlpView) -> Reply
     ensures { result ≡ port_answer port function status view.now }
 {
     let head = CompletionHead::of_refusal(port.id(), status, view);
-    Reply::new(
+    Reply::answer(
         Answerer::Port,
         Some(Origin::Function(function)),
         CplBuf::new(head, 0),
@@ -30,7 +32,7 @@ pub(crate) fn host_refusal(start: &Start, view: &TlpView) -> Reply
     ensures { result ≡ host_refusal start.now view.now }
 {
     let head = CompletionHead::of_refusal(Bdf::from_bits(0), Status::UR, view);
-    Reply::new(
+    Reply::answer(
         Answerer::Host,
         start.reach(view.requester()),
         CplBuf::new(head, 0),
@@ -42,11 +44,43 @@ pub(crate) fn host_data(start: &Start, memory: &HostMemory, frame: u16, view: &T
     requires { dw_count (view.now).length ≤ 64 }
     ensures { result ≡ host_data start.now view.now (shown memory.now frame view.now) }
 {
-    Reply::new(
+    Reply::answer(
         Answerer::Host,
         start.reach(view.requester()),
         completed_read(view, part_read(memory, frame, view)),
     )
+}
+
+fn bar_of(functions: &[FunctionLine], function: Bdf) -> Option<u32>
+    ensures { result ≡ bar_of functions.now function }
+{
+    functions
+        .iter()
+        .find(|line| line.id == function)
+        .map(|line| line.bar)
+}
+
+/// A request goes on to the same place in the register page of this function, if the layout has it.
+pub(crate) fn forward(start: &Start, function: Bdf, view: &TlpView) -> Option<Ending>
+    requires { is_memory (view.now).kind ≡ true }
+    ensures { result ≡ forward function view.now (bar_of start.now.functions function) }
+{
+    match bar_of(start.functions(), function) {
+        Some(bar) => Some(Ending {
+            deed: Deed::Leave,
+            reply: Some(forwarded(function, bar, view)),
+        }),
+        None => None,
+    }
+}
+
+fn forwarded(function: Bdf, bar: u32, view: &TlpView) -> Reply
+    requires { is_memory (view.now).kind ≡ true }
+    ensures { result ≡ forwarded function bar view.now }
+{
+    let place = view.address().unwrap_or(0) % 4096;
+    let page = u64::from(bar / 4096 * 4096);
+    Reply::request(function, RequestBuf::moved(view, page + place))
 }
 
 /// Does the read ask for no bytes?

@@ -11,7 +11,7 @@ ghost use Rattle.layout.specs.declared.lines.Access.TheVariants as access;
 ghost use Rattle.domain.specs.Answers.{address_of};
 ghost use Rattle.domain.specs.Fates.{fate_at};
 
-use crate::answers::{host_data, host_refusal};
+use crate::answers::{forward, host_data, host_refusal};
 use crate::ending::{Deed, Ending};
 use crate::fate::{Fate, is_untranslated, packet_fate};
 use fab_types::{Bdf, DomainId};
@@ -49,16 +49,22 @@ fn is_carried(start: &Start, view: &TlpView) -> bool
 }
 
 /// What the host does with a write.
-fn serve_write(table: &HostTable, view: &TlpView) -> Option<Ending>
-    ensures { result ≡ write_to view.now (target_of table.now view.now.requester (address_of view.now / 4096) access.Write) }
+fn serve_write(start: &Start, table: &HostTable, view: &TlpView) -> Option<Ending>
+    requires { is_memory (view.now).kind ≡ true }
+    ensures { result ≡ write_to start.now view.now (target_of table.now view.now.requester (address_of view.now / 4096) access.Write) }
 {
     let address = view.address().unwrap_or(0);
-    let deed = match table.lookup(view.requester(), address / 4096, Access::Write) {
-        Target::Frame(frame) => Deed::Store(frame, (address % 4096) as usize),
-        Target::Peer(_) => return None,
-        Target::None => Deed::Block,
-    };
-    Some(Ending { deed, reply: None })
+    match table.lookup(view.requester(), address / 4096, Access::Write) {
+        Target::Frame(frame) => Some(Ending {
+            deed: Deed::Store(frame, (address % 4096) as usize),
+            reply: None,
+        }),
+        Target::Peer(function) => forward(start, function, view),
+        Target::None => Some(Ending {
+            deed: Deed::Block,
+            reply: None,
+        }),
+    }
 }
 
 /// What the host does with a read.
@@ -68,7 +74,8 @@ fn serve_read(
     memory: &HostMemory,
     view: &TlpView,
 ) -> Option<Ending>
-    requires { table.now ≡ (start.now).maps }
+    requires table { table.now ≡ (start.now).maps }
+    requires is_memory { is_memory (view.now).kind ≡ true }
     ensures { result ≡ serve_read start.now memory.now view.now }
 {
     if view.dw_length() > 64 {
@@ -83,7 +90,7 @@ fn serve_read(
             deed: Deed::Leave,
             reply: Some(host_data(start, memory, frame, view)),
         }),
-        Target::Peer(_) => None,
+        Target::Peer(function) => forward(start, function, view),
         Target::None => Some(Ending {
             deed: Deed::Block,
             reply: Some(host_refusal(start, view)),
@@ -100,7 +107,7 @@ fn carried(start: &Start, table: &HostTable, memory: &HostMemory, view: &TlpView
     if !is_carried(start, view) {
         None
     } else if is_write(view.kind()) {
-        serve_write(table, view)
+        serve_write(start, table, view)
     } else {
         serve_read(start, table, memory, view)
     }

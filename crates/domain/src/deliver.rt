@@ -5,9 +5,9 @@ ghost use Rattle.tlp_view.specs.Malformed.{malformed};
 ghost use Rattle.domain.specs.Deliveries.{arrival_for, delivery_of, is_awaited, is_port, record_of_arrival};
 
 use crate::heads::origin_id;
-use crate::tags::{OpenTag, is_open};
 use arrayvec::ArrayVec;
 use fab_types::{Answerer, Origin, Status};
+use function::{OpenTag, is_open};
 use std::marker::Model;
 use tlp_view::TlpView;
 

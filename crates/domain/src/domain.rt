@@ -10,9 +10,9 @@ use crate::counts::Counts;
 use crate::deliver::Record;
 use crate::entry::Entry;
 use crate::state::State;
-use crate::tags::OpenTag;
-use fab_types::NoMemory;
+use fab_types::{Bdf, NoMemory};
 use frame_log::Log;
+use function::OpenTag;
 use host_table::HostTable;
 use layout::Start;
 use std::alloc::Global;
@@ -83,6 +83,13 @@ impl Domain {
         ensures { option_copied result ≡ page_of self.now.state.frames number }
     {
         self.state.frame(number)
+    }
+
+    /// The 4,096 bytes of a function's register page, if the function is of the domain.
+    pub fn registers(&self, function: Bdf) -> Option<&[u8]>
+        ensures { option_copied result ≡ page_of self.now.state.registers function }
+    {
+        self.state.register_page(function)
     }
 
     /// The completions that were delivered, oldest first.

@@ -1,11 +1,13 @@
 //! How a packet in flight ends: what that does with the domain's state, and what answers it.
 
 ghost use Rattle.std.specs.Prelude.{◌≡◌, None};
-ghost use Rattle.domain.specs.Answers.{answer};
+ghost use Rattle.fab_types.specs.declared.head.Parties.TheVariants.{Downward};
+ghost use Rattle.tlp_view.specs.Requests.{packet_bytes};
+ghost use Rattle.domain.specs.Answers.{answer, made_bytes};
 
-use fab_types::{Answerer, Origin, Parties};
+use fab_types::{Answerer, Bdf, Origin, Parties};
 use std::marker::Model;
-use tlp_view::CplBuf;
+use tlp_view::{CplBuf, RequestBuf};
 
 /// What the end of a packet does with the state.
 #[derive(Clone, Copy)]
@@ -18,20 +20,44 @@ pub(crate) enum Deed {
     Store(u16, usize),
 }
 
-/// What answers a packet. A contract sees the emission.
+/// A packet that the domain itself makes.
+#[derive(Drop)]
+pub(crate) enum Made {
+    Completion(CplBuf),
+    Request(RequestBuf),
+}
+
+impl Made {
+    ghost use Rattle.std.specs.Prelude.{◌≤◌, length};
+    ghost use Rattle.tlp_view.specs.Malformed.{malformed};
+
+    fn bytes(&self) -> &[u8]
+        ensures value { result.now ≡ made_bytes self.now }
+        ensures well_formed { malformed result.now ≡ None }
+        ensures short { length result.now ≤ 272 }
+    {
+        match self {
+            Made::Completion(packet) => packet.bytes(),
+            Made::Request(packet) => packet.bytes(),
+        }
+    }
+}
+
+/// What follows from a packet that ends: its answer, or the same request to a peer. A contract sees the
+/// emission.
 #[derive(Drop)]
 pub(crate) struct Reply {
     parties: Parties,
-    packet: CplBuf,
+    packet: Made,
 }
 
 impl Model for Reply {
     ghost use Rattle.domain.specs.State.{Emission};
-    ghost use Rattle.tlp_view.specs.Completions.{completion_bytes};
+    ghost use Rattle.domain.specs.Answers.{made_bytes};
 
     ghost Value = { Emission };
 
-    ghost view = { λ r. record { parties = r.parties; bytes = completion_bytes r.packet } };
+    ghost view = { λ r. record { parties = r.parties; bytes = made_bytes r.packet } };
 }
 
 impl Reply {
@@ -39,12 +65,22 @@ impl Reply {
     ghost use Rattle.tlp_view.specs.Malformed.{malformed};
 
     /// A completion for this addressee.
-    pub(crate) fn new(answerer: Answerer, addressee: Option<Origin>, packet: CplBuf) -> Reply
+    pub(crate) fn answer(answerer: Answerer, addressee: Option<Origin>, packet: CplBuf) -> Reply
         ensures { result ≡ answer answerer addressee packet }
     {
         Reply {
             parties: Parties::Answer(answerer, addressee),
-            packet,
+            packet: Made::Completion(packet),
+        }
+    }
+
+    /// A request to this function.
+    pub(crate) fn request(function: Bdf, packet: RequestBuf) -> Reply
+        ensures { result ≡ record { parties = Downward function; bytes = packet_bytes packet } }
+    {
+        Reply {
+            parties: Parties::Downward(function),
+            packet: Made::Request(packet),
         }
     }
 

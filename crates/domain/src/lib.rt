@@ -24,4 +24,4 @@ pub use deliver::Record;
 pub use domain::Domain;
 pub use entry::Entry;
 pub use fate::Fate;
-pub use tags::{OpenTag, TagUse};
+pub use function::{OpenTag, TagUse};

@@ -19,10 +19,11 @@ use crate::counts::Counts;
 use crate::deliver::{Arrival, Record, arrival_for};
 use crate::ending::{Deed, Ending, Reply};
 use crate::flight::Flight;
-use crate::registers::{RegisterPage, first_registers};
-use crate::tags::{OpenTag, TagUse, close, tag_to_open};
+use crate::registers::{first_registers, register_page};
+use crate::tags::{close, tag_to_open};
 use fab_types::{Bdf, DomainId, NoMemory, Origin, Parties};
 use frame_log::{Frame, Log};
+use function::{Function, OpenTag, TagUse};
 use host_memory::HostMemory;
 use layout::Start;
 use std::alloc::Global;
@@ -56,7 +57,7 @@ fn record(tags: &mut Vec<OpenTag>, records: &mut Vec<Record>, delivery: Record)
 #[derive(Drop)]
 pub(crate) struct State {
     memory: HostMemory,
-    registers: Vec<RegisterPage>,
+    registers: Vec<Function>,
     open_tags: Vec<OpenTag>,
     records: Vec<Record>,
     counts: Counts,
@@ -274,6 +275,13 @@ impl State {
         ensures { result.now ≡ self.now.frames }
     {
         &self.memory
+    }
+
+    /// The register page of this function, if it is of the domain.
+    pub(crate) fn register_page(&self, function: Bdf) -> Option<&[u8]>
+        ensures { option_copied result ≡ page_of self.now.registers function }
+    {
+        register_page(&self.registers, function)
     }
 
     /// The bytes of this frame of memory, if it is of the domain.

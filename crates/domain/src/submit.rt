@@ -10,9 +10,10 @@ ghost use Rattle.domain.specs.Submits.{submit_fault};
 
 use crate::domain::Domain;
 use crate::entry::Entry;
-use crate::tags::{completes, is_open, tag_to_open};
+use crate::tags::{completes, tag_to_open};
 use fab_types::{Bdf, Origin, SubmitFault};
 use frame_log::{Frame, PacketBytes};
+use function::is_open;
 use std::sync::Wait;
 
 impl Domain {

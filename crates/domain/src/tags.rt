@@ -2,52 +2,12 @@
 
 ghost use Rattle.std.specs.Prelude.{◌≡◌, if◌then◌else◌, Some, None};
 ghost use Rattle.tlp_view.specs.Bytes.{packet_of};
-ghost use Rattle.domain.specs.Tags.{completes, is_open, opens_tag, same_origin};
+ghost use Rattle.domain.specs.Tags.{completes, opens_tag, same_origin};
 ghost use Rattle.domain.specs.Deliveries.{closed};
 
 use fab_types::{Class, Origin};
+use function::{OpenTag, same_origin};
 use tlp_view::TlpView;
-
-/// What a Tag was opened for.
-#[derive(Clone, Copy, Debug, PartialEq, Eq)]
-pub enum TagUse {
-    /// A submitted packet.
-    Raw,
-    /// A read line of a DMA program, whose data go to this offset of the buffer (bytes), with this
-    /// count (DW).
-    Line(u16, u8),
-}
-
-/// A Tag that a function or a domain's host has open: a completion is awaited (PCIe 4.0, 2.2.6.2).
-#[derive(Clone, Copy, Debug, PartialEq, Eq)]
-pub struct OpenTag {
-    pub owner: Origin,
-    pub tag: u8,
-    pub usage: TagUse,
-}
-
-fn same_origin(one: Origin, other: Origin) -> bool
-    ensures { result ≡ same_origin one other }
-{
-    match one {
-        Origin::Function(f) => match other {
-            Origin::Function(g) => f == g,
-            Origin::Host(_) => false,
-        },
-        Origin::Host(d) => match other {
-            Origin::Function(_) => false,
-            Origin::Host(e) => d == e,
-        },
-    }
-}
-
-/// Does this owner have this Tag open?
-pub(crate) fn is_open(tags: &[OpenTag], owner: Origin, tag: u8) -> bool
-    ensures { result ≡ is_open tags.now owner tag }
-{
-    tags.iter()
-        .any(|open| same_origin(open.owner, owner) && open.tag == tag)
-}
 
 /// Closes this Tag of this owner.
 pub(crate) fn close(tags: &mut Vec<OpenTag>, owner: Origin, tag: u8)

@@ -23,7 +23,8 @@ pub struct OpenTag {
     pub usage: TagUse,
 }
 
-fn same_origin(one: Origin, other: Origin) -> bool
+/// Are both the same function, or hosts of the same domain?
+pub fn same_origin(one: Origin, other: Origin) -> bool
     ensures { result ≡ same_origin one other }
 {
     match one {

@@ -13,6 +13,8 @@ mod report;
 #[cfg(test)]
 mod scenes;
 #[cfg(test)]
+mod tenants;
+#[cfg(test)]
 mod tests;
 
 use files::HostFiles;

@@ -1,9 +1,0 @@
-use Rattle.std.proofs.Common.{◌≡◌, ◌%◌, ℕ, ap, arith}
-use Rattle.std.specs.Prelude.{vec_len}
-use Rattle.domain.proofs.RegisterLemmas.{first_page_is}
-use Rattle.domain.proofs.registers.first_page.Goals as goal
-
-pub returns : goal.returns
-returns c =
-    let f = c.args.function in let four : vec_len c.extend_from_slice.new.self ≡ 4 = omega (arith, c.in_ok-extend_from_slice.ensures.len, c.in_ok-bytes.ensures.len) in
-    first_page_is f c.bus.result _ _ c.in_ok-bytes.bytes.items _ _ c.in_ok-bytes.ensures.items c.in_ok-extend_from_slice.ensures.items c.bus.ensures (ap (λ (n : ℕ). n % 256) c.bits.ensures.value) four c.in_ok-resize.ensures.items
