@@ -1,7 +1,7 @@
 //! A domain of a platform that was read from a text: what the host makes of its requests.
 
 use domain::Domain;
-use fab_types::{Bdf, DomainId, Header, Parties};
+use fab_types::{AddressType, Bdf, DomainId, Header, Parties};
 use frame_log::{Frame, FrameFault, Log};
 use layout::Layout;
 use std::alloc::Global;
@@ -69,14 +69,15 @@ function 08:00.0 90300000
 map 03:00.0 2 peer 08:00.0 rw
 ";
 
-/// Is it a request to 08:00.0 at this address?
-fn goes_to_peer(frame: &Frame, to: u64) -> bool {
-    let head = frame.head();
-    let is_down = match head.parties {
-        Parties::Downward(function) => function == Bdf::from_bits(0x0800),
-        Parties::Upward(_) | Parties::Answer(..) => false,
+/// Is it a request of 03:00.0 that goes down to 08:00.0, at this address?
+fn goes_to_peer(frame: &Frame, address: u64) -> bool {
+    let header = Header::Memory {
+        requester: Bdf::from_bits(0x0300),
+        address_type: AddressType::Untranslated,
+        address,
     };
-    is_down && matches!(head.header, Header::Memory { address, .. } if address == to)
+    let parties = Parties::Downward(Bdf::from_bits(0x0800));
+    frame.head().parties == parties && frame.head().header == header
 }
 
 #[test]
