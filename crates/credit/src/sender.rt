@@ -125,7 +125,7 @@ impl Sender {
         ensures value { result ≡ self.now.sent }
         ensures in_range { IsInRange self.now }
     {
-        self.sent
+        self.sent // CREDITS_CONSUMED
     }
 
     /// The limits that the sender knows.
@@ -133,7 +133,7 @@ impl Sender {
         ensures value { result ≡ self.now.limit }
         ensures in_range { IsInRange self.now }
     {
-        self.limit
+        self.limit // CREDIT_LIMIT
     }
 }
 

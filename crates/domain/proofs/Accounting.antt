@@ -2,9 +2,14 @@
 use Rattle.std.proofs.Common.{◌≡◌, ℕ, zero, suc, ◌+◌, ◌*◌, ◌<◌, ◌≤◌, Bool, true, false, List, [], ◌∷◌, ◌++◌, length, Option, Some, None, refl, sym, ap, ◌∙◌, subst, arith, slice_set, length-append, length-set}
 use Rattle.std.proofs.Common.{cond, ◌/◌, ◌&&◌, not}
 use Rattle.std.specs.Prelude.{option_map, nat_le, nat_lt}
+use Rattle.std.specs.Option.{is_none}
 use Rattle.std.proofs.lemmas.Bool.{leb-false, ltb-false}
 use Rattle.fab_types.specs.declared.faults.begin.SubmitFault.{SubmitFault}
 use Rattle.fab_types.specs.declared.faults.begin.SubmitFault.TheVariants.{TooLong, Completion, TagBusy, BudgetSpent, NoFunction}
+use Rattle.fab_types.specs.declared.faults.begin.TickFault.{TickFault}
+use Rattle.fab_types.specs.declared.faults.begin.TickFault.TheVariants as tick
+use Rattle.fab_types.specs.declared.faults.begin.MmioFault.{MmioFault}
+use Rattle.fab_types.specs.declared.faults.begin.MmioFault.TheVariants as mmio
 use Rattle.fab_types.specs.declared.head.Parties.{Parties}
 use Rattle.fab_types.specs.declared.head.Parties.TheVariants.{Upward, Downward, Answer}
 use Rattle.fab_types.specs.declared.place.Origin.TheVariants.{Function}
@@ -14,24 +19,33 @@ use Rattle.layout.specs.declared.lines.MapTarget.TheVariants.{Frame, Peer}
 use Rattle.layout.specs.Owners.{first_port, is_own_function}
 use Rattle.layout.specs.Share.{Share}
 use Rattle.layout.specs.Tables.{target_of}
+use Rattle.function.specs.declared.plan.Plan.{Plan}
+use Rattle.function.specs.declared.plan.Plan.TheVariants.{Nothing, Halt, Fault, Pass, Emit}
+use Rattle.function.specs.Accesses.{answer as page_answer}
+use Rattle.function.specs.Plans.{plan_of}
+use Rattle.host_memory.specs.Pages.{page_of}
 use Rattle.tlp_view.specs.Packet.{Packet, dw_count}
 use Rattle.tlp_view.specs.Runs.{runs, is_write}
 use Rattle.tlp_view.specs.Bytes.{packet_of}
+use Rattle.domain.specs.declared.access.HostAccess.{HostAccess}
+use Rattle.domain.specs.declared.counts.Counts.{Counts}
 use Rattle.domain.specs.declared.deliver.Arrival.{Arrival}
 use Rattle.domain.specs.declared.ending.Deed.{Deed}
-use Rattle.domain.specs.declared.ending.Deed.TheVariants.{Leave, Block, Store}
+use Rattle.domain.specs.declared.ending.Deed.TheVariants.{Leave, Block, Store, Access}
 use Rattle.domain.specs.declared.ending.Ending.{Ending}
 use Rattle.domain.specs.declared.entry.Entry.{Entry}
-use Rattle.domain.specs.declared.entry.Entry.TheVariants.{Submit, Refuse, Carry, Deliver}
+use Rattle.domain.specs.declared.entry.Entry.TheVariants.{Submit, Tick, Mmio, Refuse, Carry, Deliver}
 use Rattle.domain.specs.declared.fate.Fate.{Fate}
 use Rattle.domain.specs.declared.fate.Fate.TheVariants.{Vanish, Refused, ToHost}
-use Rattle.domain.specs.Answers.{address_of, bar_of, host_refusal}
+use Rattle.domain.specs.Answers.{address_of, answered_by, bar_of, function_answer, host_refusal}
 use Rattle.domain.specs.Carries.{carriage_by, carriage_of, forward, is_carried, port_id, read_from, refusal_by, refusal_of, serve, serve_read, write_to}
 use Rattle.domain.specs.Deliveries.{arrival_of, arrived, recorded, unexpected}
-use Rattle.domain.specs.Ends.{blocked, conclude, done, replied, with_stored}
+use Rattle.domain.specs.Ends.{blocked, conclude, done, replied, with_access, with_stored}
 use Rattle.domain.specs.Fates.{fate}
 use Rattle.domain.specs.Machine.{carry, change, deliver, refuse, replay, replay_from}
-use Rattle.domain.specs.State.{Alone, Change, Delivery, Emission, emits_nothing, item_at, start_state, with_emission, without}
+use Rattle.domain.specs.State.{Alone, Change, Delivery, Emission, begun, emits_nothing, item_at, start_state, with_emission, without}
+use Rattle.domain.specs.HostAccesses.{host_emission, is_in_page, mmio_fault, mmio_unless, mmio_with, opened_for, size_of, tag_for}
+use Rattle.domain.specs.Ticks.{sent_by, tick_fault, tick_unless, ticked, ticks}
 use Rattle.domain.specs.Submits.{submit_fault, submit_unless, submitted}
 use Rattle.domain.specs.Tags.{completes, is_open, opens_tag}
 
@@ -91,7 +105,7 @@ accounted_start share = record { entries_are = refl; packets = omega arith; begi
 -- ---- each entry keeps the account
 
 -- a test that didn't refuse
-passed : {A : Type 0} (b : Bool) (x : A) (rest : Option A) → cond b (Some x) rest ≡ None → (b ≡ false) × (rest ≡ None)
+pub passed : {A : Type 0} (b : Bool) (x : A) (rest : Option A) → cond b (Some x) rest ≡ None → (b ≡ false) × (rest ≡ None)
 passed true x rest e = absurd cc
 passed false x rest e = (refl, e)
 
@@ -121,23 +135,6 @@ submit_short share s f b e =
     let p1 = passed (not (is_own_function share f)) NoFunction _ e in
     let p2 = passed (nat_lt 272 (length b)) TooLong _ p1.1 in
     ltb-false 272 (length b) p2.0
-
-begun : (share : Share) (s : Alone) (n f : ℕ) (b : List ℕ) → Accounted share s n → s.counts.begins < share.budget
-    → Accounted share (with_emission (submitted s f b) (record { parties = Upward f; bytes = b })) (suc n)
-begun share s n f b a lt =
-    let e : Option Emission = Some (record { parties = Upward f; bytes = b }) in
-    record {
-      entries_are = omega (arith, a.entries_are, waiting-push s.flight e, length-append s.flight (e ∷ []));
-      packets = omega (arith, a.packets, owed-push s.flight e, length-append s.flight (e ∷ []));
-      begins = omega (arith, lt);
-      blocks = omega (arith, a.blocks);
-      strays = omega (arith, a.strays);
-    }
-
-submits : (share : Share) (s : Alone) (n f : ℕ) (b : List ℕ) (fault : Option SubmitFault) (c : Change) → (fault ≡ None → s.counts.begins < share.budget) → Accounted share s n
-    → submit_unless fault s f b ≡ Some c → Accounted share c.state (suc n)
-submits share s n f b None c lt a e = subst (λ (d : Change). Accounted share d.state (suc n)) (some_is _ c e) (begun share s n f b a (lt refl))
-submits share s n f b (Some fault) c lt a e = absurd cc
 
 -- a state that a packet left: what the packet owed is spare
 record Spare (share : Share) (t : Alone) (entries spare : ℕ) : Type 0 where
@@ -179,6 +176,79 @@ answered share t n spare (Some e) h le =
       strays = h.strays;
     }
 
+-- within the budget a begin is owed three packets
+started : (share : Share) (s t : Alone) (n : ℕ) → Accounted share s n → s.counts.begins < share.budget → t.flight ≡ s.flight
+    → t.counts ≡ record { begins = s.counts.begins + 1; blocked = s.counts.blocked; unexpected = s.counts.unexpected } → Spare share t (suc n) 3
+started share s t n a lt flight counts =
+    let w : waiting t.flight ≡ waiting s.flight = ap waiting flight in
+    let o : owed t.flight ≡ owed s.flight = ap owed flight in
+    let l : length t.flight ≡ length s.flight = ap length flight in
+    let b : t.counts.begins ≡ s.counts.begins + 1 = ap (λ (c : Counts). c.begins) counts in
+    let k : t.counts.blocked ≡ s.counts.blocked = ap (λ (c : Counts). c.blocked) counts in
+    let u : t.counts.unexpected ≡ s.counts.unexpected = ap (λ (c : Counts). c.unexpected) counts in
+    record {
+      entries_are = omega (arith, a.entries_are, w, l, b);
+      packets = omega (arith, a.packets, o, l, b);
+      begins = omega (arith, lt, b);
+      blocks = omega (arith, a.blocks, k);
+      strays = omega (arith, a.strays, u);
+    }
+
+submitted_accounted : (share : Share) (s : Alone) (n f : ℕ) (b : List ℕ) → Accounted share s n → s.counts.begins < share.budget
+    → Accounted share (with_emission (submitted s f b) (record { parties = Upward f; bytes = b })) (suc n)
+submitted_accounted share s n f b a lt = answered share (submitted s f b) (suc n) 3 (Some (record { parties = Upward f; bytes = b })) (started share s (submitted s f b) n a lt refl refl) (omega arith)
+
+submits : (share : Share) (s : Alone) (n f : ℕ) (b : List ℕ) (fault : Option SubmitFault) (c : Change) → (fault ≡ None → s.counts.begins < share.budget) → Accounted share s n
+    → submit_unless fault s f b ≡ Some c → Accounted share c.state (suc n)
+submits share s n f b None c lt a e = subst (λ (d : Change). Accounted share d.state (suc n)) (some_is _ c e) (submitted_accounted share s n f b a (lt refl))
+submits share s n f b (Some fault) c lt a e = absurd cc
+
+-- a tick
+pub tick_budget : (share : Share) (s : Alone) (f : ℕ) → tick_fault share s f ≡ None → s.counts.begins < share.budget
+tick_budget share s f e =
+    let p1 = passed (not (is_own_function share f)) tick.NoFunction _ e in
+    leb-false share.budget s.counts.begins (passed (nat_le share.budget s.counts.begins) tick.BudgetSpent None p1.1).0
+
+sent_owes : (f : ℕ) (plan : Plan) → one (sent_by f plan) + owed_in (sent_by f plan) ≤ 3
+sent_owes f Nothing = omega arith
+sent_owes f Halt = omega arith
+sent_owes f Fault = omega arith
+sent_owes f Pass = omega arith
+sent_owes f (Emit packet opened) = omega arith
+
+ticks_on : (share : Share) (s : Alone) (n f : ℕ) (page : Option (List ℕ)) (c : Change) → s.counts.begins < share.budget → Accounted share s n → ticks s f page ≡ Some c → Accounted share c.state (suc n)
+ticks_on share s n f None c lt a e = absurd cc
+ticks_on share s n f (Some page) c lt a e =
+    let plan = plan_of f page s.open_tags in
+    subst (λ (d : Change). Accounted share d.state (suc n)) (some_is _ c e)
+    (answered share (ticked s f plan) (suc n) 3 (sent_by f plan) (started share s (ticked s f plan) n a lt refl refl) (sent_owes f plan))
+
+ticks_unless : (share : Share) (s : Alone) (n f : ℕ) (fault : Option TickFault) (c : Change) → (fault ≡ None → s.counts.begins < share.budget) → Accounted share s n
+    → tick_unless fault s f ≡ Some c → Accounted share c.state (suc n)
+ticks_unless share s n f None c lt a e = ticks_on share s n f (page_of s.registers f) c (lt refl) a e
+ticks_unless share s n f (Some fault) c lt a e = absurd cc
+
+-- a request of the host
+pub mmio_budget : (share : Share) (s : Alone) (x : HostAccess) → mmio_fault share s x ≡ None → s.counts.begins < share.budget
+mmio_budget share s x e =
+    let p1 = passed (not (is_own_function share x.function)) mmio.NotYours _ e in
+    let p2 = passed (not (is_in_page x.offset (size_of x.operation))) mmio.Range _ p1.1 in
+    let p3 = passed (is_none (tag_for s.open_tags share.domain x.operation)) mmio.NoTag _ p2.1 in
+    leb-false share.budget s.counts.begins (passed (nat_le share.budget s.counts.begins) mmio.BudgetSpent None p3.1).0
+
+mmio_by : (share : Share) (s : Alone) (n : ℕ) (x : HostAccess) (tag bar : Option ℕ) (c : Change) → s.counts.begins < share.budget → Accounted share s n
+    → mmio_with share s x tag bar ≡ Some c → Accounted share c.state (suc n)
+mmio_by share s n x None bar c lt a e = absurd cc
+mmio_by share s n x (Some tag) None c lt a e = absurd cc
+mmio_by share s n x (Some tag) (Some bar) c lt a e =
+    subst (λ (d : Change). Accounted share d.state (suc n)) (some_is _ c e)
+    (answered share (begun s (opened_for share.domain tag x.operation)) (suc n) 3 (Some (host_emission share.domain tag bar x)) (started share s (begun s (opened_for share.domain tag x.operation)) n a lt refl refl) (omega arith))
+
+mmio_accounted : (share : Share) (s : Alone) (n : ℕ) (x : HostAccess) (fault : Option MmioFault) (c : Change) → (fault ≡ None → s.counts.begins < share.budget) → Accounted share s n
+    → mmio_unless fault share s x ≡ Some c → Accounted share c.state (suc n)
+mmio_accounted share s n x None c lt a e = mmio_by share s n x (tag_for s.open_tags share.domain x.operation) (bar_of share.functions x.function) c (lt refl) a e
+mmio_accounted share s n x (Some fault) c lt a e = absurd cc
+
 -- an answer owes less than what it answers
 abbrev Owes : ℕ → Ending → Type 0
 Owes spare a = one a.reply + owed_in a.reply ≤ spare
@@ -187,6 +257,7 @@ did : (share : Share) (s : Alone) (n k : ℕ) (e : Emission) (d : Deed) → item
 did share s n k e Leave is a = left share s (without s k) n k e is a refl refl (omega arith) (omega arith)
 did share s n k e Block is a = left share s (blocked (without s k)) n k e is a refl refl (omega arith) (omega arith)
 did share s n k e (Store m first) is a = left share s (with_stored (without s k) m first (runs (packet_of e.bytes))) n k e is a refl refl (omega arith) (omega arith)
+did share s n k e (Access g) is a = left share s (with_access (without s k) g (packet_of e.bytes)) n k e is a refl refl (omega arith) (omega arith)
 
 concluded : (share : Share) (s : Alone) (n k : ℕ) (e : Emission) (a : Ending) → item_at s.flight k ≡ Some e → Owes (owed_by e.parties) a → Accounted share s n → Accounted share (conclude s k e.bytes a).state (suc n)
 concluded share s n k e a is le h = answered share (done (without s k) e.bytes a.deed) (suc n) (owed_by e.parties) a.reply (did share s n k e a.deed is h) le
@@ -242,10 +313,19 @@ carriage_by_owes share frames b Vanish a h = absurd cc
 carriage_by_owes share frames b (Refused status) a h = absurd cc
 carriage_by_owes share frames b ToHost a h = serve_owes share frames (packet_of b) a (taken (is_carried share (packet_of b)) (serve share frames (packet_of b)) a h)
 
-carriage_owes : (share : Share) (frames : List (ℕ × List ℕ)) (b : List ℕ) (p : Parties) (a : Ending) → carriage_of share frames b p ≡ Some a → Owes (owed_by p) a
-carriage_owes share frames b (Upward f) a h = carriage_by_owes share frames b (fate share.ports f b) a h
-carriage_owes share frames b (Downward g) a h = absurd cc
-carriage_owes share frames b (Answer by x) a h = absurd cc
+answer_owes : (share : Share) (g : ℕ) (page : List ℕ) (t : Packet) (o : Option Packet)
+    → one (option_map (answered_by share t) o) + owed_in (option_map (answered_by share t) o) ≤ 1
+answer_owes share g page t None = omega arith
+answer_owes share g page t (Some c) = omega arith
+
+access_owes : (share : Share) (g : ℕ) (t : Packet) (page : Option (List ℕ)) (a : Ending) → option_map (λ (bytes : List ℕ). record { deed = Access g; reply = function_answer share g bytes t }) page ≡ Some a → Owes 1 a
+access_owes share g t None a h = absurd cc
+access_owes share g t (Some bytes) a h = subst (Owes 1) (some_is _ a h) (answer_owes share g bytes t (page_answer g bytes t))
+
+carriage_owes : (share : Share) (frames registers : List (ℕ × List ℕ)) (b : List ℕ) (p : Parties) (a : Ending) → carriage_of share frames registers b p ≡ Some a → Owes (owed_by p) a
+carriage_owes share frames registers b (Upward f) a h = carriage_by_owes share frames b (fate share.ports f b) a h
+carriage_owes share frames registers b (Downward g) a h = access_owes share g (packet_of b) (page_of registers g) a h
+carriage_owes share frames registers b (Answer by x) a h = absurd cc
 
 -- ---- the entries
 
@@ -255,7 +335,7 @@ refused share s n k (Some e) c is a h = ends share s n k e (refusal_of share e.b
 
 carried : (share : Share) (s : Alone) (n k : ℕ) (o : Option Emission) (c : Change) → item_at s.flight k ≡ o → Accounted share s n → carry share s k o ≡ Some c → Accounted share c.state (suc n)
 carried share s n k None c is a h = absurd cc
-carried share s n k (Some e) c is a h = ends share s n k e (carriage_of share s.frames e.bytes e.parties) c is (carriage_owes share s.frames e.bytes e.parties) a h
+carried share s n k (Some e) c is a h = ends share s n k e (carriage_of share s.frames s.registers e.bytes e.parties) c is (carriage_owes share s.frames s.registers e.bytes e.parties) a h
 
 arrives : (share : Share) (s : Alone) (n k : ℕ) (e : Emission) (d : Delivery) (b : Bool) → item_at s.flight k ≡ Some e → Accounted share s n → Accounted share (cond b (recorded (without s k) d) (unexpected (without s k))) (suc n)
 arrives share s n k e d true is a = answered share (recorded (without s k) d) (suc n) (owed_by e.parties) None (left share s (recorded (without s k) d) n k e is a refl refl (omega arith) (omega arith)) (omega arith)
@@ -272,6 +352,8 @@ delivered share s n k (Some e) c is a h = delivers share s n k e (arrival_of s.o
 
 pub accounted_step : (share : Share) (s : Alone) (n : ℕ) (entry : Entry) (c : Change) → Accounted share s n → change share s entry ≡ Some c → Accounted share c.state (suc n)
 accounted_step share s n (Submit f b) c a h = submits share s n f b (submit_fault share s f b) c (submit_budget share s f b) a h
+accounted_step share s n (Tick f) c a h = ticks_unless share s n f (tick_fault share s f) c (tick_budget share s f) a h
+accounted_step share s n (Mmio x) c a h = mmio_accounted share s n x (mmio_fault share s x) c (mmio_budget share s x) a h
 accounted_step share s n (Refuse k) c a h = refused share s n k (item_at s.flight k) c refl a h
 accounted_step share s n (Carry k) c a h = carried share s n k (item_at s.flight k) c refl a h
 accounted_step share s n (Deliver k) c a h = delivered share s n k (item_at s.flight k) c refl a h
@@ -282,7 +364,7 @@ pub none_stays : (share : Share) (journal : List Entry) (t : Alone) → replay_f
 none_stays share [] t e = cc
 none_stays share (x ∷ xs) t e = none_stays share xs t e
 
-goes_on : (share : Share) (xs : List Entry) (o : Option Change) (t : Alone) {P : Type 0} → ((c : Change) → o ≡ Some c → replay_from share (Some c.state) xs ≡ Some t → P)
+pub goes_on : (share : Share) (xs : List Entry) (o : Option Change) (t : Alone) {P : Type 0} → ((c : Change) → o ≡ Some c → replay_from share (Some c.state) xs ≡ Some t → P)
     → replay_from share (option_map (λ c. c.state) o) xs ≡ Some t → P
 goes_on share xs None t rest e = absurd (none_stays share xs t e)
 goes_on share xs (Some c) t rest e = rest c refl e

@@ -6,7 +6,7 @@ use Rattle.layout.specs.Share.{Share}
 use Rattle.domain.proofs.Accounting.{submit_budget}
 use Rattle.domain.specs.declared.deliver.Arrival.{Arrival}
 use Rattle.domain.specs.declared.ending.Deed.{Deed}
-use Rattle.domain.specs.declared.ending.Deed.TheVariants.{Leave, Block, Store}
+use Rattle.domain.specs.declared.ending.Deed.TheVariants.{Leave, Block, Store, Access}
 use Rattle.domain.specs.declared.ending.Ending.{Ending}
 use Rattle.domain.specs.declared.entry.Entry.TheVariants.{Submit, Refuse, Carry, Deliver}
 use Rattle.domain.specs.Carries.{carriage_end, refusal_end}
@@ -32,6 +32,7 @@ done_begins : (s : Alone) (b : List ℕ) (d : Deed) → (done s b d).counts.begi
 done_begins s b Leave = refl
 done_begins s b Block = refl
 done_begins s b (Store k first) = refl
+done_begins s b (Access g) = refl
 
 concluded_begins : (s : Alone) (n : ℕ) (b : List ℕ) (a : Ending) → (conclude s n b a).state.counts.begins ≡ s.counts.begins
 concluded_begins s n b a = replied_begins (done (without s n) b a.deed) a.reply ∙ done_begins (without s n) b a.deed
@@ -53,7 +54,7 @@ pub refuse_begins : (share : Share) (s : Alone) (n : ℕ) (c : Change) → chang
 refuse_begins share s n c h = closed_begins s n (item_at s.flight n) (refusal_end share (item_at s.flight n)) c h
 
 pub carry_begins : (share : Share) (s : Alone) (n : ℕ) (c : Change) → change share s (Carry n) ≡ Some c → c.state.counts.begins ≡ s.counts.begins
-carry_begins share s n c h = closed_begins s n (item_at s.flight n) (carriage_end share s.frames (item_at s.flight n)) c h
+carry_begins share s n c h = closed_begins s n (item_at s.flight n) (carriage_end share s.frames s.registers (item_at s.flight n)) c h
 
 pub deliver_begins : (share : Share) (s : Alone) (n : ℕ) (c : Change) → change share s (Deliver n) ≡ Some c → c.state.counts.begins ≡ s.counts.begins
 deliver_begins share s n c h = delivers_begins s n (arrival s.open_tags (item_at s.flight n)) c h

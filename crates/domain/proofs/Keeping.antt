@@ -86,8 +86,8 @@ some_is : {A : Type 0} (x y : A) → some x ≡ some y → x ≡ y
 some_is x y e = cc
 
 -- one packet stands under a number
-pub fits_each : (o : Option Emission) (e x : Emission) (d : Deed) → o ≡ Some x → DeedFits x.bytes d → o ≡ Some e → DeedFits e.bytes d
-fits_each o e x d is fits other = subst (λ (y : Emission). DeedFits y.bytes d) (some_is x e (sym is ∙ other)) fits
+pub fits_each : (o : Option Emission) (e x : Emission) (d : Deed) → o ≡ Some x → DeedFits x d → o ≡ Some e → DeedFits e d
+fits_each o e x d is fits other = subst (λ (y : Emission). DeedFits y d) (some_is x e (sym is ∙ other)) fits
 
 -- the change that an end makes, by the state that it leaves
 pub ended_so : (v : DomainView) (e : Entry) (n : ℕ) (a : Ending) (t : Alone) (h : EndsBy v e n a) → ((x : Emission) → item_at v.state.flight n ≡ Some x → t ≡ (conclude v.state n x.bytes a).state)

@@ -1,9 +1,16 @@
 pub mod PageFits
+pub mod Places
+pub mod WellMadeLemmas
 pub mod FlightLemmas
 pub mod StoreLemmas
 pub mod ConcludeLemmas
 pub mod Accounting
+pub mod PageIds
 pub mod Begins
 pub mod Keeping
+pub mod Ticking
+pub mod HostBegins
 pub mod EndLemmas
 pub mod Replaying
+pub mod Leaving
+pub mod Smallest

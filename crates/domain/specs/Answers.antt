@@ -1,9 +1,11 @@
 -- The completions by which ports and the host answer (PCIe 4.0, 2.3.1).
-use Rattle.std.specs.Prelude.{ℕ, ◌+◌, ◌*◌, ◌/◌, ◌%◌, ◌==◌, Bool, false, ◌&&◌, List, Option, Some, None, option_map, unwrap_or, replicate, if◌then◌else◌}
+use Rattle.std.specs.Prelude.{◌≡◌, ℕ, ◌+◌, ◌*◌, ◌/◌, ◌%◌, ◌==◌, Bool, false, ◌&&◌, List, Option, Some, None, option_map, unwrap_or, replicate, if◌then◌else◌}
 use Rattle.std.specs.List.{find}
 use Rattle.fab_types.specs.declared.head.Answerer.{Answerer}
 use Rattle.fab_types.specs.declared.head.Answerer.TheVariants as by
-use Rattle.fab_types.specs.declared.head.Parties.TheVariants.{Answer, Downward}
+use Rattle.fab_types.specs.declared.head.Parties.{Parties}
+use Rattle.fab_types.specs.declared.head.Parties.TheVariants.{Answer, Downward, Upward}
+use Rattle.function.specs.Accesses.{IsAccess, answer as page_answer}
 use Rattle.fab_types.specs.declared.place.Origin.{Origin}
 use Rattle.fab_types.specs.declared.place.Origin.TheVariants.{Function}
 use Rattle.fab_types.specs.declared.status.Status.{Status}
@@ -12,6 +14,7 @@ use Rattle.host_memory.specs.Pages.{part_of}
 use Rattle.layout.specs.Reach.{reach}
 use Rattle.layout.specs.Share.{Share}
 use Rattle.tlp_view.specs.declared.enables.Enables.{Enables}
+use Rattle.tlp_view.specs.Bytes.{packet_of}
 use Rattle.tlp_view.specs.Completions.{completion_bytes, read_completion, refusal}
 use Rattle.tlp_view.specs.Packet.{Packet, address_in, dw_count, enables_in}
 use Rattle.tlp_view.specs.Requests.{moved, packet_bytes}
@@ -24,6 +27,18 @@ use Rattle.domain.specs.State.{Emission}
 abbrev pub made_bytes : Made → List ℕ
 made_bytes (made.Completion t) = completion_bytes t
 made_bytes (made.Request t) = packet_bytes t
+
+-- a request that is made is read back as what it was made from
+abbrev pub IsReadAs : Made → List ℕ → Type 0
+IsReadAs (made.Completion t) bytes = Unit {0}
+IsReadAs (made.Request t) bytes = packet_of bytes ≡ t
+
+-- what goes to a function is a request for its register page
+abbrev pub IsReply : Parties → Made → Type 0
+IsReply (Upward function) packet = Unit {0}
+IsReply (Downward function) (made.Completion t) = ⊥
+IsReply (Downward function) (made.Request t) = IsAccess t
+IsReply (Answer answerer addressee) packet = Unit {0}
 
 -- the ID of the host itself
 abbrev pub host_id : ℕ
@@ -65,6 +80,13 @@ shown frames k t =
     else unwrap_or (part_of frames k (address_of t % 4096) (address_of t % 4096 + 4 * dw_count t.length)) (blank t)
 
 -- ---- a request to the register page of a function
+
+-- a function answers a read of its page, by the Requester ID
+abbrev pub answered_by : Share → Packet → Packet → Emission
+answered_by share t completion = answer by.Function (reach share t.requester) completion
+
+abbrev pub function_answer : Share → ℕ → List ℕ → Packet → Option Emission
+function_answer share function page t = option_map (answered_by share t) (page_answer function page t)
 
 -- the address at which a function's register page begins; every BAR is the address of a page
 abbrev pub page_at : ℕ → ℕ

@@ -1,6 +1,6 @@
--- What becomes of a request at its sender's first port and at the host: there the table of its Requester ID
--- says where it goes.
-use Rattle.std.specs.Prelude.{ℕ, ◌/◌, ◌%◌, ◌==◌, Bool, ◌&&◌, nat_lt, List, Option, Some, None, if◌then◌else◌, false}
+-- What becomes of a request at its sender's first port, at the host, where the table of its Requester ID says
+-- where it goes, and at the function whose register page it is for.
+use Rattle.std.specs.Prelude.{ℕ, ◌/◌, ◌%◌, ◌==◌, Bool, ◌&&◌, nat_lt, List, Option, Some, None, option_map, if◌then◌else◌, false}
 use Rattle.layout.specs.declared.lines.MapTarget.{MapTarget}
 use Rattle.layout.specs.declared.lines.MapTarget.TheVariants.{Frame, Peer}
 use Rattle.layout.specs.declared.lines.Access.TheVariants.{Read, Write}
@@ -13,10 +13,11 @@ use Rattle.fab_types.specs.declared.head.Parties.TheVariants.{Upward, Downward, 
 use Rattle.tlp_view.specs.Packet.{Packet, dw_count}
 use Rattle.tlp_view.specs.Runs.{is_write}
 use Rattle.tlp_view.specs.Bytes.{packet_of}
-use Rattle.domain.specs.declared.ending.Deed.TheVariants.{Leave, Block, Store}
+use Rattle.domain.specs.declared.ending.Deed.TheVariants.{Leave, Block, Store, Access}
 use Rattle.domain.specs.declared.ending.Ending.{Ending}
 use Rattle.domain.specs.State.{Emission}
-use Rattle.domain.specs.Answers.{address_of, bar_of, forwarded, host_data, host_refusal, port_answer, shown}
+use Rattle.host_memory.specs.Pages.{page_of}
+use Rattle.domain.specs.Answers.{address_of, bar_of, forwarded, function_answer, host_data, host_refusal, port_answer, shown}
 use Rattle.domain.specs.declared.fate.Fate.{Fate}
 use Rattle.domain.specs.declared.fate.Fate.TheVariants.{Vanish, Refused, ToHost}
 use Rattle.domain.specs.Fates.{fate, is_untranslated}
@@ -88,12 +89,21 @@ carriage_by share frames bytes Vanish = None
 carriage_by share frames bytes (Refused status) = None
 carriage_by share frames bytes ToHost = if is_carried share (packet_of bytes) then serve share frames (packet_of bytes) else None
 
-abbrev pub carriage_of : Share → List (ℕ × List ℕ) → List ℕ → Parties → Option Ending
-carriage_of share frames bytes (Upward function) = carriage_by share frames bytes (fate share.ports function bytes)
-carriage_of share frames bytes (Downward function) = None
-carriage_of share frames bytes (Answer answerer addressee) = None
+-- ---- at a function
+
+-- a request of the host reads or writes the function's register page
+abbrev pub access_of : Share → List (ℕ × List ℕ) → ℕ → Packet → Option Ending
+access_of share registers function t =
+    option_map (λ page. record { deed = Access function; reply = function_answer share function page t }) (page_of registers function)
+
+-- ---- at either
+
+abbrev pub carriage_of : Share → List (ℕ × List ℕ) → List (ℕ × List ℕ) → List ℕ → Parties → Option Ending
+carriage_of share frames registers bytes (Upward function) = carriage_by share frames bytes (fate share.ports function bytes)
+carriage_of share frames registers bytes (Downward function) = access_of share registers function (packet_of bytes)
+carriage_of share frames registers bytes (Answer answerer addressee) = None
 
 -- how a packet in flight ends at its completer, if it ends there
-abbrev pub carriage_end : Share → List (ℕ × List ℕ) → Option Emission → Option Ending
-carriage_end share frames None = None
-carriage_end share frames (Some e) = carriage_of share frames e.bytes e.parties
+abbrev pub carriage_end : Share → List (ℕ × List ℕ) → List (ℕ × List ℕ) → Option Emission → Option Ending
+carriage_end share frames registers None = None
+carriage_end share frames registers (Some e) = carriage_of share frames registers e.bytes e.parties

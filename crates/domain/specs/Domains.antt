@@ -57,7 +57,7 @@ IsStray old entry frame (NoMemory given) = ⊥
 pub record EndsBy (old : DomainView) (entry : Entry) (n : ℕ) (ending : Ending) : Type 0 where
   pub emission : Emission
   pub waits : item_at old.state.flight n ≡ Some emission
-  pub fits : DeedFits emission.bytes ending.deed
+  pub fits : DeedFits emission ending.deed
   pub step : change old.share old.state entry ≡ Some (conclude old.state n emission.bytes ending)
 
 -- the record is the one that the delivery of this number makes

@@ -7,9 +7,12 @@ pub mod Tags
 pub mod States
 pub mod Submits
 pub mod Answers
+pub mod RegisterPages
 pub mod Ends
 pub mod Carries
 pub mod Deliveries
+pub mod Ticks
+pub mod HostAccesses
 pub mod Records
 pub mod Machine
 pub mod Domains

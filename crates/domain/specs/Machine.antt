@@ -2,13 +2,15 @@
 use Rattle.std.specs.Prelude.{ℕ, List, [], ◌∷◌, Option, Some, None, option_map}
 use Rattle.layout.specs.Share.{Share}
 use Rattle.domain.specs.declared.entry.Entry.{Entry}
-use Rattle.domain.specs.declared.entry.Entry.TheVariants.{Submit, Refuse, Carry, Deliver}
+use Rattle.domain.specs.declared.entry.Entry.TheVariants.{Submit, Tick, Mmio, Refuse, Carry, Deliver}
 use Rattle.domain.specs.declared.ending.Ending.{Ending}
 use Rattle.domain.specs.State.{Alone, Emission, Change, emits_nothing, item_at, start_state, without}
 use Rattle.domain.specs.Submits.{submit}
 use Rattle.domain.specs.Carries.{carriage_end, refusal_end}
 use Rattle.domain.specs.Deliveries.{arrival, arrived}
 use Rattle.domain.specs.Ends.{conclude}
+use Rattle.domain.specs.HostAccesses.{mmio}
+use Rattle.domain.specs.Ticks.{tick}
 
 -- a packet in flight that ends so
 abbrev pub ended : Alone → ℕ → Option Emission → Option Ending → Option Change
@@ -21,7 +23,7 @@ refuse share s n item = ended s n item (refusal_end share item)
 
 -- it reaches its completer
 abbrev pub carry : Share → Alone → ℕ → Option Emission → Option Change
-carry share s n item = ended s n item (carriage_end share s.frames item)
+carry share s n item = ended s n item (carriage_end share s.frames s.registers item)
 
 -- a completion reaches whom it answers
 abbrev pub deliver : Alone → ℕ → Option Emission → Option Change
@@ -30,6 +32,8 @@ deliver s n item = option_map (λ a. emits_nothing (arrived (without s n) a)) (a
 -- what an entry does, or None where it is illegal
 abbrev pub change : Share → Alone → Entry → Option Change
 change share s (Submit function bytes) = submit share s function bytes
+change share s (Tick function) = tick share s function
+change share s (Mmio access) = mmio share s access
 change share s (Refuse n) = refuse share s n (item_at s.flight n)
 change share s (Carry n) = carry share s n (item_at s.flight n)
 change share s (Deliver n) = deliver s n (item_at s.flight n)

@@ -1,5 +1,5 @@
 -- The state of a domain by itself.
-use Rattle.std.specs.Prelude.{ℕ, ◌/◌, ◌%◌, List, [], ◌∷◌, ◌++◌, map, filter, slice_set, slice_index_or, Option, Some, None}
+use Rattle.std.specs.Prelude.{ℕ, ◌+◌, List, [], ◌∷◌, ◌++◌, map, filter, slice_set, slice_index_or, Option, Some, None}
 use Rattle.fab_types.specs.declared.head.Parties.{Parties}
 use Rattle.fab_types.specs.declared.place.Origin.{Origin}
 use Rattle.fab_types.specs.declared.status.Status.{Status}
@@ -9,6 +9,7 @@ use Rattle.function.specs.Registers.{first_page}
 use Rattle.host_memory.specs.Pages.{zeroed}
 use Rattle.domain.specs.declared.counts.Counts.{Counts}
 use Rattle.function.specs.declared.tags.OpenTag.{OpenTag}
+use Rattle.domain.specs.Tags.{and_opened}
 
 -- a packet that the domain made: its parties and its bytes
 pub record Emission : Type 0 where
@@ -51,6 +52,10 @@ start_state share = record {
 abbrev pub item_at : List (Option Emission) → ℕ → Option Emission
 item_at flight n = slice_index_or flight n None
 
+-- the state with these register pages
+abbrev pub with_registers : Alone → List (ℕ × List ℕ) → Alone
+with_registers s registers = record { frames = s.frames; registers = registers; open_tags = s.open_tags; deliveries = s.deliveries; counts = s.counts; flight = s.flight }
+
 -- the state when the number has left flight
 abbrev pub without : Alone → ℕ → Alone
 without s n = record { frames = s.frames; registers = s.registers; open_tags = s.open_tags; deliveries = s.deliveries; counts = s.counts; flight = slice_set s.flight n None }
@@ -58,6 +63,17 @@ without s n = record { frames = s.frames; registers = s.registers; open_tags = s
 -- the state with an emission in flight under the next number
 abbrev pub with_emission : Alone → Emission → Alone
 with_emission s e = record { frames = s.frames; registers = s.registers; open_tags = s.open_tags; deliveries = s.deliveries; counts = s.counts; flight = s.flight ++ Some e ∷ [] }
+
+-- one begin more, which opens this Tag, if any
+abbrev pub begun : Alone → Option OpenTag → Alone
+begun s opened = record {
+  frames = s.frames;
+  registers = s.registers;
+  open_tags = and_opened s.open_tags opened;
+  deliveries = s.deliveries;
+  counts = record { begins = s.counts.begins + 1; blocked = s.counts.blocked; unexpected = s.counts.unexpected };
+  flight = s.flight;
+}
 
 -- what an entry makes of a state, and the packet that it emits, if any
 pub record Change : Type 0 where

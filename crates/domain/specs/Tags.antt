@@ -1,11 +1,9 @@
 -- The Tags that a domain's requesters have open (PCIe 4.0, 2.2.6.2).
-use Rattle.std.specs.Prelude.{ℕ, ◌==◌, Bool, true, false, ◌&&◌, List, [], ◌∷◌, ◌++◌, Option, Some, None, if◌then◌else◌}
-use Rattle.std.specs.List.{list_any}
+use Rattle.std.specs.Prelude.{ℕ, Bool, true, false, List, [], ◌∷◌, ◌++◌, Option, Some, None, if◌then◌else◌}
 use Rattle.fab_types.specs.declared.class.Class.{Class}
 use Rattle.fab_types.specs.declared.class.Class.TheVariants.{Posted, NonPosted, Completion}
 use Rattle.fab_types.specs.declared.faults.malformed.Malformed.{Malformed}
-use Rattle.fab_types.specs.declared.place.Origin.{Origin}
-use Rattle.fab_types.specs.declared.place.Origin.TheVariants.{Function, Host}
+use Rattle.fab_types.specs.declared.place.Origin.TheVariants.{Function}
 use Rattle.tlp_view.specs.Kinds.{class_of_kind, is_completion}
 use Rattle.tlp_view.specs.Bytes.{packet_of}
 use Rattle.tlp_view.specs.Malformed.{malformed}
@@ -33,6 +31,11 @@ is_completion_unless (Some cause) bytes = false
 -- are the bytes a well-formed completion?
 abbrev pub completes : List ℕ → Bool
 completes bytes = is_completion_unless (malformed bytes) bytes
+
+-- the open Tags with one more, if one is opened
+abbrev pub and_opened : List OpenTag → Option OpenTag → List OpenTag
+and_opened tags None = tags
+and_opened tags (Some opened) = tags ++ opened ∷ []
 
 -- the open Tags after a function submitted these bytes
 abbrev pub opened : List OpenTag → ℕ → List ℕ → List OpenTag

@@ -5,12 +5,13 @@ ghost use Rattle.std.specs.Option.{option_copied};
 ghost use Rattle.host_memory.specs.Pages.{part_of};
 ghost use Rattle.tlp_view.specs.Completions.{HeadFits, completion_of, read_completion};
 ghost use Rattle.tlp_view.specs.Packet.{dw_count};
-ghost use Rattle.tlp_view.specs.Kinds.{is_memory};
 ghost use Rattle.domain.specs.Carries.{forward};
-ghost use Rattle.domain.specs.Answers.{address_of, bar_of, blank, forwarded, host_data, host_refusal, port_answer, reads_nothing, shown};
+ghost use Rattle.domain.specs.Answers.{address_of, bar_of, blank, forwarded, function_answer, host_data, host_refusal, port_answer, reads_nothing, shown};
+ghost use Rattle.function.specs.Accesses.{IsAccess};
 
 use crate::ending::{Deed, Ending, Reply};
 use fab_types::{Answerer, Bdf, Origin, PortId, Status};
+use function::Function;
 use host_memory::HostMemory;
 use layout::{FunctionLine, Start};
 use tlp_view::{CompletionHead, CplBuf, RequestBuf, TlpView};
@@ -51,7 +52,8 @@ pub(crate) fn host_data(start: &Start, memory: &HostMemory, frame: u16, view: &T
     )
 }
 
-fn bar_of(functions: &[FunctionLine], function: Bdf) -> Option<u32>
+/// The BAR of this function, if the layout has it.
+pub(crate) fn bar_of(functions: &[FunctionLine], function: Bdf) -> Option<u32>
     ensures { result ≡ bar_of functions.now function }
 {
     functions
@@ -62,7 +64,7 @@ fn bar_of(functions: &[FunctionLine], function: Bdf) -> Option<u32>
 
 /// A request goes on to the same place in the register page of this function, if the layout has it.
 pub(crate) fn forward(start: &Start, function: Bdf, view: &TlpView) -> Option<Ending>
-    requires { is_memory (view.now).kind ≡ true }
+    requires { IsAccess view.now }
     ensures { result ≡ forward function view.now (bar_of start.now.functions function) }
 {
     match bar_of(start.functions(), function) {
@@ -75,12 +77,27 @@ pub(crate) fn forward(start: &Start, function: Bdf, view: &TlpView) -> Option<En
 }
 
 fn forwarded(function: Bdf, bar: u32, view: &TlpView) -> Reply
-    requires { is_memory (view.now).kind ≡ true }
+    requires { IsAccess view.now }
     ensures { result ≡ forwarded function bar view.now }
 {
     let place = view.address().unwrap_or(0) % 4096;
     let page = u64::from(bar / 4096 * 4096);
     Reply::request(function, RequestBuf::moved(view, page + place))
+}
+
+/// A function answers a read of its register page; a write has no answer.
+pub(crate) fn function_answer(start: &Start, function: &Function, view: &TlpView) -> Option<Reply>
+    requires { IsAccess view.now }
+    ensures { result ≡ function_answer start.now (function.now).0 (function.now).1 view.now }
+{
+    match function.answer(view) {
+        Some(packet) => Some(Reply::answer(
+            Answerer::Function,
+            start.reach(view.requester()),
+            packet,
+        )),
+        None => None,
+    }
 }
 
 /// Does the read ask for no bytes?

@@ -1,20 +1,25 @@
-//! What the host does with a request.
+//! What the host does with a request, and what a function does with one of the host.
 
 ghost use Rattle.std.specs.Prelude.{◌≡◌, ◌/◌, true, None, if◌then◌else◌};
-ghost use Rattle.fab_types.specs.declared.head.Parties.TheVariants.{Upward};
+ghost use Rattle.fab_types.specs.declared.head.Parties.TheVariants.{Downward, Upward};
+ghost use Rattle.function.specs.Accesses.{IsAccess};
+ghost use Rattle.tlp_view.specs.Bytes.{packet_of};
 ghost use Rattle.tlp_view.specs.Kinds.{is_memory};
 ghost use Rattle.tlp_view.specs.Packet.{dw_count};
 ghost use Rattle.tlp_view.specs.Runs.{is_write};
-ghost use Rattle.domain.specs.Carries.{carriage_by, carriage_of, is_carried, is_owner, serve, serve_read, write_to, read_from};
+ghost use Rattle.domain.specs.WellMade.{IsWellMade};
+ghost use Rattle.domain.specs.Carries.{access_of, carriage_by, carriage_of, is_carried, is_owner, serve, serve_read, write_to, read_from};
 ghost use Rattle.layout.specs.Tables.{target_of};
 ghost use Rattle.layout.specs.declared.lines.Access.TheVariants as access;
 ghost use Rattle.domain.specs.Answers.{address_of};
-ghost use Rattle.domain.specs.Fates.{fate_at};
+ghost use Rattle.domain.specs.Fates.{fate, fate_at};
 
-use crate::answers::{forward, host_data, host_refusal};
+use crate::answers::{forward, function_answer, host_data, host_refusal};
 use crate::ending::{Deed, Ending};
 use crate::fate::{Fate, is_untranslated, packet_fate};
+use crate::registers::place;
 use fab_types::{Bdf, DomainId};
+use function::Function;
 use host_memory::HostMemory;
 use host_table::{HostTable, Target};
 use layout::{Access, PortLine, Start};
@@ -49,8 +54,9 @@ fn is_carried(start: &Start, view: &TlpView) -> bool
 }
 
 /// What the host does with a write.
+#[tactic(auto, using(crate::proofs::WellMadeLemmas::write_access))]
 fn serve_write(start: &Start, table: &HostTable, view: &TlpView) -> Option<Ending>
-    requires { is_memory (view.now).kind ≡ true }
+    requires { is_write (view.now).kind ≡ true }
     ensures { result ≡ write_to start.now view.now (target_of table.now view.now.requester (address_of view.now / 4096) access.Write) }
 {
     let address = view.address().unwrap_or(0);
@@ -134,8 +140,8 @@ fn carriage_past(
     }
 }
 
-/// What the host does with these bytes of a function.
-pub(crate) fn carriage_of(
+/// What the host does with these bytes that a function sent.
+pub(crate) fn carriage_to_host(
     start: &Start,
     table: &HostTable,
     memory: &HostMemory,
@@ -143,10 +149,40 @@ pub(crate) fn carriage_of(
     bytes: &[u8],
 ) -> Option<Ending>
     requires { table.now ≡ (start.now).maps }
-    ensures { result ≡ carriage_of start.now memory.now bytes.now (Upward function) }
+    ensures { result ≡ carriage_by start.now memory.now bytes.now (fate start.now.ports function bytes.now) }
 {
     match start.first_port(function) {
         Some(port) => carriage_past(&port, start, table, memory, bytes),
         None => None,
     }
+}
+
+/// What a function does with a request for its register page.
+fn access_of(start: &Start, functions: &[Function], id: Bdf, view: &TlpView) -> Option<Ending>
+    requires { IsAccess view.now }
+    ensures { result ≡ access_of start.now functions.now id view.now }
+{
+    match place(functions, id) {
+        Some(at) => Some(Ending {
+            deed: Deed::Access(id),
+            reply: function_answer(start, &functions[at], view),
+        }),
+        None => None,
+    }
+}
+
+/// What a function does with these bytes of the host.
+pub(crate) fn carriage_to_function(
+    start: &Start,
+    functions: &[Function],
+    id: Bdf,
+    bytes: &[u8],
+) -> Option<Ending>
+    requires { IsWellMade (Downward id) bytes.now }
+    ensures { result ≡ access_of start.now functions.now id (packet_of bytes.now) }
+{
+    let Ok(view) = TlpView::read(bytes) else {
+        unreachable!();
+    };
+    access_of(start, functions, id, &view)
 }

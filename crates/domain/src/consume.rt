@@ -3,7 +3,7 @@
 ghost use Rattle.std.specs.Prelude.{◌≡◌, Some, None, IfOk, IfErr, OnErr, option_map};
 ghost use Rattle.domain.specs.Ends.{conclude};
 
-use crate::carriage::carriage_of;
+use crate::carriage::{carriage_to_function, carriage_to_host};
 use crate::deliver::Record;
 use crate::domain::Domain;
 use crate::ending::Ending;
@@ -63,7 +63,7 @@ impl Domain {
 
     /// How a packet in flight ends at its completer, if it ends there.
     fn carriage_end(&self, number: u64) -> Option<Ending>
-        ensures { result ≡ carriage_end self.now.share self.now.state.frames (item_at self.now.state.flight number) }
+        ensures { result ≡ carriage_end self.now.share self.now.state.frames self.now.state.registers (item_at self.now.state.flight number) }
     {
         let Some((parties, bytes)) = self.state.item(number) else {
             return None;
@@ -71,9 +71,11 @@ impl Domain {
         match parties {
             Parties::Upward(function) => {
                 let memory = self.state.memory();
-                carriage_of(&self.start, &self.table, memory, function, bytes)
+                carriage_to_host(&self.start, &self.table, memory, function, bytes)
             }
-            Parties::Downward(_) => None,
+            Parties::Downward(function) => {
+                carriage_to_function(&self.start, self.state.functions(), function, bytes)
+            }
             Parties::Answer(..) => None,
         }
     }
@@ -175,12 +177,12 @@ impl Domain {
     }
 
     /// A request reached its completer. At the host a write goes where the table of its Requester ID
-    /// maps its page, and a read is answered with what is stored there; without a mapping the request is
-    /// counted as blocked, and a read is answered UR. The frame of the answer is the result. It is
-    /// `Stray` where the frame is not of this domain, or its packet is not in flight or not carried;
-    /// requests to a peer and of the host are among these as long as they are not made. `NoMemory` comes
-    /// only where an answer is made and memory was refused. Then nothing changes, and the frame is given
-    /// back.
+    /// maps its page, and a read is answered with what is stored there; a page of a peer function makes
+    /// the same request to that function; without a mapping the request is counted as blocked, and a read
+    /// is answered UR. At a function its register page is written, or answers a read. The frame of what
+    /// follows is the result. It is `Stray` where the frame is not of this domain, or its packet is not
+    /// in flight or not carried. `NoMemory` comes only where something follows and memory was refused.
+    /// Then nothing changes, and the frame is given back.
     pub fn carry<R: Wait>(&mut self, rt: &R, frame: Frame) -> Result<Option<Frame>, FrameFault>
         ensures ok { IfOk result (λ sent. (frame.domain ≡ (self.old.share).domain) × Makes self.old (Carry frame.number) self.new sent) }
         ensures fault { IfErr result (λ fault. IsRefused self.old (Carry frame.number) frame fault) }

@@ -29,6 +29,11 @@ impl Model for Record {
     ghost use Rattle.domain.specs.Records.{delivery_in};
 
     ghost view = { delivery_in };
+
+    ghost use Rattle.std.specs.Prelude.{◌≡◌, None};
+    ghost use Rattle.tlp_view.specs.Malformed.{malformed};
+
+    ghost invariant = { λ r. malformed r.bytes.items ≡ None };
 }
 
 impl Record {
@@ -54,7 +59,8 @@ impl Record {
 
     /// The whole completion, header and payload.
     pub fn bytes(&self) -> &[u8]
-        ensures { result.now ≡ self.now.bytes }
+        ensures value { result.now ≡ self.now.bytes }
+        ensures well_formed { malformed result.now ≡ None }
     {
         self.bytes.as_slice()
     }
@@ -118,7 +124,8 @@ fn is_awaited(tags: &[OpenTag], answerer: Answerer, owner: Origin, view: &TlpVie
 }
 
 fn record_of(owner: Origin, view: &TlpView, bytes: &[u8]) -> Record
-    requires { length bytes.now ≤ 272 }
+    requires short { length bytes.now ≤ 272 }
+    requires well_formed { malformed bytes.now ≡ None }
     ensures { result ≡ delivery_of owner view.now bytes.now }
 {
     Record {

@@ -1,10 +1,10 @@
 //! A domain.
 
-ghost use Rattle.std.specs.Prelude.{◌≡◌, IfOk, Some, []};
+ghost use Rattle.std.specs.Prelude.{◌≡◌, IfOk, Some, [], option_map};
 ghost use Rattle.std.specs.Option.{option_copied};
 ghost use Rattle.host_memory.specs.Pages.{page_of};
 ghost use Rattle.domain.specs.Machine.{replay};
-ghost use Rattle.domain.specs.State.{start_state};
+ghost use Rattle.domain.specs.State.{item_at, start_state};
 
 use crate::counts::Counts;
 use crate::deliver::Record;
@@ -90,6 +90,16 @@ impl Domain {
         ensures { option_copied result ≡ page_of self.now.state.registers function }
     {
         self.state.register_page(function)
+    }
+
+    /// The bytes of the packet that is in flight under this number, if one is.
+    pub fn bytes(&self, number: u64) -> Option<&[u8]>
+        ensures { option_copied result ≡ option_map (λ e. e.bytes) (item_at self.now.state.flight number) }
+    {
+        match self.state.item(number) {
+            Some((_, bytes)) => Some(bytes),
+            None => None,
+        }
     }
 
     /// The completions that were delivered, oldest first.

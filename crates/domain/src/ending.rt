@@ -3,7 +3,7 @@
 ghost use Rattle.std.specs.Prelude.{◌≡◌, None};
 ghost use Rattle.fab_types.specs.declared.head.Parties.TheVariants.{Downward};
 ghost use Rattle.tlp_view.specs.Requests.{packet_bytes};
-ghost use Rattle.domain.specs.Answers.{answer, made_bytes};
+ghost use Rattle.domain.specs.Answers.{IsReadAs, answer, made_bytes};
 
 use fab_types::{Answerer, Bdf, Origin, Parties};
 use std::marker::Model;
@@ -18,6 +18,8 @@ pub(crate) enum Deed {
     Block,
     /// It writes the enabled bytes to this frame, from this byte on.
     Store(u16, usize),
+    /// It writes or reads this function's register page.
+    Access(Bdf),
 }
 
 /// A packet that the domain itself makes.
@@ -34,6 +36,7 @@ impl Made {
     fn bytes(&self) -> &[u8]
         ensures value { result.now ≡ made_bytes self.now }
         ensures well_formed { malformed result.now ≡ None }
+        ensures read { IsReadAs self.now result.now }
         ensures short { length result.now ≤ 272 }
     {
         match self {
@@ -53,16 +56,19 @@ pub(crate) struct Reply {
 
 impl Model for Reply {
     ghost use Rattle.domain.specs.State.{Emission};
-    ghost use Rattle.domain.specs.Answers.{made_bytes};
+    ghost use Rattle.domain.specs.Answers.{IsReply, made_bytes};
 
     ghost Value = { Emission };
 
     ghost view = { λ r. record { parties = r.parties; bytes = made_bytes r.packet } };
+
+    ghost invariant = { λ r. IsReply r.parties r.packet };
 }
 
 impl Reply {
     ghost use Rattle.std.specs.Prelude.{◌≤◌, length};
-    ghost use Rattle.tlp_view.specs.Malformed.{malformed};
+    ghost use Rattle.domain.specs.WellMade.{IsWellMade};
+    ghost use Rattle.function.specs.Accesses.{IsAccess};
 
     /// A completion for this addressee.
     pub(crate) fn answer(answerer: Answerer, addressee: Option<Origin>, packet: CplBuf) -> Reply
@@ -76,6 +82,7 @@ impl Reply {
 
     /// A request to this function.
     pub(crate) fn request(function: Bdf, packet: RequestBuf) -> Reply
+        requires { IsAccess packet }
         ensures { result ≡ record { parties = Downward function; bytes = packet_bytes packet } }
     {
         Reply {
@@ -92,7 +99,7 @@ impl Reply {
 
     pub(crate) fn bytes(&self) -> &[u8]
         ensures value { result.now ≡ self.now.bytes }
-        ensures well_formed { malformed result.now ≡ None }
+        ensures well_made { IsWellMade self.now.parties result.now }
         ensures short { length result.now ≤ 272 }
     {
         self.packet.bytes()

@@ -1,3 +1,4 @@
+use crate::access::HostAccess;
 use fab_types::Bdf;
 use frame_log::PacketBytes;
 
@@ -7,6 +8,10 @@ use frame_log::PacketBytes;
 pub enum Entry {
     /// This function submitted these bytes.
     Submit(Bdf, PacketBytes),
+    /// This function's program had a tick.
+    Tick(Bdf),
+    /// The domain's host asked this of a register page.
+    Mmio(HostAccess),
     /// The packet of this number was stopped by its sender's first port.
     Refuse(u64),
     /// The packet of this number reached its completer.

@@ -1,8 +1,11 @@
 //! A domain (a tenant): its memory, its journal, and what it has in flight.
 #![tactic(auto)]
 
+mod access;
 mod answers;
+mod begin;
 mod carriage;
+mod conclude;
 mod consume;
 mod counts;
 mod deliver;
@@ -12,16 +15,21 @@ mod entry;
 mod fate;
 mod flight;
 mod heads;
+mod laws;
+mod mmio;
 mod refusal;
 mod registers;
 mod replay;
 mod state;
 mod submit;
 mod tags;
+mod tick;
 
+pub use access::{HostAccess, Operation};
 pub use counts::Counts;
 pub use deliver::Record;
 pub use domain::Domain;
 pub use entry::Entry;
 pub use fate::Fate;
 pub use function::{OpenTag, TagUse};
+pub use laws::equal_journals_leave_equal_states;

@@ -1,14 +1,21 @@
 //! The functions of a domain, and their register pages.
 
-ghost use Rattle.std.specs.Prelude.{◌≡◌, IfOk};
+ghost use Rattle.std.specs.Prelude.{◌≡◌, ◌==◌, ℕ, List, [], Some, IfOk, IfSome, option_map, slice_index_or};
+ghost use Rattle.function.specs.Plans.{PlanFits, page_after, plan_of};
+ghost use Rattle.std.specs.List.{position};
 ghost use Rattle.std.specs.Option.{option_copied};
+ghost use Rattle.fab_types.specs.declared.place.Origin.{Origin};
+ghost use Rattle.function.specs.Accesses.{IsAccess, accessed};
 ghost use Rattle.host_memory.specs.Pages.{page_of};
+ghost use Rattle.domain.specs.Deliveries.{completed};
+ghost use Rattle.domain.specs.RegisterPages.{changed};
 ghost use Rattle.domain.specs.State.{first_registers};
 
-use fab_types::{Bdf, NoMemory};
-use function::Function;
+use fab_types::{Bdf, NoMemory, Origin, Status};
+use function::{Function, OpenTag, Plan, TagUse};
 use layout::Start;
 use std::alloc::Global;
+use tlp_view::TlpView;
 
 /// The domain's functions at the start.
 pub(crate) fn first_registers(alloc: Global, start: &Start) -> Result<Vec<Function>, NoMemory>
@@ -23,6 +30,22 @@ pub(crate) fn first_registers(alloc: Global, start: &Start) -> Result<Vec<Functi
     Ok(made)
 }
 
+fn position_of(functions: &[Function], id: Bdf) -> Option<usize>
+    ensures place { result ≡ position (λ page. page.0 == id) functions.now }
+    ensures id { IfSome result (λ at. (slice_index_or functions.now at (0, [])).0 ≡ id) }
+{
+    functions.iter().position(|function| function.id() == id)
+}
+
+/// Where this function stands.
+pub(crate) fn place(functions: &[Function], id: Bdf) -> Option<usize>
+    ensures place { result ≡ position (λ page. page.0 == id) functions.now }
+    ensures id { IfSome result (λ at. (slice_index_or functions.now at (0, [])).0 ≡ id) }
+    ensures page { page_of functions.now id ≡ option_map (λ at. (slice_index_or functions.now at (0, [])).1) result }
+{
+    position_of(functions, id)
+}
+
 /// The register page of this function.
 pub(crate) fn register_page(functions: &[Function], id: Bdf) -> Option<&[u8]>
     ensures { option_copied result ≡ page_of functions.now id }
@@ -30,5 +53,69 @@ pub(crate) fn register_page(functions: &[Function], id: Bdf) -> Option<&[u8]>
     match functions.iter().find(|function| function.id() == id) {
         Some(function) => Some(function.page()),
         None => None,
+    }
+}
+
+/// Does to this function's register page what the request asks for.
+pub(crate) fn access(functions: &mut [Function], id: Bdf, request: &TlpView)
+    requires { IsAccess request.now }
+    ensures { functions.new ≡ changed functions.old id (λ page. accessed page request.now) }
+{
+    if let Some(at) = place(functions, id) {
+        let _ = functions[at].access(request);
+    }
+}
+
+/// A completion closed a Tag of this owner: the data of a read line go to its function's page.
+pub(crate) fn complete(
+    functions: &mut [Function],
+    owner: Origin,
+    tag: u8,
+    usage: TagUse,
+    status: Status,
+    payload: &[u8],
+)
+    ensures { functions.new ≡ completed functions.old usage owner status payload.now }
+{
+    match owner {
+        Origin::Function(id) => complete_at(functions, id, tag, usage, status, payload),
+        Origin::Host(_) => {}
+    }
+}
+
+fn complete_at(
+    functions: &mut [Function],
+    id: Bdf,
+    tag: u8,
+    usage: TagUse,
+    status: Status,
+    payload: &[u8],
+)
+    ensures { functions.new ≡ completed functions.old usage (Origin.Function id) status payload.now }
+{
+    if let Some(at) = place(functions, id) {
+        let owner = Origin::Function(id);
+        functions[at].completed(OpenTag { owner, tag, usage }, status, payload);
+    }
+}
+
+/// What the next tick of this function does, with these Tags open.
+pub(crate) fn planned(functions: &[Function], id: Bdf, open_tags: &[OpenTag]) -> Option<Plan>
+    ensures value { result ≡ option_map (λ page. plan_of id page open_tags.now) (page_of functions.now id) }
+    ensures fits { IfSome result (λ plan. (page : List ℕ) → page_of functions.now id ≡ Some page → PlanFits plan page) }
+{
+    match place(functions, id) {
+        Some(at) => Some(functions[at].planned(open_tags)),
+        None => None,
+    }
+}
+
+/// Does to this function's register page what a tick with this plan does.
+pub(crate) fn perform(functions: &mut [Function], id: Bdf, plan: &Plan)
+    requires { (page : List ℕ) → page_of functions.old id ≡ Some page → PlanFits plan.now page }
+    ensures { functions.new ≡ changed functions.old id (page_after plan.now) }
+{
+    if let Some(at) = place(functions, id) {
+        functions[at].perform(plan);
     }
 }

@@ -10,7 +10,7 @@ ghost use Rattle.domain.specs.State.{Alone};
 use crate::consume::EndFault;
 use crate::domain::Domain;
 use crate::entry::Entry;
-use fab_types::{ReplayFault, SubmitFault};
+use fab_types::{MmioFault, ReplayFault, SubmitFault, TickFault};
 use frame_log::Log;
 use layout::Start;
 use std::alloc::Global;
@@ -28,6 +28,16 @@ impl Domain {
             Entry::Submit(function, bytes) => match self.submit(rt, *function, bytes.as_slice()) {
                 Ok(_) => Ok(()),
                 Err(SubmitFault::NoMemory) => Err(EndFault::NoMemory),
+                Err(_) => Err(EndFault::Illegal),
+            },
+            Entry::Tick(function) => match self.tick(rt, *function) {
+                Ok(_) => Ok(()),
+                Err(TickFault::NoMemory) => Err(EndFault::NoMemory),
+                Err(_) => Err(EndFault::Illegal),
+            },
+            Entry::Mmio(access) => match self.mmio(rt, access) {
+                Ok(_) => Ok(()),
+                Err(MmioFault::NoMemory) => Err(EndFault::NoMemory),
                 Err(_) => Err(EndFault::Illegal),
             },
             Entry::Refuse(number) => match self.end_refused(rt, *number) {

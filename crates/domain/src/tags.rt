@@ -3,10 +3,10 @@
 ghost use Rattle.std.specs.Prelude.{◌≡◌, if◌then◌else◌, Some, None};
 ghost use Rattle.tlp_view.specs.Bytes.{packet_of};
 ghost use Rattle.domain.specs.Tags.{completes, opens_tag, same_origin};
-ghost use Rattle.domain.specs.Deliveries.{closed};
+ghost use Rattle.domain.specs.Deliveries.{closed, use_of};
 
 use fab_types::{Class, Origin};
-use function::{OpenTag, same_origin};
+use function::{OpenTag, TagUse, same_origin};
 use tlp_view::TlpView;
 
 /// Closes this Tag of this owner.
@@ -14,6 +14,19 @@ pub(crate) fn close(tags: &mut Vec<OpenTag>, owner: Origin, tag: u8)
     ensures { tags.new.items ≡ closed tags.old.items owner tag }
 {
     tags.retain(|open| !(same_origin(open.owner, owner) && open.tag == tag));
+}
+
+/// What this Tag of this owner was opened for.
+pub(crate) fn use_of(tags: &[OpenTag], owner: Origin, tag: u8) -> TagUse
+    ensures { result ≡ use_of tags.now owner tag }
+{
+    match tags
+        .iter()
+        .find(|open| same_origin(open.owner, owner) && open.tag == tag)
+    {
+        Some(open) => open.usage,
+        None => TagUse::Raw,
+    }
 }
 
 /// The Tag that the bytes open: that of a well-formed non-posted request.

@@ -1,3 +1,4 @@
 pub mod Id
 pub mod Controls
 pub mod Faults
+pub mod Texts

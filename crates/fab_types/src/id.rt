@@ -1,7 +1,9 @@
 //! IDs of functions, ports and domains.
 
-ghost use Rattle.std.specs.Prelude.{◌≡◌, ℕ, ◌+◌, ◌*◌, ◌<◌, ◌≤◌, ◌^◌};
+ghost use Rattle.std.specs.Prelude.{◌≡◌, ℕ, ◌+◌, ◌*◌, ◌<◌, ◌≤◌, ◌^◌, Some};
 ghost use Rattle.std.specs.Option.{SomeIff};
+ghost use Rattle.std.specs.Fmt.{decimal};
+ghost use Rattle.fab_types.specs.Texts.{id_text};
 ghost use Rattle.fab_types.specs.Id.{id_of, bus_of, device_of, function_of, host_of};
 
 use std::fmt;
@@ -44,7 +46,8 @@ impl Bdf {
         ensures value { result ≡ self }
         ensures small { self < 2 ^ 16 }
     {
-        self.0
+        let Bdf(bits) = self;
+        bits
     }
 
     pub fn bus(self) -> u8
@@ -69,6 +72,8 @@ impl Bdf {
 }
 
 impl fmt::Display for Bdf {
+    ghost output = { λ id. Some (id_text id) };
+
     /// As `03:00.0`: two hexadecimal digits, two, one digit.
     fn fmt<W: fmt::Write>(&self, f: &mut fmt::Formatter<W>) -> fmt::Result {
         let (bus, device, function) = (self.bus(), self.device(), self.function());
@@ -98,11 +103,14 @@ impl PortId {
     pub fn id(self) -> Bdf
         ensures { result ≡ self }
     {
-        self.0
+        let PortId(id) = self;
+        id
     }
 }
 
 impl fmt::Display for PortId {
+    ghost output = { λ id. Some (id_text id) };
+
     fn fmt<W: fmt::Write>(&self, f: &mut fmt::Formatter<W>) -> fmt::Result {
         let id = self.0;
         write!(f, "{id}")
@@ -140,7 +148,8 @@ impl DomainId {
         ensures value { result ≡ self }
         ensures range { (1 ≤ self) × (self ≤ 31) }
     {
-        self.0
+        let DomainId(number) = self;
+        number
     }
 
     /// The ID under which the host of this domain makes requests: device `d` of bus 00.
@@ -152,6 +161,8 @@ impl DomainId {
 }
 
 impl fmt::Display for DomainId {
+    ghost output = { λ number. Some (decimal number) };
+
     fn fmt<W: fmt::Write>(&self, f: &mut fmt::Formatter<W>) -> fmt::Result {
         let number = self.0;
         write!(f, "{number}")

@@ -51,7 +51,7 @@ taken_length {X = X} test (x ∷ xs) t h = by (test x) (take_first test xs) (tak
   by false None of e = absurd cc
   by false (Some u) of e = ap (λ (v : X × List X). length v.1 + 1) (sym (some_is (u.0, x ∷ u.1) t e)) ∙ omega (arith, of u refl)
 
-if_of_is : (class : Class) (o : Option (Descriptor × List Descriptor)) (t : Descriptor × List Descriptor) → if_of class o ≡ Some t → o ≡ Some t
+pub if_of_is : (class : Class) (o : Option (Descriptor × List Descriptor)) (t : Descriptor × List Descriptor) → if_of class o ≡ Some t → o ≡ Some t
 if_of_is class None t h = absurd cc
 if_of_is class (Some u) t h = by (is_of class u.0) h where
   by : (b : Bool) → cond b (Some u) None ≡ Some t → some u ≡ Some t

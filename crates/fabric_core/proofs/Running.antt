@@ -32,7 +32,9 @@ run_more w v u (x ∷ es) [] e o r s = absurd r
 
 begins_of-append : (js ks : List Entry) → begins_of (js ++ ks) ≡ begins_of js ++ begins_of ks
 begins_of-append [] ks = refl
-begins_of-append (entry.Submit f b ∷ js) ks = ap (λ (bs : List (ℕ × List ℕ)). (f, b) ∷ bs) (begins_of-append js ks)
+begins_of-append (entry.Submit f b ∷ js) ks = ap (λ (bs : List Entry). entry.Submit f b ∷ bs) (begins_of-append js ks)
+begins_of-append (entry.Tick f ∷ js) ks = ap (λ (bs : List Entry). entry.Tick f ∷ bs) (begins_of-append js ks)
+begins_of-append (entry.Mmio x ∷ js) ks = ap (λ (bs : List Entry). entry.Mmio x ∷ bs) (begins_of-append js ks)
 begins_of-append (entry.Refuse n ∷ js) ks = begins_of-append js ks
 begins_of-append (entry.Carry n ∷ js) ks = begins_of-append js ks
 begins_of-append (entry.Deliver n ∷ js) ks = begins_of-append js ks
@@ -51,7 +53,7 @@ begun_begins d ws rs e (Some c) v h = ap (λ (w : World). begins_of w.domain.jou
 ended_begins : (d : DomainView) (ws rs : List Descriptor) (e : Entry) (o : Option Change) (v : World) → begins_of (e ∷ []) ≡ [] → ended d ws rs e o ≡ Some v → begins_of v.domain.journal ≡ begins_of d.journal ++ []
 ended_begins d ws rs e None v none h = absurd cc
 ended_begins d ws rs e (Some c) v none h =
-    ap (λ (w : World). begins_of w.domain.journal) (sym (some_is _ v h)) ∙ begins_of-append d.journal (e ∷ []) ∙ ap (λ (bs : List (ℕ × List ℕ)). begins_of d.journal ++ bs) none
+    ap (λ (w : World). begins_of w.domain.journal) (sym (some_is _ v h)) ∙ begins_of-append d.journal (e ∷ []) ∙ ap (λ (bs : List Entry). begins_of d.journal ++ bs) none
 
 end_begins : (n : ℕ) (o : Option Fate) → begins_of (end_of n o ∷ []) ≡ []
 end_begins n None = refl
@@ -81,8 +83,8 @@ same_begins : (w v : World) → v ≡ w → begins_of v.domain.journal ≡ begin
 same_begins w v e = ap (λ (x : World). begins_of x.domain.journal) e ∙ sym (append-nil (begins_of w.domain.journal))
 
 -- what didn't move accepted nothing
-none_accepted : (w v : World) (bs : List (ℕ × List ℕ)) → v ≡ w → bs ≡ [] → begins_of v.domain.journal ≡ begins_of w.domain.journal ++ bs
-none_accepted w v bs e none = same_begins w v e ∙ ap (λ (l : List (ℕ × List ℕ)). begins_of w.domain.journal ++ l) (sym none)
+none_accepted : (w v : World) (bs : List Entry) → v ≡ w → bs ≡ [] → begins_of v.domain.journal ≡ begins_of w.domain.journal ++ bs
+none_accepted w v bs e none = same_begins w v e ∙ ap (λ (l : List Entry). begins_of w.domain.journal ++ l) (sym none)
 
 not_moved : (e : Event) → (accepted_one e Idle ≡ []) × (accepted_one e NoMemory ≡ []) × ((fault : BeginFault) → accepted_one e (Refused fault) ≡ [])
 not_moved (Submit f b) = (refl, refl, λ fault. refl)
@@ -99,7 +101,7 @@ step_begins w v e NoMemory s = none_accepted w v _ s.1 (not_moved e).1
 pub run_begins : (w v : World) (es : List Event) (os : List Outcome) → Run w es os v → begins_of v.domain.journal ≡ begins_of w.domain.journal ++ accepted es os
 run_begins w v [] [] r = same_begins w v r
 run_begins w v (e ∷ es) (o ∷ os) r =
-    run_begins r.0 v es os r.2 ∙ ap (λ (bs : List (ℕ × List ℕ)). bs ++ accepted es os) (step_begins w r.0 e o r.1)
+    run_begins r.0 v es os r.2 ∙ ap (λ (bs : List Entry). bs ++ accepted es os) (step_begins w r.0 e o r.1)
     ∙ append_assoc (begins_of w.domain.journal) (accepted_one e o) (accepted es os)
 run_begins w v [] (o ∷ os) r = absurd r
 run_begins w v (e ∷ es) [] r = absurd r

@@ -18,7 +18,7 @@ use Rattle.fabric_core.specs.Events.{after, end_entry, end_of, own_change, Ends,
 abbrev view : Share → Alone → List Entry → DomainView
 view share s js = record { share = share; state = s; journal = js }
 
-after_is : (old new : DomainView) (e : Entry) (o : Option Emission) → new.share ≡ old.share → new.journal ≡ old.journal ++ e ∷ [] → new ≡ after old e (record { state = new.state; emission = o })
+pub after_is : (old new : DomainView) (e : Entry) (o : Option Emission) → new.share ≡ old.share → new.journal ≡ old.journal ++ e ∷ [] → new ≡ after old e (record { state = new.state; emission = o })
 after_is old new e o share journal = ap (λ (s : Share). view s new.state new.journal) share ∙ ap (λ (js : List Entry). view old.share new.state js) journal
 
 own_is : (old : DomainView) (frame : Descriptor) (e : Entry) (c : Option Change) → frame.domain ≡ old.share.domain → change old.share old.state e ≡ c → own_change old frame e ≡ c

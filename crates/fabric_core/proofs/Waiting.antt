@@ -10,12 +10,14 @@ use Rattle.frame_log.specs.Descriptor.{Descriptor}
 use Rattle.frame_log.specs.declared.fault.FrameFault.{FrameFault}
 use Rattle.domain.specs.declared.entry.Entry.{Entry}
 use Rattle.domain.specs.declared.entry.Entry.TheVariants.{Deliver}
-use Rattle.domain.specs.Domains.{DomainView}
+use Rattle.domain.specs.declared.entry.Entry.TheVariants as entry
+use Rattle.domain.specs.Domains.{DomainView, Makes}
 use Rattle.domain.specs.Heads.{descriptor_of}
 use Rattle.domain.specs.State.{Change, Emission}
-use Rattle.fabric_core.specs.declared.event.Event.TheVariants.{Arrive, Root}
-use Rattle.fabric_core.specs.Events.{delivered, effect, end_entry, ended, joined_by, own_change, rooted, world, Ends, Stays}
+use Rattle.fabric_core.specs.declared.event.Event.TheVariants.{Arrive, Root, Submit}
+use Rattle.fabric_core.specs.Events.{begun, delivered, effect, end_entry, ended, joined_by, own_change, rooted, world, Ends, Stays}
 use Rattle.fabric_core.specs.World.{goes_to, take_first, take_head}
+use Rattle.fabric_core.proofs.Steps.{after_is}
 
 -- a packet that is put back where it was taken
 pub insert-remove : {X : Type 0} (xs : List X) (i : ℕ) (x : X) → i < length xs → x ≡ slice_index_or xs i x → insert (remove xs i) i x ≡ xs
@@ -28,6 +30,15 @@ joined_is : (frames : List Descriptor) (d : DomainView) (o : Option Emission) (s
     → joined_by frames d o ≡ frames ++ option_to_list sent
 joined_is frames d None sent e = rw e (sym (append-nil frames))
 joined_is frames d (Some x) sent e = rw e refl
+
+-- ---- a packet that a function submits
+
+pub submit_moves : (d new : DomainView) (ws ws' rs : List Descriptor) (f : ℕ) (b : List ℕ) (frame : Descriptor) → Makes d (entry.Submit f b) new (Some frame) → ws' ≡ ws ++ frame ∷ []
+    → effect (world d ws rs) (Submit f b) ≡ Some (world new ws' rs)
+submit_moves d new ws ws' rs f b frame m grown =
+    ap (begun d ws rs (entry.Submit f b)) m.step
+    ∙ ap (λ (x : DomainView). Some (world x (joined_by ws d m.emission) rs)) (sym (after_is d new (entry.Submit f b) m.emission m.share m.journal))
+    ∙ ap (λ (l : List Descriptor). Some (world new l rs)) (joined_is ws d m.emission (Some frame) m.frame ∙ sym grown)
 
 -- ---- a packet that the host takes
 
@@ -45,7 +56,7 @@ pub root_stays : (d : DomainView) (ws rs : List Descriptor) (class : Class) (fra
     → own_change d frame (end_entry d frame.number) ≡ None → effect (world d ws rs) (Root class) ≡ None
 root_stays d ws rs class frame rest found none = ap (rooted d rs) found ∙ ap (ended d rest rs (end_entry d frame.number)) none
 
-some_ended : (d : DomainView) (ws rs : List Descriptor) (e : Entry) (o : Option Change) → IsSome o → IsSome (ended d ws rs e o)
+pub some_ended : (d : DomainView) (ws rs : List Descriptor) (e : Entry) (o : Option Change) → IsSome o → IsSome (ended d ws rs e o)
 some_ended d ws rs e None h = absurd cc
 some_ended d ws rs e (Some c) h = refl
 

@@ -1,4 +1,5 @@
 pub mod World
 pub mod Events
 pub mod Runs
+pub mod Sent
 pub mod Kept

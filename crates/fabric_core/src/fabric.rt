@@ -128,6 +128,7 @@ impl Model for Fabric {
 
 impl Fabric {
     ghost use Rattle.fabric_core.specs.Runs.{Run, accepted, begins_of};
+    ghost use Rattle.fabric_core.specs.Sent.{Takes};
 
     /// The smallest fabric: domain 1 with function 03:00.0, whose page 1 is mapped to frame 0. It
     /// answers `NoMemory` where memory was refused.
@@ -157,9 +158,11 @@ impl Fabric {
 
     /// Makes one event, and says what came of it. `Moved`: the fabric did what the event does. `Idle`:
     /// there was nothing to take. `Refused`: the domain refused the begin. `NoMemory`: the event would
-    /// move something, but memory was refused. All but `Moved` change nothing.
+    /// move something, but memory was refused. All but `Moved` change nothing. In the smallest fabric no
+    /// packet is ever stray: the host is idle only where no packet of the class may leave.
     pub fn step<R: Wait>(&mut self, rt: &R, event: &Event) -> Outcome
-        ensures { StepsTo self.old event.now result self.new }
+        ensures step { StepsTo self.old event.now result self.new }
+        ensures taken { self.old.domain.share ≡ first_share → Takes self.old event.now result }
     {
         match event {
             Event::Submit(function, bytes) => self.submit(rt, *function, bytes),
@@ -183,7 +186,8 @@ impl Fabric {
     }
 
     fn root<R: Wait>(&mut self, rt: &R, class: Class) -> Outcome
-        ensures { StepsTo self.old (Root class) result self.new }
+        ensures step { StepsTo self.old (Root class) result self.new }
+        ensures taken { self.old.domain.share ≡ first_share → Takes self.old (Root class) result }
     {
         // It tells that the journal's replay is the state, and so how many begins there were.
         let _ = self.domain.journal();

@@ -106,6 +106,18 @@ impl Function {
         }
     }
 
+    /// What answers a request for the page: the completion of a read of at most 64 DW, and nothing
+    /// for a write. The address counts modulo 4,096.
+    pub fn answer(&self, request: &TlpView) -> Option<CplBuf>
+        requires { IsAccess request.now }
+        ensures { result ≡ answer self.now.0 self.now.1 request.now }
+    {
+        match request.kind() {
+            Kind::MWr => None,
+            _ => Some(completion_of(self.id, &self.bytes, request)),
+        }
+    }
+
     /// A memory write to the page, or a read of at most 64 DW of it, which is answered. The address
     /// counts modulo 4,096.
     pub fn access(&mut self, request: &TlpView) -> Option<CplBuf>
@@ -113,13 +125,11 @@ impl Function {
         ensures page { self.new ≡ (self.old.0, accessed self.old.1 request.now) }
         ensures answer { result ≡ answer self.old.0 self.old.1 request.now }
     {
-        match request.kind() {
-            Kind::MWr => {
-                write_page(&mut self.bytes, place_of(request), request);
-                None
-            }
-            _ => Some(completion_of(self.id, &self.bytes, request)),
+        let answer = self.answer(request);
+        if matches!(request.kind(), Kind::MWr) {
+            write_page(&mut self.bytes, place_of(request), request);
         }
+        answer
     }
 
     /// A completion has closed this Tag of the function: the data of a read line go to the buffer,

@@ -9,6 +9,8 @@ mod first;
 mod host;
 mod packet_word;
 mod program;
+#[cfg(test)]
+mod programs;
 mod report;
 #[cfg(test)]
 mod scenes;

@@ -209,15 +209,9 @@ mod tests {
     fn nearly_spent() -> PortQueue<u8, 2>
         ensures { result ≡ record { waiting = []; gap = None } }
     {
-        PortQueue {
-            lanes: Lanes {
-                posted: Ring::new(),
-                non_posted: Ring::new(),
-                completion: Ring::new(),
-            },
-            next: u64::MAX - 2,
-            gap: None,
-        }
+        let mut queue = PortQueue::new();
+        queue.next = u64::MAX - 2;
+        queue
     }
 
     #[test]

@@ -67,7 +67,7 @@ impl<T, const CAP: usize> Ring<T, CAP> {
         ensures len { result ≡ length self.now }
         ensures within { result ≤ CAP }
     {
-        self.len
+        self.len // of CAP places
     }
 
     /// The oldest item.

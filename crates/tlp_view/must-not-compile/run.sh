@@ -19,9 +19,9 @@ for patch in "$here"/*.patch; do
     done
     (cd "$copy/crates/tlp_view" && patch -s -p1 < "$patch")
     if (cd "$copy/crates/tlp_view" && rt check) > "$copy/said" 2>&1 || ! grep -q 'error\[borrow-e0515\]' "$copy/said"; then
-        echo "$(basename "$patch"): NOT refused by the borrow check" >&2
+        echo "tlp_view must-not-compile $(basename "$patch"): NOT refused by the borrow check" >&2
         tail -5 "$copy/said" >&2
         exit 1
     fi
-    echo "$(basename "$patch"): refused: $(grep -m1 'error\[borrow-e0515\]' "$copy/said")"
+    echo "tlp_view must-not-compile $(basename "$patch"): refused: $(grep -m1 'error\[borrow-e0515\]' "$copy/said")"
 done

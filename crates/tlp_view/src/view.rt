@@ -87,7 +87,7 @@ impl<'a> TlpView<'a> {
     pub fn class(&self) -> Class
         ensures { result ≡ class_of_kind self.now.kind }
     {
-        self.kind.class()
+        Kind::class(self.kind)
     }
 
     /// Requester ID: who sent the request, or to whom the completion goes.

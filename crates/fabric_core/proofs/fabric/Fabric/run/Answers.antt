@@ -5,7 +5,7 @@ use Rattle.fabric_core.proofs.fabric.Fabric.run.Goals as goal
 pub loop-event-preserved : goal.loop-event-preserved
 loop-event-preserved g c = record {
   runs = run_next c.args.self.now c.loop-event.self c.step-outcome.new.self c.args.events.now c.loop-event.outcomes.items _ c.loop-event.event-index c.event-item.result c.step-outcome.result
-      c.loop-event-test.true c.event-item.is c.push_reserved.ensures.items c.loop-event.invariant.runs c.step-outcome.ensures;
+      c.loop-event-test.true c.event-item.is c.push_reserved.ensures.items c.loop-event.invariant.runs c.step-outcome.ensures.step;
   made = omega (arith, c.push_reserved.ensures.len, c.loop-event.invariant.made);
   room = omega (arith, c.push_reserved.ensures.capacity, c.loop-event.invariant.room);
 }

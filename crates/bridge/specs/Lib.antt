@@ -1,0 +1,3 @@
+pub mod Routes
+pub mod Groups
+pub mod Bridges

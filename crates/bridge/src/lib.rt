@@ -1,0 +1,14 @@
+//! Where the ports of a switch send a packet.
+#![tactic(auto)]
+
+mod route;
+mod routing;
+mod switch;
+mod target;
+
+pub use route::Route;
+pub use routing::Bridge;
+pub use target::Target;
+
+#[cfg(test)]
+mod tests;

@@ -1,0 +1,125 @@
+//! The switches of a platform, and where their ports send packets.
+
+ghost use Rattle.std.specs.Prelude.{◌≡◌, ◌==◌, ℕ, ◌≤◌, count_by, All, true, Some, IfOk};
+ghost use Rattle.std.specs.Option.{option_copied};
+ghost use Rattle.fab_types.specs.Id.{bus_of};
+ghost use Rattle.layout.specs.declared.lines.PortLine.{PortLine};
+ghost use Rattle.bridge.specs.Groups.{groups_of, group_on, group_at, route_across, route_into, route_among};
+ghost use Rattle.bridge.specs.Routes.{is_holder, route_of, switch_bus, exit_at, target_of, holds};
+
+use crate::route::Route;
+use crate::switch::Switch;
+use crate::target::{Target, holds};
+use fab_types::{Header, NoMemory, PortId};
+use layout::{Layout, PortLine, SwitchLine};
+use std::alloc::Global;
+use std::marker::Model;
+
+/// The switches of a platform and their ports. A contract sees their lines.
+#[derive(Debug, Drop)]
+pub struct Bridge {
+    // the lines, in the order of the layout: what a contract sees
+    lines: Vec<SwitchLine>,
+    ports: Vec<PortLine>,
+    // each switch with its own ports, among which a route is found
+    switches: Vec<Switch>,
+}
+
+impl Model for Bridge {
+    ghost use Rattle.bridge.specs.Bridges.{Tree, tree_of, IsKept};
+
+    ghost Value = { Tree };
+
+    ghost view = { tree_of };
+
+    ghost invariant = { IsKept };
+}
+
+fn switches_of(
+    alloc: Global,
+    lines: &[SwitchLine],
+    ports: &[PortLine],
+) -> Result<Vec<Switch>, NoMemory>
+    ensures { IfOk result (λ switches. switches.items ≡ groups_of lines.now ports.now) }
+{
+    let mut switches = Vec::new(alloc);
+    for line in lines {
+        switches.push(Switch::new(alloc, *line, ports)?)?;
+    }
+    Ok(switches)
+}
+
+fn find_on_bus(switches: &[Switch], bus: u8) -> Option<&Switch>
+    ensures { option_copied result ≡ group_on switches.now bus }
+{
+    switches.iter().find(|switch| switch.has_bus(bus))
+}
+
+fn find_switch(switches: &[Switch], id: PortId) -> Option<&Switch>
+    ensures { option_copied result ≡ group_at switches.now id }
+{
+    switches.iter().find(|switch| switch.has_upstream_port(id))
+}
+
+fn route_across(switch: &Switch, own: &PortLine, target: Option<Target>) -> Route
+    ensures { result ≡ route_across switch.now own.now target }
+{
+    if holds(own, target) {
+        return Route::OwnEgress;
+    }
+    switch.route(Route::Up, target)
+}
+
+fn route_into(switch: Option<&Switch>, target: Option<Target>) -> Route
+    ensures { result ≡ route_into (option_copied switch.entry) target }
+{
+    match switch {
+        Some(switch) => switch.route(Route::Nobody, target),
+        None => Route::Nobody,
+    }
+}
+
+fn route_among(switches: &[Switch], ingress: PortId, target: Option<Target>) -> Route
+    ensures { result ≡ route_among switches.now ingress target }
+{
+    if let Some(switch) = find_on_bus(switches, ingress.id().bus()) {
+        if let Some(own) = switch.port_at(ingress) {
+            return route_across(switch, &own, target);
+        }
+    }
+    route_into(find_switch(switches, ingress), target)
+}
+
+impl Bridge {
+    ghost use Rattle.bridge.specs.Bridges.{of_platform};
+
+    /// The switches of a layout. It answers `NoMemory` where memory was refused. No other call takes
+    /// memory.
+    pub fn new(alloc: Global, layout: &Layout) -> Result<Bridge, NoMemory>
+        ensures { IfOk result (λ bridge. bridge ≡ of_platform layout.now) }
+    {
+        let lines = Vec::from_slice(alloc, layout.switches())?;
+        let ports = Vec::from_slice(alloc, layout.ports())?;
+        let switches = switches_of(alloc, &lines, &ports)?;
+        Ok(Bridge {
+            lines,
+            ports,
+            switches,
+        })
+    }
+
+    /// Where a packet with this header goes that came into a switch at `ingress`, a downstream port or
+    /// the upstream port of the switch. A port that the layout hasn't sends it to nobody.
+    pub fn route(&self, ingress: PortId, header: &Header) -> Route
+        ensures exact { result ≡ route_of self.now.switches self.now.ports ingress header.now }
+
+        // At most one port on a bus has the target below it.
+        ensures once { (bus : ℕ) → count_by (is_holder bus (target_of header.now)) self.now.ports ≤ 1 }
+
+        // If a port of the switch has it below, the answer is that port.
+        ensures held { All (λ port. switch_bus self.now.switches self.now.ports ingress ≡ Some (bus_of port.id)
+            → holds port (target_of header.now) ≡ true → result ≡ exit_at ingress port.id) self.now.ports }
+    {
+        route_among(&self.switches, ingress, Target::of(header))
+    }
+}

@@ -1,0 +1,5 @@
+use Rattle.domain.proofs.WellMadeLemmas.{request_well}
+use Rattle.domain.proofs.state.State.request.Goals as goal
+
+pub emit-requires-clause-well_made : goal.emit-requires-clause-well_made
+emit-requires-clause-well_made g c = request_well c.args.parties c.args.packet.now c.bytes.result.now c.requires.made c.bytes.ensures.spelled c.bytes.ensures.small

@@ -1,0 +1,186 @@
+//! The end of a packet: what it changes in a domain's state.
+
+ghost use Rattle.std.specs.Prelude.{◌≡◌, ◌+◌, ◌<◌, ◌≤◌, ◌^◌, IfOk, IsSome, OnErr, length, option_map, vec_capacity, true, None, Some, ◌++◌, ◌∷◌, []};
+ghost use Rattle.fab_types.specs.declared.head.Parties.TheVariants.{Downward};
+ghost use Rattle.tlp_view.specs.Bytes.{packet_of};
+ghost use Rattle.tlp_view.specs.Malformed.{malformed};
+ghost use Rattle.tlp_view.specs.Runs.{runs};
+ghost use Rattle.domain.specs.Deliveries.{arrived, closed, completed, use_of};
+ghost use Rattle.domain.specs.Ends.{DeedFits, blocked, conclude, done, replied, stored, with_access, with_stored};
+ghost use Rattle.domain.specs.Heads.{descriptor_of};
+ghost use Rattle.domain.specs.State.{Emission, item_at, without};
+ghost use Rattle.domain.specs.Tags.{is_open};
+
+use crate::deliver::{Arrival, Record};
+use crate::ending::{Deed, Ending, Reply};
+use crate::registers::{access, complete};
+use crate::state::State;
+use crate::tags::{close, use_of};
+use fab_types::{Bdf, DomainId, NoMemory, Parties};
+use frame_log::Frame;
+use function::{Function, OpenTag};
+use host_memory::HostMemory;
+use std::sync::Wait;
+use tlp_view::TlpView;
+
+/// Writes the enabled bytes of a packet to a frame, `first` being the byte that its address names.
+fn write_runs(memory: &mut HostMemory, frame: u16, first: usize, view: &TlpView)
+    requires { first + length (view.now).payload ≤ 4096 }
+    ensures { memory.new ≡ stored memory.old frame first (runs view.now) }
+{
+    for (offset, part) in view.runs() {
+        memory.write(frame, first + offset, part);
+    }
+}
+
+/// Closes the Tag that the completion names, and keeps the record of it.
+fn record(tags: &mut Vec<OpenTag>, records: &mut Vec<Record>, delivery: Record)
+    requires is_open { is_open tags.old.items delivery.owner delivery.tag ≡ true }
+    requires room { length tags.old.items + length records.old.items ≤ vec_capacity records.old }
+    ensures tags { tags.new.items ≡ closed tags.old.items delivery.owner delivery.tag }
+    ensures records { records.new.items ≡ records.old.items ++ delivery ∷ [] }
+    ensures room { length tags.new.items + length records.new.items ≤ vec_capacity records.new }
+{
+    close(tags, delivery.owner(), delivery.tag());
+    records.push_reserved(delivery);
+}
+
+/// The data of a read line go to its function's page, where the completion closes that line's Tag.
+fn complete_line(functions: &mut [Function], tags: &[OpenTag], delivery: &Record)
+    ensures { functions.new ≡ completed functions.old (use_of tags.now delivery.now.owner delivery.now.tag) delivery.now.owner delivery.now.status (packet_of delivery.now.bytes).payload }
+{
+    let usage = use_of(tags, delivery.owner(), delivery.tag());
+    let Ok(view) = TlpView::read(delivery.bytes()) else {
+        unreachable!();
+    };
+    complete(
+        functions,
+        delivery.owner(),
+        delivery.tag(),
+        usage,
+        delivery.status(),
+        view.payload(),
+    );
+}
+
+impl State {
+    /// Emits what answers a packet, if anything does. Where memory was refused nothing changes.
+    fn send<R: Wait>(
+        &mut self,
+        rt: &R,
+        domain: DomainId,
+        reply: Option<Reply>,
+    ) -> Result<Option<Frame>, NoMemory>
+        ensures state { IfOk result (λ _. self.new ≡ replied self.old reply) }
+        ensures sent { IfOk result (λ sent. sent ≡ option_map (descriptor_of domain (length self.old.flight)) reply) }
+        ensures err { OnErr result ((self.new ≡ self.old) × IsSome reply) }
+    {
+        match reply {
+            None => Ok(None),
+            Some(reply) => {
+                let frame = self
+                    .flight
+                    .emit(rt, domain, reply.parties(), reply.bytes())?;
+                Ok(Some(frame))
+            }
+        }
+    }
+
+    /// Counts a request without a mapping.
+    fn block(&mut self)
+        requires { self.old.counts.blocked + 1 < 2 ^ 32 }
+        ensures { self.new ≡ blocked self.old }
+    {
+        self.counts.blocked += 1;
+    }
+
+    /// Writes the enabled bytes of the packet of this number, a well-formed one, to a frame from byte
+    /// `first` on.
+    fn store(&mut self, number: u64, frame: u16, first: usize)
+        requires { (e : Emission) → item_at self.old.flight number ≡ Some e → first + length (packet_of e.bytes).payload ≤ 4096 }
+        ensures { (e : Emission) → item_at self.old.flight number ≡ Some e → malformed e.bytes ≡ None →
+            self.new ≡ with_stored self.old frame first (runs (packet_of e.bytes)) }
+    {
+        let Some((_, bytes)) = self.flight.item(number) else {
+            return;
+        };
+        if let Ok(view) = TlpView::read(bytes) {
+            write_runs(&mut self.memory, frame, first, &view);
+        }
+    }
+
+    /// Does what the packet of this number, a request to this function, asks of its register page.
+    fn access(&mut self, number: u64, function: Bdf)
+        ensures { (e : Emission) → item_at self.old.flight number ≡ Some e → e.parties ≡ Downward function →
+            self.new ≡ with_access self.old function (packet_of e.bytes) }
+    {
+        let Some((parties, bytes)) = self.flight.item(number) else {
+            return;
+        };
+        match parties {
+            Parties::Downward(_) => {
+                if let Ok(view) = TlpView::read(bytes) {
+                    access(&mut self.registers, function, &view);
+                }
+            }
+            Parties::Upward(_) => {}
+            Parties::Answer(..) => {}
+        }
+    }
+
+    /// Does what the end of the packet of this number does.
+    fn perform(&mut self, number: u64, deed: Deed)
+        requires blocks { self.old.counts.blocked + 1 < 2 ^ 32 }
+        requires fits { (e : Emission) → item_at self.old.flight number ≡ Some e → DeedFits e deed }
+        ensures { (e : Emission) → item_at self.old.flight number ≡ Some e → self.new ≡ done self.old e.bytes deed }
+    {
+        match deed {
+            Deed::Leave => {}
+            Deed::Block => self.block(),
+            Deed::Store(frame, first) => self.store(number, frame, first),
+            Deed::Access(function) => self.access(number, function),
+        }
+    }
+
+    /// Ends the packet of this number: emits what answers it, and does what its end does. Where memory
+    /// was refused, which comes only where something answers it, nothing changes.
+    pub(crate) fn conclude<R: Wait>(
+        &mut self,
+        rt: &R,
+        domain: DomainId,
+        number: u64,
+        ending: Ending,
+    ) -> Result<Option<Frame>, NoMemory>
+        requires waits { IsSome (item_at self.old.flight number) }
+        requires blocks { self.old.counts.blocked + 1 < 2 ^ 32 }
+        requires fits { (e : Emission) → item_at self.old.flight number ≡ Some e → DeedFits e ending.deed }
+        ensures state { IfOk result (λ _. (e : Emission) → item_at self.old.flight number ≡ Some e → self.new ≡ (conclude self.old number e.bytes ending).state) }
+        ensures sent { IfOk result (λ sent. sent ≡ option_map (descriptor_of domain (length self.old.flight)) ending.reply) }
+        ensures err { OnErr result ((self.new ≡ self.old) × IsSome ending.reply) }
+    {
+        let Ending { deed, reply } = ending;
+        let sent = self.send(rt, domain, reply)?;
+        self.perform(number, deed);
+        self.flight.end(number);
+        Ok(sent)
+    }
+
+    /// Ends the packet of this number, a completion that is delivered so.
+    pub(crate) fn deliver(&mut self, number: u64, arrival: Arrival)
+        requires counts { self.old.counts.unexpected + 1 < 2 ^ 32 }
+        requires is_open { arrival.is_awaited ≡ true → is_open self.old.open_tags (arrival.delivery).owner (arrival.delivery).tag ≡ true }
+        ensures { self.new ≡ arrived (without self.old number) arrival }
+    {
+        let Arrival {
+            delivery,
+            is_awaited,
+        } = arrival;
+        if is_awaited {
+            complete_line(&mut self.registers, &self.open_tags, &delivery);
+            record(&mut self.open_tags, &mut self.records, delivery);
+        } else {
+            self.counts.unexpected += 1;
+        }
+        self.flight.end(number);
+    }
+}

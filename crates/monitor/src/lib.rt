@@ -1,0 +1,9 @@
+//! Reports of ACS violations.
+#![tactic(auto)]
+
+mod report;
+
+pub use report::line;
+
+#[cfg(test)]
+mod tests;
