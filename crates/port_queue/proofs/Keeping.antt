@@ -96,14 +96,14 @@ module _ {T : Type 0} where
       ∙ map-append (λ y. y.1) (arrivals f) (tagged c e ∷ [])
 
   -- nothing waits yet
-  pub kept_empty : (cap : ℕ) (f : Class → List (Entry T)) → cap < 2 ^ 62 → ((d : Class) → f d ≡ []) → IsKept cap f 0 None
-  kept_empty cap f small empty =
+  pub kept_empty : (cap : ℕ) (f : Class → List (Entry T)) (next : ℕ) → cap < 2 ^ 62 → ((d : Class) → f d ≡ []) → IsKept cap f next None
+  kept_empty cap f next small empty =
       let is : (d : Class) → numbers_of f d ≡ [] = λ d. ap (map (λ x. x.number)) (empty d) in
       record {
         sound = record {
           rising = λ d. subst Rising (sym (is d)) tt;
           apart = λ d e other. subst (Each (λ x. Each (λ y. y ≢ x) (numbers_of f e))) (sym (is d)) tt;
-          below = λ d. subst (Each (λ x. x < 0)) (sym (is d)) tt;
+          below = λ d. subst (Each (λ x. x < next)) (sym (is d)) tt;
         };
         fits = λ d. (let none = ap length (is d) in omega arith);
         small = small;

@@ -97,7 +97,7 @@ module _ {T : Type 0} where
   moves_start cap next fresh left k empty =
       let none = waiting-none fresh empty in
       record {
-        fresh_kept = kept_empty cap fresh k.small empty;
+        fresh_kept = kept_empty cap fresh 0 k.small empty;
         left_kept = k;
         together = ap (λ ws. ws ++ waiting_of left) none;
         counted = sym (ap length none);

@@ -46,13 +46,21 @@ impl<T, const CAP: usize> PortQueue<T, CAP> {
         requires { CAP < 2 ^ 62 }
         ensures { result ≡ record { waiting = []; gap = None } }
     {
+        PortQueue::numbered_from(0)
+    }
+
+    /// An empty queue whose first item gets this arrival number.
+    fn numbered_from(next: u64) -> Self
+        requires { CAP < 2 ^ 62 }
+        ensures { result ≡ record { waiting = []; gap = None } }
+    {
         PortQueue {
             lanes: Lanes {
                 posted: Ring::new(),
                 non_posted: Ring::new(),
                 completion: Ring::new(),
             },
-            next: 0,
+            next,
             gap: None,
         }
     }
@@ -205,18 +213,9 @@ mod tests {
     use super::*;
     use fab_types::Class::{Completion, NonPosted, Posted};
 
-    /// An empty queue that has two numbers left.
-    fn nearly_spent() -> PortQueue<u8, 2>
-        ensures { result ≡ record { waiting = []; gap = None } }
-    {
-        let mut queue = PortQueue::new();
-        queue.next = u64::MAX - 2;
-        queue
-    }
-
     #[test]
     fn items_that_are_numbered_anew_keep_their_order(rt: HostRuntime) {
-        let mut queue = nearly_spent();
+        let mut queue = PortQueue::<u8, 2>::numbered_from(u64::MAX - 2);
         queue.put(NonPosted, 1);
         queue.put(Posted, 2);
         queue.put(Completion, 3);
