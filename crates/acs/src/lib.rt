@@ -10,7 +10,7 @@ mod vetting;
 pub use block::AcsBlock;
 pub use laws::{guarded_completions_go_up, guarded_requests_go_up};
 pub use redirection::redirect;
-pub use vetting::{Verdict, vet};
+pub use vetting::{Verdict, requester_of, vet};
 
 #[cfg(test)]
 mod tests;

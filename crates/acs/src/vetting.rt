@@ -16,7 +16,7 @@ pub enum Verdict {
 }
 
 /// The Requester ID of a request. What carries no request has none.
-pub(crate) fn requester_of(header: &Header) -> Option<Bdf>
+pub fn requester_of(header: &Header) -> Option<Bdf>
     ensures { result ≡ requester_of header.now }
 {
     match header {

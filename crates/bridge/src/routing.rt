@@ -4,14 +4,15 @@ ghost use Rattle.std.specs.Prelude.{◌≡◌, ◌==◌, ℕ, ◌≤◌, count_b
 ghost use Rattle.std.specs.Option.{option_copied};
 ghost use Rattle.fab_types.specs.Id.{bus_of};
 ghost use Rattle.layout.specs.declared.lines.PortLine.{PortLine};
+ghost use Rattle.layout.specs.Owners.{owner_of};
 ghost use Rattle.bridge.specs.Groups.{groups_of, group_on, group_at, route_across, route_into, route_among};
 ghost use Rattle.bridge.specs.Routes.{is_holder, route_of, switch_bus, exit_at, target_of, holds};
 
 use crate::route::Route;
 use crate::switch::Switch;
 use crate::target::{Target, holds};
-use fab_types::{Header, NoMemory, PortId};
-use layout::{Layout, PortLine, SwitchLine};
+use fab_types::{Bdf, DomainId, Header, NoMemory, PortId};
+use layout::{Layout, PortLine, SwitchLine, owner_of};
 use std::alloc::Global;
 use std::marker::Model;
 
@@ -121,5 +122,13 @@ impl Bridge {
             → holds port (target_of header.now) ≡ true → result ≡ exit_at ingress port.id) self.now.ports }
     {
         route_among(&self.switches, ingress, Target::of(header))
+    }
+
+    /// The domain that owns an ID: the domain whose host has it, if that owns a port, or the one that
+    /// owns the ports above its bus.
+    pub fn owner(&self, id: Bdf) -> Option<DomainId>
+        ensures { result ≡ owner_of self.now.ports id }
+    {
+        owner_of(&self.ports, id)
     }
 }

@@ -16,7 +16,9 @@ pub use lines::{
     Access, BudgetLine, CreditLimits, CreditLine, FunctionLine, MapLine, MapTarget, PortLine,
     Rights, SwitchLine,
 };
+pub use owners::owner_of;
 pub use platform::Layout;
+pub use rules::tree::{id_below, internal_bus, is_taken, port_at};
 pub use start::Start;
 
 #[cfg(test)]

@@ -64,7 +64,7 @@ fn owner_of_number(ports: &[PortLine], domain: u8) -> Option<DomainId>
         .map(|port| port.owner)
 }
 
-pub(crate) fn owner_of_parts(
+fn owner_of_parts(
     ports: &[PortLine],
     bus: u8,
     device: u8,
@@ -82,6 +82,14 @@ pub(crate) fn owner_of_parts(
         Some(owner) => Some(owner),
         None => owner_of_bus(ports, bus),
     }
+}
+
+/// The domain that owns an ID, by the ports of a platform: the domain whose host has it, if that owns a
+/// port, or the one that owns the ports above its bus.
+pub fn owner_of(ports: &[PortLine], id: Bdf) -> Option<DomainId>
+    ensures { result ≡ owner_of ports.now id }
+{
+    owner_of_parts(ports, id.bus(), id.device(), id.function())
 }
 
 impl Start {
@@ -104,6 +112,6 @@ impl Start {
     pub fn owner(&self, id: Bdf) -> Option<DomainId>
         ensures { result ≡ owner_of self.now.ports id }
     {
-        owner_of_parts(self.ports(), id.bus(), id.device(), id.function())
+        owner_of(self.ports(), id)
     }
 }

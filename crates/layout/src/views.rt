@@ -10,7 +10,7 @@ ghost use Rattle.layout.specs.Laws.{is_good_budget};
 ghost use Rattle.layout.specs.Views.{usual_limits, limits_or_usual, credits_of, begins_or_usual, budget_of, is_map_of, maps_of, is_frame_of, frames_of, share_of_owner};
 
 use crate::lines::{BudgetLine, CreditLimits, CreditLine, MapLine, PortLine};
-use crate::owners::owner_of_parts;
+use crate::owners::owner_of;
 use crate::platform::Layout;
 use crate::rules::links::owns_port;
 use crate::rules::mappings::is_mapping_of;
@@ -124,7 +124,7 @@ impl Layout {
     pub fn owner(&self, id: Bdf) -> Option<DomainId>
         ensures { result ≡ owner_of self.now.ports id }
     {
-        owner_of_parts(self.ports(), id.bus(), id.device(), id.function())
+        owner_of(self.ports(), id)
     }
 
     /// What each receiver of a link advertises at the start, by the link's lower end: a function or

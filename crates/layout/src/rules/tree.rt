@@ -15,14 +15,15 @@ fn find_port(ports: &[PortLine], id: PortId) -> Option<&PortLine>
     ports.iter().find(|port| port.id == id)
 }
 
-pub(crate) fn port_at(ports: &[PortLine], id: Bdf) -> Option<PortLine>
+/// The downstream port of this ID.
+pub fn port_at(ports: &[PortLine], id: Bdf) -> Option<PortLine>
     ensures { result ≡ port_at ports.now id }
 {
     find_port(ports, PortId::new(id)).copied()
 }
 
 /// The ID of whatever stands directly below a port.
-pub(crate) fn id_below(port: &PortLine) -> Bdf
+pub fn id_below(port: &PortLine) -> Bdf
     ensures { result ≡ id_below port.now }
 {
     Bdf::from_bits(u16::from(port.secondary) * 256)
@@ -54,7 +55,8 @@ pub(crate) fn has_root(switches: &[SwitchLine]) -> bool
     switches.iter().any(|switch| switch.above.is_none())
 }
 
-fn internal_bus(switch: &SwitchLine) -> u16
+/// The bus of a switch's downstream ports.
+pub fn internal_bus(switch: &SwitchLine) -> u16
     ensures { result ≡ internal_bus switch.now }
 {
     u16::from(switch.id.bus()) + 1
@@ -103,7 +105,7 @@ pub(crate) fn is_third_level(switches: &[SwitchLine], ports: &[PortLine], bus: u
 }
 
 /// Does something stand there already?
-pub(crate) fn is_taken(switches: &[SwitchLine], functions: &[FunctionLine], id: Bdf) -> bool
+pub fn is_taken(switches: &[SwitchLine], functions: &[FunctionLine], id: Bdf) -> bool
     ensures { result ≡ is_taken switches.now functions.now id }
 {
     is_switch(switches, id) || is_function(functions, id)

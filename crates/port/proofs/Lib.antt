@@ -1,0 +1,3 @@
+pub mod OneLane
+pub mod Stopping
+pub mod Sorting

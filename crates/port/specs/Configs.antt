@@ -1,0 +1,68 @@
+-- A port of a switch, as a layout has it (PCIe 4.0, 7.5.1.3), and the lanes of its switch.
+use Rattle.std.specs.Prelude.{ℕ, suc, ◌==◌, Bool, ◌&&◌, List, map, Option, Some, None, option_map}
+use Rattle.std.specs.Option.{option_map_or}
+use Rattle.std.specs.List.{find, filter, position, list_all}
+use Rattle.fab_types.specs.Id.{bus_of}
+use Rattle.layout.specs.declared.lines.PortLine.{PortLine}
+use Rattle.layout.specs.declared.lines.SwitchLine.{SwitchLine}
+use Rattle.layout.specs.Rules.{is_on_bus}
+use Rattle.layout.specs.Tree.{port_at, id_below, internal_bus, is_taken}
+use Rattle.layout.specs.Share.{is_guarded_port}
+use Rattle.layout.specs.Platform.{Platform}
+use Rattle.bridge.specs.Routes.{switch_at}
+use Rattle.port.specs.declared.config.Exit.{Exit}
+
+-- A switch has a lane out of its upstream port, numbered 0, and one out of each downstream port, numbered from 1.
+pub record Config : Type 0 where
+  pub id : ℕ
+  pub line : Option PortLine  -- of a downstream port
+  pub exits : List Exit  -- the downstream ports of its switch
+  pub own : ℕ  -- the lane out of this port
+  pub is_guarded : Bool  -- are all five controls set on each port of the layout?
+
+-- does anything stand below the port?
+abbrev pub exit_of : Platform → PortLine → Exit
+exit_of platform line = record { port = line.id; leads_on = is_taken platform.switches platform.functions (id_below line) }
+
+-- the downstream ports of the switch whose ports are on this bus
+abbrev pub exits_of : Platform → ℕ → List Exit
+exits_of platform bus = map (exit_of platform) (filter (is_on_bus bus) platform.ports)
+
+abbrev pub is_of_port : ℕ → Exit → Bool
+is_of_port port exit = exit.port == port
+
+abbrev pub own_lane : List Exit → ℕ → ℕ
+own_lane exits id = option_map_or suc (position (is_of_port id) exits) 0
+
+abbrev pub leads_to : ℕ → Exit → Bool
+leads_to port exit = is_of_port port exit && exit.leads_on
+
+-- the lane out of a downstream port, if anything stands below it
+abbrev pub lane_to : List Exit → ℕ → Option ℕ
+lane_to exits port = option_map suc (position (leads_to port) exits)
+
+abbrev pub downstream_config : Platform → PortLine → Config
+downstream_config platform line = let exits = exits_of platform (bus_of line.id) in record {
+  id = line.id;
+  line = Some line;
+  exits = exits;
+  own = own_lane exits line.id;
+  is_guarded = list_all is_guarded_port platform.ports;
+}
+
+abbrev pub upstream_config : Platform → SwitchLine → Config
+upstream_config platform switch = record {
+  id = switch.id;
+  line = None;
+  exits = exits_of platform (internal_bus switch);
+  own = 0;
+  is_guarded = list_all is_guarded_port platform.ports;
+}
+
+abbrev pub config_unless_below : Platform → ℕ → Option PortLine → Option Config
+config_unless_below platform id (Some line) = Some (downstream_config platform line)
+config_unless_below platform id None = option_map (upstream_config platform) (switch_at platform.switches id)
+
+-- the port of this ID: a downstream port, or the upstream port of a switch
+abbrev pub config_of : Platform → ℕ → Option Config
+config_of platform id = config_unless_below platform id (port_at platform.ports id)

@@ -1,0 +1,7 @@
+pub mod Lanes
+pub mod Vetted
+pub mod Configs
+pub mod Courses
+pub mod Steps
+pub mod Queues
+pub mod Turns

@@ -1,0 +1,137 @@
+//! What becomes of a packet at a port.
+
+ghost use Rattle.std.specs.Prelude.{◌≡◌, ◌≤◌, ℕ, None, IfSome, length};
+ghost use Rattle.bridge.specs.Routes.{target_of, route_of};
+ghost use Rattle.acs.specs.Vetting.{verdict_of};
+ghost use Rattle.port.specs.Courses.{is_posted, report_of, reported_by, stopped, up_by, down_by, down_lane, routed, tested, course_of, IsWithin};
+
+use crate::config::lane_to;
+use crate::port::Port;
+use acs::{Verdict, redirect, requester_of, vet};
+use bridge::{Bridge, Route, Target};
+use fab_types::{Bdf, Check, Class, Head, Parties, Violation};
+use layout::{PortLine, id_below};
+
+/// What becomes of a packet that came into a port.
+#[derive(Clone, Copy, Debug, PartialEq, Eq)]
+pub enum Course {
+    /// It goes down this lane of the switch: 0 out of the upstream port, then the downstream ports.
+    Forward(usize),
+    /// The domain that made it refuses it at this port; a violation of ACS is reported.
+    Stop(Option<Violation>),
+    /// The port has no case for it.
+    Stray,
+}
+
+fn is_posted(class: Class) -> bool
+    ensures { result ≡ is_posted class }
+{
+    match class {
+        Class::Posted => true,
+        Class::NonPosted => false,
+        Class::Completion => false,
+    }
+}
+
+fn reported_by(line: &PortLine, head: &Head, sender: Bdf, check: Option<Check>) -> Option<Violation>
+    ensures { result ≡ reported_by line.now head.now sender check }
+{
+    let check = check?;
+    let requester = requester_of(&head.header)?;
+    Some(Violation {
+        port: line.id,
+        check,
+        sender,
+        requester,
+        posted: is_posted(head.cost.class),
+    })
+}
+
+/// The packet is stopped, if this is the first port above its sender.
+fn stopped(line: &PortLine, head: &Head, check: Option<Check>) -> Course
+    ensures value { result ≡ stopped line.now head.now check }
+    ensures lane { (most : ℕ) → IsWithin most result }
+{
+    match head.parties {
+        Parties::Upward(function) => {
+            if function == id_below(line) {
+                Course::Stop(reported_by(line, head, function, check))
+            } else {
+                Course::Stray
+            }
+        }
+        Parties::Downward(_) => Course::Stray,
+        Parties::Answer(..) => Course::Stray,
+    }
+}
+
+fn down_lane(lane: Option<usize>) -> Course
+    ensures value { result ≡ down_lane lane }
+    ensures lane { (most : ℕ) → IfSome lane (λ l. l ≤ most) → IsWithin most result }
+{
+    match lane {
+        Some(lane) => Course::Forward(lane),
+        None => Course::Stray,
+    }
+}
+
+impl Port {
+    fn up_by(&self, line: &PortLine, head: &Head, route: Route) -> Course
+        ensures value { result ≡ up_by self.now.config line.now head.now route }
+        ensures lane { IsWithin (length self.now.config.exits) result }
+    {
+        match route {
+            Route::Up => Course::Forward(0),
+            Route::Port(other) => down_lane(lane_to(&self.exits, other)),
+            Route::OwnEgress => stopped(line, head, None),
+            Route::Nobody => Course::Stray,
+        }
+    }
+
+    fn down_by(&self, route: Route) -> Course
+        ensures value { result ≡ down_by self.now.config.exits route }
+        ensures lane { IsWithin (length self.now.config.exits) result }
+    {
+        match route {
+            Route::Port(other) => down_lane(lane_to(&self.exits, other)),
+            Route::Up | Route::OwnEgress | Route::Nobody => Course::Stray,
+        }
+    }
+
+    fn routed(&self, bridge: &Bridge, line: &PortLine, head: &Head) -> Course
+        ensures value { result ≡ routed bridge.now self.now.config line.now head.now (target_of head.now.header) }
+        ensures lane { IsWithin (length self.now.config.exits) result }
+    {
+        match Target::of(&head.header) {
+            None => stopped(line, head, None),
+            Some(_) => {
+                let route = bridge.route(self.id, &head.header);
+                self.up_by(line, head, redirect(line, route, &head.header))
+            }
+        }
+    }
+
+    fn tested(&self, bridge: &Bridge, line: &PortLine, head: &Head) -> Course
+        ensures value { result ≡ tested bridge.now self.now.config line.now head.now (verdict_of line.now head.now.header) }
+        ensures lane { IsWithin (length self.now.config.exits) result }
+    {
+        match vet(line, &head.header) {
+            Verdict::Violation(check) => stopped(line, head, Some(check)),
+            Verdict::Pass => self.routed(bridge, line, head),
+        }
+    }
+
+    /// What becomes of a packet with this head that came into the port. Up through a downstream port:
+    /// what fails an ACS test, is malformed, or is a request of a kind that no port takes is stopped, if
+    /// its sender is the function below; the rest goes by its route and the port's redirections. Down
+    /// through the upstream port: by its route alone (PCIe 4.0, 6.12.1.1).
+    pub fn course(&self, bridge: &Bridge, head: &Head) -> Course
+        ensures value { result ≡ course_of bridge.now self.now.config head.now }
+        ensures lane { IsWithin (length self.now.config.exits) result }
+    {
+        match &self.line {
+            Some(line) => self.tested(bridge, line, head),
+            None => self.down_by(bridge.route(self.id, &head.header)),
+        }
+    }
+}

@@ -1,0 +1,98 @@
+//! A port of a switch.
+
+ghost use Rattle.std.specs.Prelude.{◌≡◌, ◌≤◌, IfOk, option_map, None, [], length};
+ghost use Rattle.std.specs.List.{list_all};
+ghost use Rattle.layout.specs.Share.{is_guarded_port};
+ghost use Rattle.port.specs.Configs.{config_of};
+
+use crate::config::{Exit, exits_of, own_lane, switch_at};
+use fab_types::{NoMemory, PortId, Violation};
+use frame_log::Frame;
+use layout::{Layout, PortLine, internal_bus, port_at};
+use std::alloc::Global;
+use std::marker::Model;
+
+/// A port of a switch: a downstream port, or the upstream port. A contract sees a `PortView`.
+#[derive(Drop)]
+pub struct Port {
+    pub(crate) id: PortId,
+    pub(crate) line: Option<PortLine>,
+    pub(crate) exits: Vec<Exit>,
+    pub(crate) own: usize,
+    pub(crate) is_guarded: bool,
+    pub(crate) held: Option<Violation>,
+    pub(crate) kept: Option<Frame>,
+    pub(crate) strays: Vec<Frame>,
+}
+
+impl Model for Port {
+    ghost use Rattle.std.specs.Prelude.{◌≤◌, length};
+    ghost use Rattle.port.specs.Turns.{PortView};
+
+    ghost Value = { PortView };
+
+    ghost view = { λ p. record {
+      config = record { id = p.id; line = p.line; exits = p.exits.items; own = p.own; is_guarded = p.is_guarded };
+      held = p.held;
+      kept = p.kept;
+      strays = p.strays.items;
+    } };
+
+    ghost invariant = { λ p. p.own ≤ length p.exits.items };
+}
+
+impl Port {
+    /// The port of this ID: a downstream port of the layout, or the upstream port of a switch. None
+    /// where the layout has no such port. It answers `NoMemory` where memory was refused.
+    pub fn new(alloc: Global, layout: &Layout, id: PortId) -> Result<Option<Port>, NoMemory>
+        ensures { IfOk result (λ port. port ≡ option_map (λ config. record { config = config; held = None; kept = None; strays = [] }) (config_of layout.now id)) }
+    {
+        if let Some(line) = port_at(layout.ports(), id.id()) {
+            let exits = exits_of(alloc, layout, u16::from(line.id.id().bus()))?;
+            let own = own_lane(&exits, line.id);
+            return Ok(Some(Port::of(alloc, layout, line.id, Some(line), exits, own)));
+        }
+        let Some(switch) = switch_at(layout.switches(), id) else {
+            return Ok(None);
+        };
+        let exits = exits_of(alloc, layout, internal_bus(switch))?;
+        Ok(Some(Port::of(alloc, layout, PortId::new(switch.id), None, exits, 0)))
+    }
+
+    fn of(
+        alloc: Global,
+        layout: &Layout,
+        id: PortId,
+        line: Option<PortLine>,
+        exits: Vec<Exit>,
+        own: usize,
+    ) -> Port
+        requires { own ≤ length exits.items }
+        ensures { result ≡ record { config = record { id = id; line = line; exits = exits.items; own = own; is_guarded = list_all is_guarded_port layout.now.ports }; held = None; kept = None; strays = [] } }
+    {
+        Port {
+            id,
+            line,
+            exits,
+            own,
+            is_guarded: layout.is_guarded(),
+            held: None,
+            kept: None,
+            strays: Vec::new(alloc),
+        }
+    }
+
+    /// The packets that came and that the port had no case for, in the order in which they came.
+    pub fn strays(&self) -> &[Frame]
+        ensures { result.now ≡ self.now.strays }
+    {
+        &self.strays
+    }
+
+    /// The report that there was no place for yet.
+    pub fn held_report(&self) -> Option<Violation>
+        ensures { result ≡ self.now.held }
+    {
+        self.held
+    }
+}

@@ -1,0 +1,70 @@
+//! The steps of a turn, where a lane out is one of several.
+
+ghost use Rattle.std.specs.Prelude.{◌≡◌, ◌≢◌, ◌⊎◌, ◌<◌, None, true, false, length, map, option_to_list};
+ghost use Rattle.port.specs.Steps.{ForwardsAt, RefusesAt, Strays, with_put};
+ghost use Rattle.port.specs.Vetted.{may_go_on};
+
+use crate::desk::Desk;
+use crate::lanes::{LaneIn, LaneOut};
+use crate::steps::{Refusal, forward, refuse, settle};
+use fab_types::{Class, DomainId, Outcome, PortId};
+use frame_log::Frame;
+use std::sync::Wait;
+
+/// Puts the answer that was kept, if there is one, into this lane.
+pub(crate) fn settle_at<O: LaneOut>(outs: &mut [O], own: usize, kept: &mut Option<Frame>) -> bool
+    requires { own < length outs.old }
+    ensures put { result ≡ true → (kept.new ≡ None) × (map O.sent outs.new ≡ with_put (map O.sent outs.old) own (option_to_list kept.old)) }
+    ensures counted { result ≡ true → map O.refusals outs.new ≡ map O.refusals outs.old }
+    ensures rests { result ≡ false → (kept.new ≡ kept.old) × (map O.sent outs.new ≡ map O.sent outs.old) }
+    ensures cause { result ≡ false → map O.refusals outs.new ≢ map O.refusals outs.old }
+    ensures lanes { map O.lane outs.new ≡ map O.lane outs.old }
+    ensures long { length outs.new ≡ length outs.old }
+{
+    settle(&mut outs[own], kept)
+}
+
+/// Moves the eligible packet of a class into this lane.
+pub(crate) fn forward_at<I: LaneIn, O: LaneOut>(
+    input: &mut I,
+    outs: &mut [O],
+    lane: usize,
+    strays: &mut Vec<Frame>,
+    owner: Option<DomainId>,
+    is_guarded: bool,
+    class: Class,
+) -> Outcome
+    requires { lane < length outs.old }
+    ensures moved { result ≡ Outcome.Moved → ForwardsAt class (may_go_on is_guarded owner) lane (I.waiting input.old) (map O.sent outs.old) strays.old.items (I.waiting input.new) (map O.sent outs.new) strays.new.items }
+    ensures rests { result ≢ Outcome.Moved → (I.waiting input.new ≡ I.waiting input.old) × (map O.sent outs.new ≡ map O.sent outs.old) × (strays.new.items ≡ strays.old.items) }
+    ensures cause { result ≡ Outcome.Idle → (I.misses input.new ≢ I.misses input.old) ⊎ (map O.refusals outs.new ≢ map O.refusals outs.old) }
+    ensures input_lane { I.lane input.new ≡ I.lane input.old }
+    ensures lanes { map O.lane outs.new ≡ map O.lane outs.old }
+{
+    forward(input, &mut outs[lane], strays, owner, is_guarded, class)
+}
+
+/// Has the eligible packet of a class refused, with its answer into this lane.
+pub(crate) fn refuse_at<W: Wait, I: LaneIn, O: LaneOut, D: Desk>(
+    rt: &W,
+    input: &mut I,
+    outs: &mut [O],
+    own: usize,
+    desk: &mut D,
+    kept: &mut Option<Frame>,
+    strays: &mut Vec<Frame>,
+    port: PortId,
+    class: Class,
+) -> Refusal
+    requires lane { own < length outs.old }
+    requires kept { kept.old ≡ None }
+    ensures refused { result ≡ Refusal.Refused → (RefusesAt class (λ f a. D.refuses (D.known desk.old) f port a (D.known desk.new)) own (I.waiting input.old) (map O.sent outs.old) (I.waiting input.new) (map O.sent outs.new) kept.new) × (strays.new.items ≡ strays.old.items) }
+    ensures strayed { result ≡ Refusal.Strayed → (Strays class (λ f. D.unknown (D.known desk.old) f port) (I.waiting input.old) strays.old.items (I.waiting input.new) strays.new.items) × (map O.sent outs.new ≡ map O.sent outs.old) × (D.known desk.new ≡ D.known desk.old) × (kept.new ≡ None) }
+    ensures idle { result ≡ Refusal.Idle → (I.waiting input.new ≡ I.waiting input.old) × (map O.sent outs.new ≡ map O.sent outs.old) × (D.known desk.new ≡ D.known desk.old) × (kept.new ≡ None) × (strays.new.items ≡ strays.old.items) }
+    ensures memory { result ≡ Refusal.NoMemory → (I.waiting input.new ≡ I.waiting input.old) × (map O.sent outs.new ≡ map O.sent outs.old) × (D.known desk.new ≡ D.known desk.old) × (kept.new ≡ None) × (strays.new.items ≡ strays.old.items) }
+    ensures cause { result ≡ Refusal.Idle → (I.misses input.new ≢ I.misses input.old) ⊎ (map O.refusals outs.new ≢ map O.refusals outs.old) }
+    ensures input_lane { I.lane input.new ≡ I.lane input.old }
+    ensures lanes { map O.lane outs.new ≡ map O.lane outs.old }
+{
+    refuse(rt, input, &mut outs[own], desk, kept, strays, port, class)
+}

@@ -1,0 +1,205 @@
+//! The steps of a turn, each over the parts that it changes.
+
+ghost use Rattle.std.specs.Prelude.{◌≡◌, ◌≢◌, ◌⊎◌, ◌++◌, ◌∷◌, [], Some, None, IsSome, true, false, ⊤, option_to_list};
+ghost use Rattle.port.specs.Steps.{Forwards, Refuses, Strays};
+ghost use Rattle.port.specs.Vetted.{may_go_on};
+
+use crate::desk::Desk;
+use crate::lanes::{LaneIn, LaneOut};
+use crate::reporter::Reporter;
+use crate::vetted::VettedFrame;
+use fab_types::{Class, DomainId, NoMemory, Outcome, PortId, Violation};
+use frame_log::{Frame, FrameFault};
+use std::sync::Wait;
+
+/// Reports what there was no place for before.
+pub(crate) fn tell<R: Reporter>(reporter: &mut R, held: &mut Option<Violation>) -> Outcome
+    ensures moved { result ≡ Outcome.Moved → (v : Violation) × (held.old ≡ Some v) × (held.new ≡ None) × (R.reported reporter.new ≡ R.reported reporter.old ++ v ∷ []) }
+    ensures rests { result ≢ Outcome.Moved → (held.new ≡ held.old) × (R.reported reporter.new ≡ R.reported reporter.old) }
+    ensures cause { result ≡ Outcome.Idle → (held.old ≡ None) ⊎ (R.refusals reporter.new ≢ R.refusals reporter.old) }
+    ensures memory { result ≢ Outcome.NoMemory }
+{
+    let Some(violation) = held.take() else {
+        return Outcome::Idle;
+    };
+    match reporter.report(violation) {
+        Ok(()) => Outcome::Moved,
+        Err(violation) => {
+            *held = Some(violation);
+            Outcome::Idle
+        }
+    }
+}
+
+/// Makes room for a report, if there is one.
+pub(crate) fn prepare<R: Reporter>(
+    reporter: &mut R,
+    report: &Option<Violation>,
+) -> Result<(), NoMemory>
+    ensures reported { R.reported reporter.new ≡ R.reported reporter.old }
+    ensures counted { R.refusals reporter.new ≡ R.refusals reporter.old }
+{
+    match report {
+        Some(_) => reporter.prepare_report(),
+        None => Ok(()),
+    }
+}
+
+/// Reports a violation, if there is one. A report that comes back is held.
+pub(crate) fn report_or_hold<R: Reporter>(
+    reporter: &mut R,
+    held: &mut Option<Violation>,
+    report: Option<Violation>,
+)
+    requires { held.old ≡ None }
+    ensures { R.reported reporter.old ++ option_to_list report ≡ R.reported reporter.new ++ option_to_list held.new }
+{
+    let Some(violation) = report else {
+        return;
+    };
+    if let Err(violation) = reporter.report(violation) {
+        *held = Some(violation);
+    }
+}
+
+/// Puts the answer that was kept, if there is one. It answers false where the lane gave it back.
+pub(crate) fn settle<O: LaneOut>(back: &mut O, kept: &mut Option<Frame>) -> bool
+    ensures put { result ≡ true → (kept.new ≡ None) × (O.sent back.new ≡ O.sent back.old ++ option_to_list kept.old) }
+    ensures rests { result ≡ false → (kept.new ≡ kept.old) × (O.sent back.new ≡ O.sent back.old) × (O.refusals back.new ≢ O.refusals back.old) }
+    ensures counted { result ≡ true → O.refusals back.new ≡ O.refusals back.old }
+    ensures lane { O.lane back.new ≡ O.lane back.old }
+{
+    let Some(frame) = kept.take() else {
+        return true;
+    };
+    match back.push(frame) {
+        Ok(()) => true,
+        Err(frame) => {
+            *kept = Some(frame);
+            false
+        }
+    }
+}
+
+/// Keeps a packet that was just taken as one that the port has no case for.
+fn keep_stray<I: LaneIn>(input: &mut I, strays: &mut Vec<Frame>, frame: Frame) -> Outcome
+    requires { IsSome (I.restored input.old frame) }
+    ensures moved { result ≡ Outcome.Moved → (I.waiting input.new ≡ I.waiting input.old) × (strays.new.items ≡ strays.old.items ++ frame ∷ []) }
+    ensures rests { result ≢ Outcome.Moved → (I.restored input.old frame ≡ Some (I.waiting input.new)) × (strays.new.items ≡ strays.old.items) }
+    ensures idle { result ≢ Outcome.Idle }
+    ensures counted { I.misses input.new ≡ I.misses input.old }
+    ensures lane { I.lane input.new ≡ I.lane input.old }
+{
+    match strays.push(frame) {
+        Ok(()) => Outcome::Moved,
+        Err(failed) => {
+            input.put_back(failed.value);
+            Outcome::NoMemory
+        }
+    }
+}
+
+/// Moves the eligible packet of a class, whose Requester ID has this owner. One that may not go on is
+/// kept.
+pub(crate) fn forward<I: LaneIn, O: LaneOut>(
+    input: &mut I,
+    out: &mut O,
+    strays: &mut Vec<Frame>,
+    owner: Option<DomainId>,
+    is_guarded: bool,
+    class: Class,
+) -> Outcome
+    ensures moved { result ≡ Outcome.Moved → Forwards class (may_go_on is_guarded owner) (I.waiting input.old) (O.sent out.old) strays.old.items (I.waiting input.new) (O.sent out.new) strays.new.items }
+    ensures rests { result ≢ Outcome.Moved → (I.waiting input.new ≡ I.waiting input.old) × (O.sent out.new ≡ O.sent out.old) × (strays.new.items ≡ strays.old.items) }
+    ensures cause { result ≡ Outcome.Idle → (I.misses input.new ≢ I.misses input.old) ⊎ (O.refusals out.new ≢ O.refusals out.old) }
+    ensures input_lane { I.lane input.new ≡ I.lane input.old }
+    ensures lane { O.lane out.new ≡ O.lane out.old }
+{
+    if out.is_full(class) {
+        return Outcome::Idle;
+    }
+    let Some(frame) = input.take(class) else {
+        let _ = input.head(class);
+        return Outcome::Idle;
+    };
+    match VettedFrame::new(frame, owner, is_guarded) {
+        Ok(vetted) => match out.push(vetted.into_frame()) {
+            Ok(()) => Outcome::Moved,
+            Err(frame) => {
+                input.put_back(frame);
+                Outcome::Idle
+            }
+        },
+        Err(frame) => keep_stray(input, strays, frame),
+    }
+}
+
+/// Keeps the eligible packet of a class as one that the port has no case for.
+pub(crate) fn stray<I: LaneIn>(input: &mut I, strays: &mut Vec<Frame>, class: Class) -> Outcome
+    ensures moved { result ≡ Outcome.Moved → Strays class (λ _. ⊤) (I.waiting input.old) strays.old.items (I.waiting input.new) strays.new.items }
+    ensures rests { result ≢ Outcome.Moved → (I.waiting input.new ≡ I.waiting input.old) × (strays.new.items ≡ strays.old.items) }
+    ensures cause { result ≡ Outcome.Idle → I.misses input.new ≢ I.misses input.old }
+    ensures input_lane { I.lane input.new ≡ I.lane input.old }
+{
+    let Some(frame) = input.take(class) else {
+        let _ = input.head(class);
+        return Outcome::Idle;
+    };
+    keep_stray(input, strays, frame)
+}
+
+/// What became of a packet that was to be refused.
+pub(crate) enum Refusal {
+    Refused,
+    Strayed,
+    Idle,
+    NoMemory,
+}
+
+/// Has the eligible packet of a class refused by the domain that made it. The answer is put into the
+/// port's own lane; one that the lane gives back is kept.
+pub(crate) fn refuse<W: Wait, I: LaneIn, O: LaneOut, D: Desk>(
+    rt: &W,
+    input: &mut I,
+    back: &mut O,
+    desk: &mut D,
+    kept: &mut Option<Frame>,
+    strays: &mut Vec<Frame>,
+    port: PortId,
+    class: Class,
+) -> Refusal
+    requires { kept.old ≡ None }
+    ensures refused { result ≡ Refusal.Refused → (Refuses class (λ f a. D.refuses (D.known desk.old) f port a (D.known desk.new)) (I.waiting input.old) (O.sent back.old) (I.waiting input.new) (O.sent back.new) kept.new) × (strays.new.items ≡ strays.old.items) }
+    ensures strayed { result ≡ Refusal.Strayed → (Strays class (λ f. D.unknown (D.known desk.old) f port) (I.waiting input.old) strays.old.items (I.waiting input.new) strays.new.items) × (O.sent back.new ≡ O.sent back.old) × (D.known desk.new ≡ D.known desk.old) × (kept.new ≡ None) }
+    ensures idle { result ≡ Refusal.Idle → (I.waiting input.new ≡ I.waiting input.old) × (O.sent back.new ≡ O.sent back.old) × (D.known desk.new ≡ D.known desk.old) × (kept.new ≡ None) × (strays.new.items ≡ strays.old.items) }
+    ensures memory { result ≡ Refusal.NoMemory → (I.waiting input.new ≡ I.waiting input.old) × (O.sent back.new ≡ O.sent back.old) × (D.known desk.new ≡ D.known desk.old) × (kept.new ≡ None) × (strays.new.items ≡ strays.old.items) }
+    ensures cause { result ≡ Refusal.Idle → (I.misses input.new ≢ I.misses input.old) ⊎ (O.refusals back.new ≢ O.refusals back.old) }
+    ensures input_lane { I.lane input.new ≡ I.lane input.old }
+    ensures lane { O.lane back.new ≡ O.lane back.old }
+{
+    // Only a non-posted request is answered.
+    if matches!(class, Class::NonPosted) && back.is_full(Class::Completion) {
+        return Refusal::Idle;
+    }
+    let Some(frame) = input.take(class) else {
+        let _ = input.head(class);
+        return Refusal::Idle;
+    };
+    match desk.refuse(rt, frame, port) {
+        Ok(None) => Refusal::Refused,
+        Ok(Some(answer)) => {
+            if let Err(answer) = back.push(answer) {
+                *kept = Some(answer);
+            }
+            Refusal::Refused
+        }
+        Err(FrameFault::Stray(frame)) => match keep_stray(input, strays, frame) {
+            Outcome::Moved => Refusal::Strayed,
+            _ => Refusal::NoMemory,
+        },
+        Err(FrameFault::NoMemory(frame)) => {
+            input.put_back(frame);
+            Refusal::NoMemory
+        }
+    }
+}

@@ -1,0 +1,188 @@
+//! One turn of a port, over lanes of any kind.
+
+ghost use Rattle.std.specs.Prelude.{◌≡◌, ◌≢◌, ◌⊎◌, ◌+◌, ◌≤◌, Some, None, length, map};
+ghost use Rattle.fab_types.specs.declared.violation.Violation.{Violation};
+ghost use Rattle.port.specs.Vetted.{requester_owner};
+ghost use Rattle.port.specs.Turns.{Advanced, Moves, Rests, Stops, sight_of, sight_with, counts_of};
+
+use crate::course::Course;
+use crate::desk::Desk;
+use crate::lanes::{LaneIn, LaneOut};
+use crate::port::Port;
+use crate::reporter::Reporter;
+use crate::slots::{forward_at, refuse_at, settle_at};
+use crate::steps::{Refusal, prepare, report_or_hold, stray, tell};
+use acs::requester_of;
+use bridge::Bridge;
+use fab_types::{Class, DomainId, Header, Outcome, Violation};
+use std::sync::Wait;
+
+/// All that a turn reaches: the switches, the lane in, the lanes out of the switch (out of its upstream
+/// port, and then out of each of its downstream ports, in the layout's order), and whom the port asks
+/// and tells.
+#[derive(Drop)]
+pub struct Lanes<'a, I, O, D, R> {
+    pub bridge: &'a Bridge,
+    pub input: &'a mut I,
+    pub outs: &'a mut [O],
+    pub desk: &'a mut D,
+    pub reporter: &'a mut R,
+}
+
+fn requester_owner(bridge: &Bridge, header: &Header) -> Option<DomainId>
+    ensures { result ≡ requester_owner bridge.now.ports header.now }
+{
+    let requester = requester_of(header)?;
+    bridge.owner(requester)
+}
+
+/// Has the eligible packet refused, and a violation reported.
+fn stop<W: Wait, I: LaneIn, O: LaneOut, D: Desk, R: Reporter>(
+    port: &mut Port,
+    rt: &W,
+    class: Class,
+    report: Option<Violation>,
+    input: &mut I,
+    outs: &mut [O],
+    desk: &mut D,
+    reporter: &mut R,
+) -> Outcome
+    requires lanes { length outs.old ≡ length port.old.config.exits + 1 }
+    requires held { port.old.held ≡ None }
+    requires kept { port.old.kept ≡ None }
+    ensures moved { result ≡ Outcome.Moved → Stops D.refuses D.unknown port.old.config class report (sight_with (I.waiting input.old) (map O.sent outs.old) (D.known desk.old) (R.reported reporter.old) port.old) (sight_with (I.waiting input.new) (map O.sent outs.new) (D.known desk.new) (R.reported reporter.new) port.new) }
+    ensures rests { result ≢ Outcome.Moved → sight_with (I.waiting input.new) (map O.sent outs.new) (D.known desk.new) (R.reported reporter.new) port.new ≡ sight_with (I.waiting input.old) (map O.sent outs.old) (D.known desk.old) (R.reported reporter.old) port.old }
+    ensures cause { result ≡ Outcome.Idle → (I.misses input.new ≢ I.misses input.old) ⊎ (map O.refusals outs.new ≢ map O.refusals outs.old) }
+    ensures config { port.new.config ≡ port.old.config }
+    ensures same_lanes { (I.lane input.new ≡ I.lane input.old) × (map O.lane outs.new ≡ map O.lane outs.old) }
+{
+    if prepare(reporter, &report).is_err() {
+        return Outcome::NoMemory;
+    }
+    match refuse_at(
+        rt,
+        input,
+        outs,
+        port.own,
+        desk,
+        &mut port.kept,
+        &mut port.strays,
+        port.id,
+        class,
+    ) {
+        Refusal::Refused => {
+            report_or_hold(reporter, &mut port.held, report);
+            Outcome::Moved
+        }
+        Refusal::Strayed => Outcome::Moved,
+        Refusal::Idle => Outcome::Idle,
+        Refusal::NoMemory => Outcome::NoMemory,
+    }
+}
+
+/// Moves the eligible packet as its course says, where nothing was held or kept.
+fn proceed<W: Wait, I: LaneIn, O: LaneOut, D: Desk, R: Reporter>(
+    port: &mut Port,
+    rt: &W,
+    class: Class,
+    bridge: &Bridge,
+    input: &mut I,
+    outs: &mut [O],
+    desk: &mut D,
+    reporter: &mut R,
+) -> Outcome
+    requires lanes { length outs.old ≡ length port.old.config.exits + 1 }
+    requires held { port.old.held ≡ None }
+    requires kept { port.old.kept ≡ None }
+    ensures moved { result ≡ Outcome.Moved → Advanced D.refuses D.unknown bridge.now port.old.config class (sight_with (I.waiting input.old) (map O.sent outs.old) (D.known desk.old) (R.reported reporter.old) port.old) (sight_with (I.waiting input.new) (map O.sent outs.new) (D.known desk.new) (R.reported reporter.new) port.new) }
+    ensures rests { result ≢ Outcome.Moved → sight_with (I.waiting input.new) (map O.sent outs.new) (D.known desk.new) (R.reported reporter.new) port.new ≡ sight_with (I.waiting input.old) (map O.sent outs.old) (D.known desk.old) (R.reported reporter.old) port.old }
+    ensures cause { result ≡ Outcome.Idle → (I.misses input.new ≢ I.misses input.old) ⊎ (map O.refusals outs.new ≢ map O.refusals outs.old) }
+    ensures config { port.new.config ≡ port.old.config }
+    ensures same_lanes { (I.lane input.new ≡ I.lane input.old) × (map O.lane outs.new ≡ map O.lane outs.old) }
+{
+    let Some(head) = input.head(class) else {
+        return Outcome::Idle;
+    };
+    match port.course(bridge, &head) {
+        Course::Forward(lane) => {
+            let owner = requester_owner(bridge, &head.header);
+            forward_at(
+                input,
+                outs,
+                lane,
+                &mut port.strays,
+                owner,
+                port.is_guarded,
+                class,
+            )
+        }
+        Course::Stop(report) => stop(port, rt, class, report, input, outs, desk, reporter),
+        Course::Stray => stray(input, &mut port.strays, class),
+    }
+}
+
+/// Tries what was held and kept, and then moves the eligible packet.
+fn advance<W: Wait, I: LaneIn, O: LaneOut, D: Desk, R: Reporter>(
+    port: &mut Port,
+    rt: &W,
+    class: Class,
+    bridge: &Bridge,
+    input: &mut I,
+    outs: &mut [O],
+    desk: &mut D,
+    reporter: &mut R,
+) -> Outcome
+    requires { length outs.old ≡ length port.old.config.exits + 1 }
+    ensures moved { result ≡ Outcome.Moved → Moves D.refuses D.unknown bridge.now port.old.config class (sight_with (I.waiting input.old) (map O.sent outs.old) (D.known desk.old) (R.reported reporter.old) port.old) (sight_with (I.waiting input.new) (map O.sent outs.new) (D.known desk.new) (R.reported reporter.new) port.new) }
+    ensures rests { result ≢ Outcome.Moved → Rests port.old.config.own (sight_with (I.waiting input.old) (map O.sent outs.old) (D.known desk.old) (R.reported reporter.old) port.old) (sight_with (I.waiting input.new) (map O.sent outs.new) (D.known desk.new) (R.reported reporter.new) port.new) }
+    ensures waits { (v : Violation) → port.old.held ≡ Some v → (I.waiting input.new ≡ I.waiting input.old) × (map O.sent outs.new ≡ map O.sent outs.old) }
+    ensures cause { result ≡ Outcome.Idle → (I.misses input.new ≢ I.misses input.old) ⊎ ((map O.refusals outs.new ≢ map O.refusals outs.old) ⊎ (R.refusals reporter.new ≢ R.refusals reporter.old)) }
+    ensures config { port.new.config ≡ port.old.config }
+    ensures same_lanes { (I.lane input.new ≡ I.lane input.old) × (map O.lane outs.new ≡ map O.lane outs.old) }
+{
+    if port.held.is_some() {
+        return tell(reporter, &mut port.held);
+    }
+    if !settle_at(outs, port.own, &mut port.kept) {
+        return Outcome::Idle;
+    }
+    proceed(port, rt, class, bridge, input, outs, desk, reporter)
+}
+
+impl Port {
+    /// One turn of the port: it moves at most one packet of the class. A report that came back is
+    /// tried first, and while it comes back nothing else moves; then an answer that came back. Then the
+    /// eligible packet of the class goes down the lane that its course names, is refused by the domain
+    /// that made it, or is kept as one that the port has no case for. `Moved`: a packet left the lane in,
+    /// or a held report was taken. `Idle`: the lane lent no head, a lane was full, or one gave a packet
+    /// or the reporter a report back. `NoMemory`: memory was refused; then the packet stays where it was.
+    pub fn turn<W: Wait, I: LaneIn, O: LaneOut, D: Desk, R: Reporter>(
+        &mut self,
+        rt: &W,
+        class: Class,
+        lanes: &mut Lanes<'_, I, O, D, R>,
+    ) -> Outcome
+        requires { length lanes.old.outs.now ≡ length self.old.config.exits + 1 }
+        ensures moved { result ≡ Outcome.Moved → Moves D.refuses D.unknown lanes.old.bridge.now self.old.config class (sight_of I.waiting O.sent D.known R.reported self.old lanes.old) (sight_of I.waiting O.sent D.known R.reported self.new lanes.new) }
+        ensures rests { result ≢ Outcome.Moved → Rests self.old.config.own (sight_of I.waiting O.sent D.known R.reported self.old lanes.old) (sight_of I.waiting O.sent D.known R.reported self.new lanes.new) }
+        ensures waits { (v : Violation) → self.old.held ≡ Some v → (I.waiting lanes.new.input.now ≡ I.waiting lanes.old.input.now) × (map O.sent lanes.new.outs.now ≡ map O.sent lanes.old.outs.now) }
+        ensures cause { result ≡ Outcome.Idle → counts_of I.misses O.refusals R.refusals lanes.new ≢ counts_of I.misses O.refusals R.refusals lanes.old }
+        ensures config { self.new.config ≡ self.old.config }
+        ensures same_lanes { (I.lane lanes.new.input.now ≡ I.lane lanes.old.input.now) × (map O.lane lanes.new.outs.now ≡ map O.lane lanes.old.outs.now) }
+        ensures same_input { lanes.new.input.ghost_name ≡ lanes.old.input.ghost_name }
+        ensures same_outs { lanes.new.outs.ghost_name ≡ lanes.old.outs.ghost_name }
+        ensures same_desk { lanes.new.desk.ghost_name ≡ lanes.old.desk.ghost_name }
+        ensures same_reporter { lanes.new.reporter.ghost_name ≡ lanes.old.reporter.ghost_name }
+    {
+        advance(
+            self,
+            rt,
+            class,
+            lanes.bridge,
+            lanes.input,
+            lanes.outs,
+            lanes.desk,
+            lanes.reporter,
+        )
+    }
+}
