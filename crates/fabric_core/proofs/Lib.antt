@@ -2,6 +2,7 @@ pub mod Firsts
 pub mod Steps
 pub mod Waiting
 pub mod Running
+pub mod Agreement
 pub mod Few
 pub mod Flying
 pub mod Sending

@@ -1,3 +1,4 @@
+pub mod Dispositions
 pub mod World
 pub mod Events
 pub mod Runs

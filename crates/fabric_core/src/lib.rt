@@ -3,7 +3,9 @@
 
 mod event;
 mod fabric;
+mod laws;
 mod queue;
 
 pub use event::Event;
 pub use fabric::Fabric;
+pub use laws::guarded_ports_do_what_fates_say;

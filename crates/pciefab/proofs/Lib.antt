@@ -1,2 +1,4 @@
+pub mod CommandWords
 pub mod Digits
 pub mod Shares
+pub mod Writing

@@ -1,5 +1,9 @@
 //! The words of the command line.
 
+ghost use Rattle.std.specs.Prelude.{◌≡◌, ℕ, List, IfOk, IsSomeAnd, MatchResult, Some, codes, map};
+ghost use Rattle.clap.specs.Words.{app_of, first_value, found_of};
+ghost use Rattle.pciefab.specs.CommandLine.{AskFirst, IsFirst, commands, word_in};
+
 use crate::fault::Fault;
 use clap::error::ErrorKind;
 use clap::{Arg, ArgAction, ArgMatches, Command, Error};
@@ -31,10 +35,16 @@ pub enum Request<'a> {
     First { packet: &'a str },
 }
 
-/// Reads the words of the command line, without the program's name.
-pub fn read_request<'a, S: AsStr>(alloc: Global, words: &'a [S]) -> Result<Request<'a>, Fault> {
+/// Reads the words of the command line, without the program's name. Words that are taken as those of
+/// `first` are refused only for want of memory.
+pub fn read_request<'a, S: AsStr>(alloc: Global, words: &'a [S]) -> Result<Request<'a>, Fault>
+    ensures first { (word : List ℕ) → AskFirst (map S.text words.entry.now) word → MatchResult result (λ request. IsFirst request word) (λ fault. fault ≡ Fault.NoMemory) }
+{
     match definition(alloc)?.try_get_matches_from(words) {
-        Ok(matches) => requested(&matches).ok_or(Fault::Usage),
+        Ok(matches) => match requested(&matches) {
+            Some(request) => Ok(request),
+            None => Err(Fault::Usage),
+        },
         Err(error) => match error.kind() {
             ErrorKind::DisplayHelp => Ok(Request::Help(error)),
             ErrorKind::OutOfMemory => Err(Fault::NoMemory),
@@ -43,16 +53,25 @@ pub fn read_request<'a, S: AsStr>(alloc: Global, words: &'a [S]) -> Result<Reque
     }
 }
 
-fn requested<'a>(matches: &ArgMatches<'a>) -> Option<Request<'a>> {
+fn requested<'a>(matches: &ArgMatches<'a>) -> Option<Request<'a>>
+    ensures { (word : List ℕ) → word_in matches.now ≡ Some word → IsSomeAnd result (λ request. IsFirst request word) }
+{
     match matches.subcommand()? {
-        ("first", words) => Some(Request::First {
-            packet: words.get_str("HEX")?,
-        }),
+        ("first", words) => first_request(words),
         _ => None,
     }
 }
 
-fn definition<'a>(alloc: Global) -> Result<Command<'a>, AllocError> {
+fn first_request<'a>(words: &ArgMatches<'a>) -> Option<Request<'a>>
+    ensures { (word : List ℕ) → first_value (found_of words.now) (codes "HEX") ≡ Some word → IsSomeAnd result (λ request. IsFirst request word) }
+{
+    let packet = words.get_str("HEX")?;
+    Some(Request::First { packet })
+}
+
+fn definition<'a>(alloc: Global) -> Result<Command<'a>, AllocError>
+    ensures { IfOk result (λ command. app_of command ≡ commands) }
+{
     let packet = Arg::new(alloc, "HEX")
         .required(true)
         .action(ArgAction::Set)

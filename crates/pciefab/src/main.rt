@@ -18,6 +18,8 @@ mod scenes;
 mod tenants;
 #[cfg(test)]
 mod tests;
+#[cfg(test)]
+mod turns;
 
 use files::HostFiles;
 use program::command;

@@ -1,6 +1,6 @@
 //! A port of a switch.
 
-ghost use Rattle.std.specs.Prelude.{◌≡◌, ◌≤◌, IfOk, option_map, None, [], length};
+ghost use Rattle.std.specs.Prelude.{◌≡◌, ◌+◌, ◌≤◌, IfOk, option_map, None, [], length};
 ghost use Rattle.std.specs.List.{list_all};
 ghost use Rattle.layout.specs.Share.{is_guarded_port};
 ghost use Rattle.port.specs.Configs.{config_of};
@@ -80,6 +80,14 @@ impl Port {
             kept: None,
             strays: Vec::new(alloc),
         }
+    }
+
+    /// How many lanes lead out of its switch: one out of the upstream port, and one out of each downstream
+    /// port.
+    pub fn lanes(&self) -> usize
+        ensures { result ≡ length self.now.config.exits + 1 }
+    {
+        self.exits.len() + 1
     }
 
     /// The packets that came and that the port had no case for, in the order in which they came.

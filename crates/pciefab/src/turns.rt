@@ -1,0 +1,419 @@
+//! Turns of ports over queues in memory, with one domain at the desk.
+
+ghost use Rattle.std.specs.Prelude.{⊤, ℕ};
+ghost use Rattle.domain.specs.Domains.{DomainView};
+ghost use Rattle.port.specs.Queues.{frames_of};
+
+use bridge::Bridge;
+use domain::Domain;
+use fab_types::{Bdf, Check, Class, DomainId, NoMemory, Outcome, PortId, Violation};
+use frame_log::{Frame, FrameFault, Log};
+use layout::Layout;
+use port::{Desk, FrameQueue, LaneIn, LaneOut, Lanes, Port, Reporter, Reports};
+use std::alloc::Global;
+use std::sync::{Arc, Wait};
+use std::test::Fail;
+
+/// Two domains below two switches.
+const PLATFORM: &str = "pciefab 1
+frames 4
+switch 01:00.0 root
+port 02:00.0 03 03 90000000 900fffff 1f 1
+port 02:01.0 04 07 90100000 902fffff 1f 2
+port 02:02.0 08 09 90300000 903fffff 1f 1
+switch 04:00.0 02:01.0
+port 05:00.0 06 06 90100000 901fffff 1f 2
+port 05:01.0 07 07 90200000 902fffff 1f 2
+function 03:00.0 90000000
+function 06:00.0 90100000
+function 07:00.0 90200000
+function 08:00.0 90300000
+map 03:00.0 1 frame 0 rw
+map 03:00.0 2 peer 08:00.0 rw
+";
+
+/// A desk with one domain.
+#[derive(Drop)]
+struct OneDomain {
+    domain: Domain,
+}
+
+impl Desk for OneDomain {
+    ghost Known = { DomainView };
+
+    ghost known = { λ d. d.domain };
+
+    ghost refuses = { λ known frame port answer after. ⊤ };
+
+    ghost unknown = { λ known frame port. ⊤ };
+
+    fn refuse<W: Wait>(
+        &mut self,
+        rt: &W,
+        frame: Frame,
+        port: PortId,
+    ) -> Result<Option<Frame>, FrameFault> {
+        self.domain.refuse(rt, frame, port)
+    }
+}
+
+/// A lane that takes this many packets, and gives all others back without having said that it is full.
+#[derive(Drop)]
+struct Giving {
+    queue: FrameQueue<16>,
+    left: u64,
+    refused: u64,
+}
+
+impl LaneOut for Giving {
+    ghost Lane = { ℕ };
+
+    ghost lane = { λ _. 0 };
+
+    ghost sent = { λ l. frames_of l.queue.queue.waiting };
+
+    ghost refusals = { λ l. l.refused };
+
+    fn is_full(&mut self, _class: Class) -> bool {
+        false
+    }
+
+    fn push(&mut self, frame: Frame) -> Result<(), Frame> {
+        if self.left == 0 {
+            self.refused = self.refused.wrapping_add(1);
+            return Err(frame);
+        }
+        match self.queue.push(frame) {
+            Ok(()) => {
+                self.left -= 1;
+                Ok(())
+            }
+            Err(frame) => {
+                self.refused = self.refused.wrapping_add(1);
+                Err(frame)
+            }
+        }
+    }
+}
+
+/// A reporter that has a place, or has none.
+#[derive(Drop)]
+struct Place {
+    reports: Reports,
+    is_free: bool,
+    refused: u64,
+}
+
+impl Reporter for Place {
+    ghost reported = { λ p. p.reports.violations.items };
+
+    ghost refusals = { λ p. p.refused };
+
+    fn prepare_report(&mut self) -> Result<(), NoMemory> {
+        self.reports.prepare_report()
+    }
+
+    fn report(&mut self, violation: Violation) -> Result<(), Violation> {
+        if !self.is_free {
+            self.refused = self.refused.wrapping_add(1);
+            return Err(violation);
+        }
+        match self.reports.report(violation) {
+            Ok(()) => Ok(()),
+            Err(violation) => {
+                self.refused = self.refused.wrapping_add(1);
+                Err(violation)
+            }
+        }
+    }
+}
+
+fn port_id(id: u16) -> PortId {
+    PortId::new(Bdf::from_bits(id))
+}
+
+/// A port and its surroundings: the packets that came into it, its switch's lanes, a domain, the reports.
+#[derive(Drop)]
+struct Scene {
+    alloc: Global,
+    layout: Layout,
+    bridge: Bridge,
+    port: Port,
+    input: FrameQueue<127>,
+    outs: Vec<Giving>,
+    desk: OneDomain,
+    place: Place,
+}
+
+fn domain_of(alloc: Global, layout: &Layout, number: u8) -> Option<Domain> {
+    let number = DomainId::new(number)?;
+    let start = layout.start(alloc, number).ok()??;
+    let log = Arc::new(alloc, Log::new(alloc).ok()?).ok()?;
+    Domain::new(alloc, &start, log).ok()
+}
+
+/// The lanes of a port's switch. Each takes this many packets.
+fn lanes_of(alloc: Global, port: &Port, left: u64) -> Option<Vec<Giving>> {
+    let mut outs = Vec::new(alloc);
+    for _ in 0..port.lanes() {
+        let lane = Giving {
+            queue: FrameQueue::new(),
+            left,
+            refused: 0,
+        };
+        outs.push(lane).ok()?;
+    }
+    Some(outs)
+}
+
+/// The port of this ID, whose lanes each take this many packets, with the domain of this number.
+fn port_with(alloc: Global, id: u16, number: u8, left: u64) -> Option<Scene> {
+    let layout = Layout::read(alloc, PLATFORM).ok()?;
+    let bridge = Bridge::new(alloc, &layout).ok()?;
+    let port = Port::new(alloc, &layout, port_id(id)).ok()??;
+    let outs = lanes_of(alloc, &port, left)?;
+    let domain = domain_of(alloc, &layout, number)?;
+    let place = Place {
+        reports: Reports::new(alloc),
+        is_free: true,
+        refused: 0,
+    };
+    Some(Scene {
+        alloc,
+        layout,
+        bridge,
+        port,
+        input: FrameQueue::new(),
+        outs,
+        desk: OneDomain { domain },
+        place,
+    })
+}
+
+impl Scene {
+    /// A function submits the packet of these bytes, which comes into the port.
+    fn submit<R: Wait>(&mut self, rt: &R, function: u16, word: &str) -> bool {
+        match self.submitted(rt, function, word) {
+            Some(frame) => self.input.push(frame).is_ok(),
+            None => false,
+        }
+    }
+
+    fn submitted<R: Wait>(&mut self, rt: &R, function: u16, word: &str) -> Option<Frame> {
+        let bytes = hex::decode(self.alloc, word).ok()?;
+        self.desk
+            .domain
+            .submit(rt, Bdf::from_bits(function), &bytes)
+            .ok()
+    }
+
+    /// A turn of the port, which has a lane for each way out of its switch.
+    fn turn<R: Wait>(&mut self, rt: &R, class: Class) -> Option<Outcome> {
+        if self.outs.len() != self.port.lanes() {
+            return None;
+        }
+        let mut lanes = Lanes {
+            bridge: &self.bridge,
+            input: &mut self.input,
+            outs: self.outs.as_mut_slice(),
+            desk: &mut self.desk,
+            reporter: &mut self.place,
+        };
+        Some(self.port.turn(rt, class, &mut lanes))
+    }
+
+    fn moves<R: Wait>(&mut self, rt: &R, class: Class) -> bool {
+        self.turn(rt, class) == Some(Outcome::Moved)
+    }
+
+    fn is_idle<R: Wait>(&mut self, rt: &R, class: Class) -> bool {
+        self.turn(rt, class) == Some(Outcome::Idle)
+    }
+
+    /// The eligible packet of a lane.
+    fn sent(&mut self, lane: usize, class: Class) -> Option<Frame> {
+        self.outs.get_mut(lane)?.queue.take(class)
+    }
+
+    /// The packet that went up comes into this port.
+    fn go_on(&mut self, id: u16, class: Class) -> Option<()> {
+        let frame = self.sent(0, class)?;
+        self.port = Port::new(self.alloc, &self.layout, port_id(id)).ok()??;
+        self.outs = lanes_of(self.alloc, &self.port, 16)?;
+        self.input.push(frame).ok()
+    }
+
+    /// Does a packet of the class wait in this lane?
+    fn has_sent(&mut self, lane: usize, class: Class) -> bool {
+        match self.outs.get_mut(lane) {
+            Some(out) => out.queue.head(class).is_some(),
+            None => false,
+        }
+    }
+
+    /// Lets a lane take one packet.
+    fn permit(&mut self, lane: usize) {
+        if let Some(out) = self.outs.get_mut(lane) {
+            out.left = 1;
+        }
+    }
+
+    /// Is the completion in this lane delivered, and has its record these bytes?
+    fn delivers(&mut self, lane: usize, word: &str) -> Option<bool> {
+        let answer = self.sent(lane, Class::Completion)?;
+        let record = self.desk.domain.deliver(answer).ok()??;
+        let text = hex::encode(self.alloc, record.bytes()).ok()?;
+        Some(text.as_str() == word)
+    }
+
+    fn has_reported(&self, reports: &[Violation]) -> bool {
+        self.place.reports.violations() == reports
+    }
+}
+
+fn violation(port: u16, check: Check, sender: u16, requester: u16, posted: bool) -> Violation {
+    Violation {
+        port: port_id(port),
+        check,
+        sender: Bdf::from_bits(sender),
+        requester: Bdf::from_bits(requester),
+        posted,
+    }
+}
+
+const SPOOFED_WRITE: &str = "400000010300000f00001000deadbeef";
+
+const SPOOFED_READ: &str = "000000010300200f00001000";
+
+const WRITE_TO_A_PEER: &str = "400000010600000f9000000000000001";
+
+#[test]
+fn a_write_with_anothers_requester_id_is_discarded_and_reported(
+    rt: HostRuntime,
+) -> Result<(), Fail> {
+    let mut scene = port_with(rt.alloc(), 0x0500, 2, 16).ok_or("a port")?;
+    assert!(rt; scene.submit(&rt, 0x0600, SPOOFED_WRITE));
+    assert!(rt; scene.moves(&rt, Class::Posted));
+    let report = violation(0x0500, Check::SourceValidation, 0x0600, 0x0300, true);
+    assert!(rt; scene.has_reported(&[report]));
+    assert_eq!(rt; scene.desk.domain.journal().len(), 2);
+    Ok(())
+}
+
+#[test]
+fn a_report_is_one_line(rt: HostRuntime) -> Result<(), Fail> {
+    let report = violation(0x0500, Check::SourceValidation, 0x0600, 0x0300, true);
+    let line = monitor::line(rt.alloc(), &report)?;
+    assert!(rt; line.as_str() == "acs 05:00.0 V from 06:00.0 as 03:00.0 posted");
+    Ok(())
+}
+
+#[test]
+fn a_read_with_anothers_requester_id_is_answered_with_completer_abort(
+    rt: HostRuntime,
+) -> Result<(), Fail> {
+    let mut scene = port_with(rt.alloc(), 0x0500, 2, 16).ok_or("a port")?;
+    assert!(rt; scene.submit(&rt, 0x0600, SPOOFED_READ));
+    assert!(rt; scene.moves(&rt, Class::NonPosted));
+    let report = violation(0x0500, Check::SourceValidation, 0x0600, 0x0300, false);
+    assert!(rt; scene.has_reported(&[report]));
+    assert_eq!(rt; scene.delivers(1, "0a0000000500800403002000"), Some(true));
+    Ok(())
+}
+
+#[test]
+fn a_write_that_claims_translation_is_a_violation(rt: HostRuntime) -> Result<(), Fail> {
+    let mut scene = port_with(rt.alloc(), 0x0500, 2, 16).ok_or("a port")?;
+    assert!(rt; scene.submit(&rt, 0x0600, "400008010600000f00001000deadbeef"));
+    assert!(rt; scene.moves(&rt, Class::Posted));
+    let report = violation(0x0500, Check::TranslationBlocking, 0x0600, 0x0600, true);
+    assert!(rt; scene.has_reported(&[report]));
+    Ok(())
+}
+
+#[test]
+fn a_request_for_a_peer_goes_up_at_each_port(rt: HostRuntime) -> Result<(), Fail> {
+    let mut scene = port_with(rt.alloc(), 0x0500, 2, 16).ok_or("a port")?;
+    assert!(rt; scene.submit(&rt, 0x0600, WRITE_TO_A_PEER));
+    assert!(rt; scene.moves(&rt, Class::Posted));
+    assert!(rt; scene.go_on(0x0208, Class::Posted).is_some());
+    assert!(rt; scene.moves(&rt, Class::Posted));
+    assert!(rt; scene.has_sent(0, Class::Posted));
+    assert_eq!(rt; scene.desk.domain.journal().len(), 1);
+    Ok(())
+}
+
+#[test]
+fn a_read_of_the_neighbour_goes_up_past_the_window_that_has_it(
+    rt: HostRuntime,
+) -> Result<(), Fail> {
+    let mut scene = port_with(rt.alloc(), 0x0500, 2, 16).ok_or("a port")?;
+    assert!(rt; scene.submit(&rt, 0x0600, "000000010600310f90200000"));
+    assert!(rt; scene.moves(&rt, Class::NonPosted));
+    assert!(rt; scene.go_on(0x0208, Class::NonPosted).is_some());
+    assert!(rt; scene.moves(&rt, Class::NonPosted));
+    assert!(rt; scene.has_sent(0, Class::NonPosted));
+    assert!(rt; scene.has_reported(&[]));
+    Ok(())
+}
+
+#[test]
+fn any_bus_below_the_port_passes_source_validation(rt: HostRuntime) -> Result<(), Fail> {
+    let mut scene = port_with(rt.alloc(), 0x0210, 1, 16).ok_or("a port")?;
+    assert!(rt; scene.submit(&rt, 0x0800, "000000010900300f00001000"));
+    assert!(rt; scene.moves(&rt, Class::NonPosted));
+    assert!(rt; scene.has_sent(0, Class::NonPosted));
+    assert!(rt; scene.has_reported(&[]));
+    Ok(())
+}
+
+#[test]
+fn a_request_of_another_kind_is_answered_by_its_first_port(rt: HostRuntime) -> Result<(), Fail> {
+    let mut scene = port_with(rt.alloc(), 0x0200, 1, 16).ok_or("a port")?;
+    assert!(rt; scene.submit(&rt, 0x0300, "020000010300400f00001000"));
+    assert!(rt; scene.moves(&rt, Class::NonPosted));
+    assert_eq!(rt; scene.delivers(1, "0a0000000200200403004000"), Some(true));
+    assert!(rt; scene.has_reported(&[]));
+    Ok(())
+}
+
+#[test]
+fn a_packet_that_the_lane_gives_back_stays_where_it_was(rt: HostRuntime) -> Result<(), Fail> {
+    let mut scene = port_with(rt.alloc(), 0x0500, 2, 0).ok_or("a port")?;
+    assert!(rt; scene.submit(&rt, 0x0600, WRITE_TO_A_PEER));
+    assert!(rt; scene.is_idle(&rt, Class::Posted));
+    assert!(rt; scene.input.head(Class::Posted).is_some());
+    scene.permit(0);
+    assert!(rt; scene.moves(&rt, Class::Posted));
+    assert!(rt; scene.has_sent(0, Class::Posted));
+    Ok(())
+}
+
+#[test]
+fn an_answer_that_the_lane_gives_back_is_put_later(rt: HostRuntime) -> Result<(), Fail> {
+    let mut scene = port_with(rt.alloc(), 0x0500, 2, 0).ok_or("a port")?;
+    assert!(rt; scene.submit(&rt, 0x0600, SPOOFED_READ));
+    assert!(rt; scene.moves(&rt, Class::NonPosted));
+    assert!(rt; !scene.has_sent(1, Class::Completion));
+    scene.permit(1);
+    assert!(rt; scene.is_idle(&rt, Class::NonPosted));
+    assert!(rt; scene.has_sent(1, Class::Completion));
+    Ok(())
+}
+
+#[test]
+fn nothing_goes_on_while_a_report_is_held(rt: HostRuntime) -> Result<(), Fail> {
+    let mut scene = port_with(rt.alloc(), 0x0500, 2, 16).ok_or("a port")?;
+    scene.place.is_free = false;
+    assert!(rt; scene.submit(&rt, 0x0600, SPOOFED_WRITE));
+    assert!(rt; scene.submit(&rt, 0x0600, WRITE_TO_A_PEER));
+    assert!(rt; scene.moves(&rt, Class::Posted));
+    assert!(rt; scene.port.held_report().is_some());
+    assert!(rt; scene.is_idle(&rt, Class::Posted));
+    scene.place.is_free = true;
+    assert!(rt; scene.moves(&rt, Class::Posted));
+    assert!(rt; scene.place.reports.violations().len() == 1 && !scene.has_sent(0, Class::Posted));
+    assert!(rt; scene.moves(&rt, Class::Posted));
+    assert!(rt; scene.has_sent(0, Class::Posted));
+    Ok(())
+}
