@@ -64,12 +64,7 @@ fn owner_of_number(ports: &[PortLine], domain: u8) -> Option<DomainId>
         .map(|port| port.owner)
 }
 
-fn owner_of_parts(
-    ports: &[PortLine],
-    bus: u8,
-    device: u8,
-    function: u8,
-) -> Option<DomainId>
+fn owner_of_parts(ports: &[PortLine], bus: u8, device: u8, function: u8) -> Option<DomainId>
     ensures { result ≡ owner_of_parts ports.now bus device function }
 {
     if bus != 0 {

@@ -1,8 +1,17 @@
 -- The steps of a turn, each over the parts that it changes.
-use Rattle.std.specs.Prelude.{◌≡◌, ℕ, ◌⊎◌, Bool, true, false, List, [], ◌∷◌, ◌++◌, Option, Some, None, option_to_list, slice_set, slice_index_or}
+use Rattle.std.specs.Prelude.{◌≡◌, ℕ, ⊤, ◌⊎◌, Bool, true, false, List, [], ◌∷◌, ◌++◌, Option, Some, None, option_to_list, slice_set, slice_index_or}
 use Rattle.fab_types.specs.declared.class.Class.{Class}
+use Rattle.fab_types.specs.declared.outcome.Outcome.{Outcome}
+use Rattle.fab_types.specs.declared.outcome.Outcome.TheVariants.{Moved, Idle, Refused, NoMemory}
 use Rattle.frame_log.specs.Descriptor.{Descriptor}
 use Rattle.port.specs.Lanes.{eligible}
+
+-- a turn begins nothing, so nothing is refused in it
+abbrev pub IsOfTurn : Outcome → Type 0
+IsOfTurn Moved = ⊤
+IsOfTurn Idle = ⊤
+IsOfTurn (Refused fault) = ⊥
+IsOfTurn NoMemory = ⊤
 
 -- the eligible packet went on, or is kept as one that may not
 pub record Forwards (class : Class) (may : Descriptor → Bool) (waiting sent strays waiting' sent' strays' : List Descriptor) : Type 0 where

@@ -1,6 +1,6 @@
 //! Reports of violations in a list.
 
-ghost use Rattle.std.specs.Prelude.{◌≡◌, []};
+ghost use Rattle.std.specs.Prelude.{◌≡◌, ◌<◌, [], OnOk, vec_len, vec_capacity};
 
 use crate::reporter::Reporter;
 use fab_types::{NoMemory, Violation};
@@ -37,7 +37,11 @@ impl Reporter for Reports {
 
     ghost refusals = { λ r. r.refusals };
 
-    fn prepare_report(&mut self) -> Result<(), NoMemory> {
+    fn prepare_report(&mut self) -> Result<(), NoMemory>
+        ensures reported { self.new.violations.items ≡ self.old.violations.items }
+        ensures counted { self.new.refusals ≡ self.old.refusals }
+        ensures room { OnOk result (vec_len self.new.violations < vec_capacity self.new.violations) }
+    {
         self.violations.reserve(1)?;
         Ok(())
     }

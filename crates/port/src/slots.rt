@@ -1,7 +1,7 @@
 //! The steps of a turn, where a lane out is one of several.
 
 ghost use Rattle.std.specs.Prelude.{◌≡◌, ◌≢◌, ◌⊎◌, ◌<◌, None, true, false, length, map, option_to_list};
-ghost use Rattle.port.specs.Steps.{ForwardsAt, RefusesAt, Strays, with_put};
+ghost use Rattle.port.specs.Steps.{ForwardsAt, IsOfTurn, RefusesAt, Strays, with_put};
 ghost use Rattle.port.specs.Vetted.{may_go_on};
 
 use crate::desk::Desk;
@@ -38,6 +38,7 @@ pub(crate) fn forward_at<I: LaneIn, O: LaneOut>(
     ensures moved { result ≡ Outcome.Moved → ForwardsAt class (may_go_on is_guarded owner) lane (I.waiting input.old) (map O.sent outs.old) strays.old.items (I.waiting input.new) (map O.sent outs.new) strays.new.items }
     ensures rests { result ≢ Outcome.Moved → (I.waiting input.new ≡ I.waiting input.old) × (map O.sent outs.new ≡ map O.sent outs.old) × (strays.new.items ≡ strays.old.items) }
     ensures cause { result ≡ Outcome.Idle → (I.misses input.new ≢ I.misses input.old) ⊎ (map O.refusals outs.new ≢ map O.refusals outs.old) }
+    ensures answer { IsOfTurn result }
     ensures input_lane { I.lane input.new ≡ I.lane input.old }
     ensures lanes { map O.lane outs.new ≡ map O.lane outs.old }
 {

@@ -1,7 +1,7 @@
 //! The steps of a turn, each over the parts that it changes.
 
 ghost use Rattle.std.specs.Prelude.{◌≡◌, ◌≢◌, ◌⊎◌, ◌++◌, ◌∷◌, [], Some, None, IsSome, true, false, ⊤, option_to_list};
-ghost use Rattle.port.specs.Steps.{Forwards, Refuses, Strays};
+ghost use Rattle.port.specs.Steps.{Forwards, IsOfTurn, Refuses, Strays};
 ghost use Rattle.port.specs.Vetted.{may_go_on};
 
 use crate::desk::Desk;
@@ -18,6 +18,7 @@ pub(crate) fn tell<R: Reporter>(reporter: &mut R, held: &mut Option<Violation>) 
     ensures rests { result ≢ Outcome.Moved → (held.new ≡ held.old) × (R.reported reporter.new ≡ R.reported reporter.old) }
     ensures cause { result ≡ Outcome.Idle → (held.old ≡ None) ⊎ (R.refusals reporter.new ≢ R.refusals reporter.old) }
     ensures memory { result ≢ Outcome.NoMemory }
+    ensures answer { IsOfTurn result }
 {
     let Some(violation) = held.take() else {
         return Outcome::Idle;
@@ -87,6 +88,7 @@ fn keep_stray<I: LaneIn>(input: &mut I, strays: &mut Vec<Frame>, frame: Frame) -
     ensures moved { result ≡ Outcome.Moved → (I.waiting input.new ≡ I.waiting input.old) × (strays.new.items ≡ strays.old.items ++ frame ∷ []) }
     ensures rests { result ≢ Outcome.Moved → (I.restored input.old frame ≡ Some (I.waiting input.new)) × (strays.new.items ≡ strays.old.items) }
     ensures idle { result ≢ Outcome.Idle }
+    ensures answer { IsOfTurn result }
     ensures counted { I.misses input.new ≡ I.misses input.old }
     ensures lane { I.lane input.new ≡ I.lane input.old }
 {
@@ -112,6 +114,7 @@ pub(crate) fn forward<I: LaneIn, O: LaneOut>(
     ensures moved { result ≡ Outcome.Moved → Forwards class (may_go_on is_guarded owner) (I.waiting input.old) (O.sent out.old) strays.old.items (I.waiting input.new) (O.sent out.new) strays.new.items }
     ensures rests { result ≢ Outcome.Moved → (I.waiting input.new ≡ I.waiting input.old) × (O.sent out.new ≡ O.sent out.old) × (strays.new.items ≡ strays.old.items) }
     ensures cause { result ≡ Outcome.Idle → (I.misses input.new ≢ I.misses input.old) ⊎ (O.refusals out.new ≢ O.refusals out.old) }
+    ensures answer { IsOfTurn result }
     ensures input_lane { I.lane input.new ≡ I.lane input.old }
     ensures lane { O.lane out.new ≡ O.lane out.old }
 {
@@ -139,6 +142,7 @@ pub(crate) fn stray<I: LaneIn>(input: &mut I, strays: &mut Vec<Frame>, class: Cl
     ensures moved { result ≡ Outcome.Moved → Strays class (λ _. ⊤) (I.waiting input.old) strays.old.items (I.waiting input.new) strays.new.items }
     ensures rests { result ≢ Outcome.Moved → (I.waiting input.new ≡ I.waiting input.old) × (strays.new.items ≡ strays.old.items) }
     ensures cause { result ≡ Outcome.Idle → I.misses input.new ≢ I.misses input.old }
+    ensures answer { IsOfTurn result }
     ensures input_lane { I.lane input.new ≡ I.lane input.old }
 {
     let Some(frame) = input.take(class) else {

@@ -3,6 +3,7 @@
 ghost use Rattle.std.specs.Prelude.{◌≡◌, ◌≢◌, ◌⊎◌, ◌+◌, ◌≤◌, Some, None, length, map};
 ghost use Rattle.fab_types.specs.declared.violation.Violation.{Violation};
 ghost use Rattle.port.specs.Vetted.{requester_owner};
+ghost use Rattle.port.specs.Steps.{IsOfTurn};
 ghost use Rattle.port.specs.Turns.{Advanced, Moves, Rests, Stops, sight_of, sight_with, counts_of};
 
 use crate::course::Course;
@@ -53,6 +54,7 @@ fn stop<W: Wait, I: LaneIn, O: LaneOut, D: Desk, R: Reporter>(
     ensures moved { result ≡ Outcome.Moved → Stops D.refuses D.unknown port.old.config class report (sight_with (I.waiting input.old) (map O.sent outs.old) (D.known desk.old) (R.reported reporter.old) port.old) (sight_with (I.waiting input.new) (map O.sent outs.new) (D.known desk.new) (R.reported reporter.new) port.new) }
     ensures rests { result ≢ Outcome.Moved → sight_with (I.waiting input.new) (map O.sent outs.new) (D.known desk.new) (R.reported reporter.new) port.new ≡ sight_with (I.waiting input.old) (map O.sent outs.old) (D.known desk.old) (R.reported reporter.old) port.old }
     ensures cause { result ≡ Outcome.Idle → (I.misses input.new ≢ I.misses input.old) ⊎ (map O.refusals outs.new ≢ map O.refusals outs.old) }
+    ensures answer { IsOfTurn result }
     ensures config { port.new.config ≡ port.old.config }
     ensures same_lanes { (I.lane input.new ≡ I.lane input.old) × (map O.lane outs.new ≡ map O.lane outs.old) }
 {
@@ -97,6 +99,7 @@ fn proceed<W: Wait, I: LaneIn, O: LaneOut, D: Desk, R: Reporter>(
     ensures moved { result ≡ Outcome.Moved → Advanced D.refuses D.unknown bridge.now port.old.config class (sight_with (I.waiting input.old) (map O.sent outs.old) (D.known desk.old) (R.reported reporter.old) port.old) (sight_with (I.waiting input.new) (map O.sent outs.new) (D.known desk.new) (R.reported reporter.new) port.new) }
     ensures rests { result ≢ Outcome.Moved → sight_with (I.waiting input.new) (map O.sent outs.new) (D.known desk.new) (R.reported reporter.new) port.new ≡ sight_with (I.waiting input.old) (map O.sent outs.old) (D.known desk.old) (R.reported reporter.old) port.old }
     ensures cause { result ≡ Outcome.Idle → (I.misses input.new ≢ I.misses input.old) ⊎ (map O.refusals outs.new ≢ map O.refusals outs.old) }
+    ensures answer { IsOfTurn result }
     ensures config { port.new.config ≡ port.old.config }
     ensures same_lanes { (I.lane input.new ≡ I.lane input.old) × (map O.lane outs.new ≡ map O.lane outs.old) }
 {
@@ -137,6 +140,7 @@ fn advance<W: Wait, I: LaneIn, O: LaneOut, D: Desk, R: Reporter>(
     ensures rests { result ≢ Outcome.Moved → Rests port.old.config.own (sight_with (I.waiting input.old) (map O.sent outs.old) (D.known desk.old) (R.reported reporter.old) port.old) (sight_with (I.waiting input.new) (map O.sent outs.new) (D.known desk.new) (R.reported reporter.new) port.new) }
     ensures waits { (v : Violation) → port.old.held ≡ Some v → (I.waiting input.new ≡ I.waiting input.old) × (map O.sent outs.new ≡ map O.sent outs.old) }
     ensures cause { result ≡ Outcome.Idle → (I.misses input.new ≢ I.misses input.old) ⊎ ((map O.refusals outs.new ≢ map O.refusals outs.old) ⊎ (R.refusals reporter.new ≢ R.refusals reporter.old)) }
+    ensures answer { IsOfTurn result }
     ensures config { port.new.config ≡ port.old.config }
     ensures same_lanes { (I.lane input.new ≡ I.lane input.old) × (map O.lane outs.new ≡ map O.lane outs.old) }
 {
@@ -167,6 +171,7 @@ impl Port {
         ensures rests { result ≢ Outcome.Moved → Rests self.old.config.own (sight_of I.waiting O.sent D.known R.reported self.old lanes.old) (sight_of I.waiting O.sent D.known R.reported self.new lanes.new) }
         ensures waits { (v : Violation) → self.old.held ≡ Some v → (I.waiting lanes.new.input.now ≡ I.waiting lanes.old.input.now) × (map O.sent lanes.new.outs.now ≡ map O.sent lanes.old.outs.now) }
         ensures cause { result ≡ Outcome.Idle → counts_of I.misses O.refusals R.refusals lanes.new ≢ counts_of I.misses O.refusals R.refusals lanes.old }
+        ensures answer { IsOfTurn result }
         ensures config { self.new.config ≡ self.old.config }
         ensures same_lanes { (I.lane lanes.new.input.now ≡ I.lane lanes.old.input.now) × (map O.lane lanes.new.outs.now ≡ map O.lane lanes.old.outs.now) }
         ensures same_input { lanes.new.input.ghost_name ≡ lanes.old.input.ghost_name }
