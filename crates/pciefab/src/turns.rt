@@ -105,7 +105,7 @@ struct Place {
 }
 
 impl Reporter for Place {
-    ghost reported = { λ p. p.reports.violations.items };
+    ghost reported = { λ p. p.reports.violations };
 
     ghost refusals = { λ p. p.refused };
 

@@ -1,5 +1,6 @@
 -- A queue of packets, each of which waits under its own class.
-use Rattle.std.specs.Prelude.{◌≡◌, ℕ, List, map, Option, option_map, All}
+use Rattle.std.specs.Prelude.{◌≡◌, ℕ, Bool, List, map, Option, option_map, All}
+use Rattle.fab_types.specs.declared.violation.Violation.{Violation}
 use Rattle.frame_log.specs.Descriptor.{Descriptor}
 use Rattle.port_queue.specs.Queue.{Queue, restored}
 use Rattle.port.specs.Lanes.{Class, class_of}
@@ -20,3 +21,9 @@ frames_of waiting = map (λ w. w.1) waiting
 -- what waits once a packet is put back that was just taken
 abbrev pub frames_restored : Queue Descriptor → Descriptor → Option (List Descriptor)
 frames_restored queue frame = option_map frames_of (restored queue (class_of frame) frame)
+
+-- what was reported, whether there is room for one more report without taking memory, and how often one was given back
+pub record Reported : Type 0 where
+  pub violations : List Violation
+  pub has_room : Bool
+  pub refusals : ℕ

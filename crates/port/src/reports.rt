@@ -1,22 +1,32 @@
 //! Reports of violations in a list.
 
-ghost use Rattle.std.specs.Prelude.{◌≡◌, ◌<◌, [], OnOk, vec_len, vec_capacity};
+ghost use Rattle.std.specs.Prelude.{◌≡◌, [], OnOk, true};
 
 use crate::reporter::Reporter;
 use fab_types::{NoMemory, Violation};
 use std::alloc::Global;
+use std::marker::Model;
 
-/// Violations in the order in which they were reported.
+/// Violations in the order in which they were reported. A contract sees a `Reported`.
 #[derive(Debug, Drop)]
 pub struct Reports {
     violations: Vec<Violation>,
     refusals: u64,
 }
 
+impl Model for Reports {
+    ghost use Rattle.std.specs.Prelude.{nat_lt, vec_len, vec_capacity};
+    ghost use Rattle.port.specs.Queues.{Reported};
+
+    ghost Value = { Reported };
+
+    ghost view = { λ r. record { violations = r.violations.items; has_room = nat_lt (vec_len r.violations) (vec_capacity r.violations); refusals = r.refusals } };
+}
+
 impl Reports {
     /// No reports yet.
     pub fn new(alloc: Global) -> Reports
-        ensures { result.violations.items ≡ [] }
+        ensures { result.violations ≡ [] }
     {
         Reports {
             violations: Vec::new(alloc),
@@ -26,21 +36,21 @@ impl Reports {
 
     /// What was reported, oldest first.
     pub fn violations(&self) -> &[Violation]
-        ensures { result.now ≡ self.now.violations.items }
+        ensures { result.now ≡ self.now.violations }
     {
         &self.violations
     }
 }
 
 impl Reporter for Reports {
-    ghost reported = { λ r. r.violations.items };
+    ghost reported = { λ r. r.violations };
 
     ghost refusals = { λ r. r.refusals };
 
     fn prepare_report(&mut self) -> Result<(), NoMemory>
-        ensures reported { self.new.violations.items ≡ self.old.violations.items }
+        ensures reported { self.new.violations ≡ self.old.violations }
         ensures counted { self.new.refusals ≡ self.old.refusals }
-        ensures room { OnOk result (vec_len self.new.violations < vec_capacity self.new.violations) }
+        ensures room { OnOk result (self.new.has_room ≡ true) }
     {
         self.violations.reserve(1)?;
         Ok(())
