@@ -1,6 +1,6 @@
 -- A tick of a function is what the machine says of its entry.
 use Rattle.std.proofs.Common.{◌≡◌, ℕ, ◌*◌, ◌<◌, Bool, true, false, List, ◌∷◌, [], ◌++◌, length, Option, Some, None, refl, sym, ap, ◌∙◌, subst}
-use Rattle.std.specs.Prelude.{not, option_map}
+use Rattle.std.specs.Prelude.{IsSome, not, option_map}
 use Rattle.fab_types.specs.declared.faults.begin.TickFault.{TickFault}
 use Rattle.fab_types.specs.declared.faults.begin.TickFault.TheVariants.{NoFunction}
 use Rattle.frame_log.specs.Descriptor.{Descriptor}
@@ -11,7 +11,7 @@ use Rattle.layout.specs.Owners.{is_own_function}
 use Rattle.layout.specs.Share.{Share}
 use Rattle.domain.specs.declared.entry.Entry.{Entry}
 use Rattle.domain.specs.declared.entry.Entry.TheVariants.{Tick}
-use Rattle.domain.specs.Domains.{DomainView, Makes}
+use Rattle.domain.specs.Domains.{DomainView, Emits, Makes}
 use Rattle.domain.specs.Heads.{descriptor_of}
 use Rattle.domain.specs.Machine.{change, replay}
 use Rattle.domain.specs.State.{Alone}
@@ -62,3 +62,12 @@ makes_tick v w new f r plan domain sent same none is planned share journal state
     makes_seen v w new (Tick f) sent same
     (makes_end v new (Tick f) (sent_by f plan) sent share journal (tick_legal v.share v.state new.state f r plan none is planned state)
     (is_sent ∙ ap (λ (d : ℕ). option_map (descriptor_of d (length v.state.flight)) (sent_by f plan)) of))
+
+-- a line that sends is one that emits
+pub tick_emits : (v w : DomainView) (f : ℕ) (r : Option Plan) (plan : Plan) → v ≡ w → tick_fault v.share v.state f ≡ None
+    → r ≡ option_map (λ page. plan_of f page v.state.open_tags) (page_of v.state.registers f) → r ≡ Some plan → IsSome (sent_by f plan) → Emits w (Tick f)
+tick_emits v w f r plan same none is planned sends = subst (λ (u : DomainView). Emits u (Tick f)) same (record {
+  made = ticks_by v.state f plan;
+  legal = tick_legal v.share v.state (ticks_by v.state f plan).state f r plan none is planned refl;
+  emits = sends;
+})

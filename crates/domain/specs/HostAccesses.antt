@@ -1,6 +1,6 @@
 -- A request of the domain's own host for the register page of a function (PCIe 4.0, 2.2.5 and 2.2.6.2).
 use Rattle.std.specs.Prelude.{ℕ, ◌+◌, ◌*◌, ◌/◌, ◌%◌, ◌==◌, nat_le, Bool, false, ◌&&◌, not, List, [], ◌∷◌, length, Option, Some, None, if◌then◌else◌}
-use Rattle.std.specs.List.{find}
+use Rattle.std.specs.List.{find, range_with_len}
 use Rattle.std.specs.Option.{is_none}
 use Rattle.fab_types.specs.Id.{host_of}
 use Rattle.fab_types.specs.declared.faults.begin.MmioFault.{MmioFault}
@@ -33,9 +33,7 @@ is_in_page offset size = (offset % 4 == 0) && (size % 4 == 0) && nat_le 4 size &
 
 -- the 32 Tags of a host
 abbrev pub host_tags : List ℕ
-host_tags =
-    0 ∷ 1 ∷ 2 ∷ 3 ∷ 4 ∷ 5 ∷ 6 ∷ 7 ∷ 8 ∷ 9 ∷ 10 ∷ 11 ∷ 12 ∷ 13 ∷ 14 ∷ 15
-    ∷ 16 ∷ 17 ∷ 18 ∷ 19 ∷ 20 ∷ 21 ∷ 22 ∷ 23 ∷ 24 ∷ 25 ∷ 26 ∷ 27 ∷ 28 ∷ 29 ∷ 30 ∷ 31 ∷ []
+host_tags = range_with_len 0 32
 
 -- the lowest of them that isn't open
 unfoldable pub free_host_tag : List OpenTag → ℕ → Option ℕ

@@ -18,11 +18,8 @@ use function::{OpenTag, TagUse, is_open};
 use std::sync::Wait;
 use tlp_view::{Attributes, Enables, RequestBuf, RequestHead};
 
-/// The Tags of a host (PCIe 4.0, 2.2.6.2).
-const HOST_TAGS: [u8; 32] = [
-    0, 1, 2, 3, 4, 5, 6, 7, 8, 9, 10, 11, 12, 13, 14, 15, 16, 17, 18, 19, 20, 21, 22, 23, 24, 25,
-    26, 27, 28, 29, 30, 31,
-];
+/// How many Tags a host has, from 0 on (PCIe 4.0, 2.2.6.2).
+const HOST_TAGS: u8 = 32;
 
 /// How many bytes are read or written.
 fn size_of(operation: &Operation) -> u64
@@ -45,10 +42,7 @@ fn is_in_page(offset: u16, size: u64) -> bool
 fn free_host_tag(open_tags: &[OpenTag], domain: DomainId) -> Option<u8>
     ensures { result ≡ free_host_tag open_tags.now domain }
 {
-    HOST_TAGS
-        .iter()
-        .copied()
-        .find(|tag| !is_open(open_tags, Origin::Host(domain), *tag))
+    (0..HOST_TAGS).find(|tag| !is_open(open_tags, Origin::Host(domain), *tag))
 }
 
 /// The Tag of the request, if it needs none or one is free.

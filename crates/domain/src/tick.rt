@@ -1,6 +1,6 @@
 //! A tick of a function's DMA program.
 
-ghost use Rattle.std.specs.Prelude.{◌≡◌, ℕ, List, IfOk, IfSome, None, OnErr, Some, option_map};
+ghost use Rattle.std.specs.Prelude.{◌≡◌, ℕ, List, Err, IfOk, IfSome, None, OnErr, Some, option_map};
 ghost use Rattle.std.specs.Result.{IsOkUnless};
 ghost use Rattle.fab_types.specs.declared.faults.begin.TickFault.{TickFault};
 ghost use Rattle.function.specs.Plans.{PlanFits, plan_of};
@@ -15,7 +15,7 @@ use std::sync::Wait;
 
 impl Domain {
     ghost use Rattle.domain.specs.declared.entry.Entry.TheVariants.{Tick};
-    ghost use Rattle.domain.specs.Domains.{Makes};
+    ghost use Rattle.domain.specs.Domains.{Emits, Makes};
 
     /// The first refusal that applies to a tick of this function, memory aside.
     fn tick_fault(&self, function: Bdf) -> Option<TickFault>
@@ -40,6 +40,8 @@ impl Domain {
         // Which refusal it is: the first that applies. Without one only memory may be refused.
         ensures refused { (fault : TickFault) → tick_fault self.old.share self.old.state function ≡ Some fault → result ≡ Err fault }
         ensures accepted { tick_fault self.old.share self.old.state function ≡ None → IsOkUnless result TickFault.NoMemory }
+        // Memory is refused only to a line that sends.
+        ensures memory { result ≡ Err TickFault.NoMemory → Emits self.old (Tick function) }
         ensures err { OnErr result (self.new ≡ self.old) }
     {
         if let Some(fault) = self.tick_fault(function) {

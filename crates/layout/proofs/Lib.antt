@@ -6,6 +6,7 @@ pub mod NoFault
 pub mod Nesting
 pub mod Levels
 pub mod Sharing
+pub mod FrameOwners
 pub mod Keeping
 pub mod Ranges
 pub mod Reached

@@ -1,6 +1,9 @@
 //! What is wrong with a `map` line.
 
-ghost use Rattle.std.specs.Prelude.{◌≡◌, IfNone, false};
+ghost use Rattle.std.specs.Prelude.{◌≡◌, IfNone, false, true};
+ghost use Rattle.std.specs.List.{find};
+ghost use Rattle.std.specs.Option.{option_copied};
+ghost use Rattle.layout.specs.Laws.{each_pair, share_no_frame};
 ghost use Rattle.layout.specs.Rules.{is_known_target, is_past_frames, is_mapping_of, is_foreign_frame, is_foreign, is_of_requester, is_mapped, has_full_table, map_fault};
 
 use crate::lines::{FunctionLine, MapLine, MapTarget, PortLine};
@@ -38,17 +41,26 @@ pub(crate) fn is_mapping_of(frame: u32, target: MapTarget) -> bool
     }
 }
 
-/// Did a function of another domain map the frame?
-#[tactic(auto, unfolding(crate::specs::Rules::is_foreign_frame))]
+fn first_mapping(maps: &[MapLine], frame: u32) -> Option<&MapLine>
+    ensures { option_copied result ≡ find (λ line. is_mapping_of frame line.target) maps.now }
+{
+    maps.iter().find(|line| is_mapping_of(frame, line.target))
+}
+
+/// Did a function of another domain map the frame? All that mapped it are of one domain, so the first
+/// of them tells.
 fn is_foreign_frame(ports: &[PortLine], maps: &[MapLine], domain: u8, frame: u32) -> bool
+    requires { each_pair (share_no_frame ports.now) maps.now ≡ true }
     ensures { result ≡ is_foreign_frame ports.now maps.now domain frame }
 {
-    maps.iter().any(|line| {
-        is_mapping_of(frame, line.target) && domain_of(ports, line.requester) != domain
-    })
+    match first_mapping(maps, frame) {
+        Some(line) => domain_of(ports, line.requester) != domain,
+        None => false,
+    }
 }
 
 fn is_foreign(ports: &[PortLine], maps: &[MapLine], domain: u8, target: &TargetText) -> bool
+    requires { each_pair (share_no_frame ports.now) maps.now ≡ true }
     ensures { result ≡ is_foreign ports.now maps.now domain target.now }
 {
     match target {

@@ -36,7 +36,7 @@ fn find_port_over(ports: &[PortLine], id: Bdf) -> Option<&PortLine>
 }
 
 /// The port directly above what has this ID.
-pub(crate) fn port_over(ports: &[PortLine], id: Bdf) -> Option<PortLine>
+pub fn port_over(ports: &[PortLine], id: Bdf) -> Option<PortLine>
     ensures { result ≡ port_over ports.now id }
 {
     find_port_over(ports, id).copied()
@@ -78,7 +78,7 @@ pub(crate) fn switch_on(switches: &[SwitchLine], bus: u8) -> Option<SwitchLine>
 }
 
 /// The port above a switch, if it isn't the top one.
-pub(crate) fn port_above(ports: &[PortLine], switch: &SwitchLine) -> Option<PortLine>
+pub fn port_above(ports: &[PortLine], switch: &SwitchLine) -> Option<PortLine>
     ensures { result ≡ port_above ports.now switch.now }
 {
     let above = switch.above?;

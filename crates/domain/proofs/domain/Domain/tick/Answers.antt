@@ -3,7 +3,7 @@ use Rattle.domain.specs.declared.entry.Entry.TheVariants.{Tick}
 use Rattle.domain.specs.Kept.{view_of}
 use Rattle.domain.specs.Ticks.{sent_by}
 use Rattle.domain.proofs.Keeping.{replays_more}
-use Rattle.domain.proofs.Ticking.{has_plan, makes_tick, no_tick_fault, tick_legal, tick_room}
+use Rattle.domain.proofs.Ticking.{has_plan, makes_tick, no_tick_fault, tick_emits, tick_legal, tick_room}
 use Rattle.domain.proofs.domain.Domain.tick.Goals as goal
 
 pub unreachable-requires : goal.unreachable-requires
@@ -37,3 +37,9 @@ returns-clause-ok g c =
     let d = c.self.inside in
     let none = no_tick_fault (view_of d) c.args.self.now c.args.function _ c.self.view_is c.in_default.is c.tick_fault.ensures in
     makes_tick (view_of d) c.args.self.now _ c.args.function _ c.in-Some-planned.plan _ c.in-Ok.sent c.self.view_is none c.planned.ensures.value c.in-Some-planned.is refl c.push_reserved.ensures.items c.in-Ok.ensures.state c.domain.ensures c.in-Ok.ensures.sent
+
+pub returns-in_default-tick-clause-memory : goal.returns-in_default-tick-clause-memory
+returns-in_default-tick-clause-memory g c refused =
+    let d = c.self.inside in
+    let none = no_tick_fault (view_of d) c.args.self.now c.args.function _ c.self.view_is c.in_default.is c.tick_fault.ensures in
+    tick_emits (view_of d) c.args.self.now c.args.function _ c.in-Some-planned.plan c.self.view_is none c.planned.ensures.value c.in-Some-planned.is c.in_default-tick.ensures.err.1
