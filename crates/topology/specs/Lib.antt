@@ -1,0 +1,4 @@
+pub mod Nodes
+pub mod Links
+pub mod Places
+pub mod Topologies

@@ -1,0 +1,15 @@
+//! Where links and the ports of switches stand in the tree of a layout.
+#![tactic(auto)]
+
+mod links;
+mod nodes;
+mod places;
+mod topology;
+
+pub use links::Link;
+pub use nodes::LinkEnd;
+pub use places::PortPlace;
+pub use topology::Topology;
+
+#[cfg(test)]
+mod tests;

@@ -1,0 +1,112 @@
+//! The nodes of a tree, and the lanes that lead out of them.
+
+ghost use Rattle.std.specs.Prelude.{◌≡◌, ◌==◌, ◌+◌, ◌<◌, IfSome, length, count_by};
+ghost use Rattle.std.specs.List.{position, filter};
+ghost use Rattle.layout.specs.Rules.{is_on_bus};
+ghost use Rattle.layout.specs.Tree.{internal_bus};
+ghost use Rattle.topology.specs.Nodes.{root_end, ports_on, lanes_of_switch, lane_of, end_of_port, downstream_end, function_end, upstream_end_at, upstream_end};
+
+use fab_types::{Bdf, PortId};
+use layout::{FunctionLine, Layout, PortLine, SwitchLine, internal_bus};
+
+/// Where packets are sent from in one direction of a link: a node of the tree, and one of its lanes. The
+/// nodes are the root complex, the switches and the functions, in this order. The root complex and a
+/// function have lane 0 alone; out of a switch lane 0 leads up, and the lanes from 1 on lead down.
+#[derive(Clone, Copy, Debug, PartialEq, Eq)]
+pub struct LinkEnd {
+    pub node: usize,
+    pub lane: usize,
+}
+
+/// The root port.
+pub(crate) fn root_end() -> LinkEnd
+    ensures { result ≡ root_end }
+{
+    LinkEnd { node: 0, lane: 0 }
+}
+
+fn is_on_bus(bus: u16, port: &PortLine) -> bool
+    ensures { result ≡ is_on_bus bus port.now }
+{
+    u16::from(port.id.id().bus()) == bus
+}
+
+/// Where a port stands among the ports of its switch.
+fn place_on(ports: &[PortLine], bus: u16, id: PortId) -> Option<usize>
+    ensures place { result ≡ position (λ port. port.id == id) (ports_on ports.now bus) }
+    ensures within { IfSome result (λ place. place < length ports.now) }
+{
+    ports
+        .iter()
+        .filter(|port| is_on_bus(bus, port))
+        .position(|port| port.id == id)
+}
+
+/// How many lanes lead out of a switch.
+pub(crate) fn lanes_of_switch(ports: &[PortLine], switch: &SwitchLine) -> usize
+    ensures { result ≡ lanes_of_switch ports.now switch.now }
+{
+    let bus = internal_bus(switch);
+    1 + ports.iter().filter(|port| is_on_bus(bus, port)).count()
+}
+
+fn lane_of(ports: &[PortLine], port: &PortLine) -> usize
+    ensures { result ≡ lane_of ports.now port.now }
+{
+    match place_on(ports, u16::from(port.id.id().bus()), port.id) {
+        Some(place) => place + 1,
+        None => 0,
+    }
+}
+
+fn switch_on(switches: &[SwitchLine], bus: u16) -> Option<usize>
+    ensures { result ≡ position (λ switch. internal_bus switch == bus) switches.now }
+{
+    switches
+        .iter()
+        .position(|switch| internal_bus(switch) == bus)
+}
+
+fn switch_with(switches: &[SwitchLine], id: Bdf) -> Option<usize>
+    ensures { result ≡ position (λ switch. switch.id == id) switches.now }
+{
+    switches.iter().position(|switch| switch.id == id)
+}
+
+fn function_with(functions: &[FunctionLine], id: Bdf) -> Option<usize>
+    ensures { result ≡ position (λ function. function.id == id) functions.now }
+{
+    functions.iter().position(|function| function.id == id)
+}
+
+/// Where packets are sent down from a downstream port.
+pub(crate) fn downstream_end(layout: &Layout, port: &PortLine) -> LinkEnd
+    ensures { result ≡ downstream_end layout.now port.now }
+{
+    match switch_on(layout.switches(), u16::from(port.id.id().bus())) {
+        Some(place) => LinkEnd {
+            node: 1 + place,
+            lane: lane_of(layout.ports(), port),
+        },
+        None => root_end(),
+    }
+}
+
+/// Where packets are sent up from the upstream port of a switch, or from a function.
+pub(crate) fn upstream_end(layout: &Layout, id: Bdf) -> LinkEnd
+    ensures { result ≡ upstream_end layout.now id }
+{
+    if let Some(place) = switch_with(layout.switches(), id) {
+        return LinkEnd {
+            node: 1 + place,
+            lane: 0,
+        };
+    }
+    match function_with(layout.functions(), id) {
+        Some(place) => LinkEnd {
+            node: 1 + layout.switches().len() + place,
+            lane: 0,
+        },
+        None => root_end(),
+    }
+}
