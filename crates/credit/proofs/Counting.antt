@@ -2,8 +2,10 @@
 use Rattle.std.proofs.Common.{◌≡◌, ℕ, ◌+◌, ◌%◌, ◌<◌, ◌≤◌, ◌↔◌, refl, sym, ap, ◌∙◌, add-zero, arith}
 use Rattle.std.proofs.Math.Nat.{mod-add-mod, mod-eq_of_lt}
 use Rattle.credit.specs.Kinds.{Class, Cost, Kind, size_of, where_same, amount_of, cost_of}
-use Rattle.credit.specs.Limits.{Counters, credits_at, at, further, with_credits, counted}
+use Rattle.credit.specs.Counter.{distance}
+use Rattle.credit.specs.Limits.{Counters, credits_at, at, back, further, with_credits, counted, uncounted}
 use Rattle.credit.specs.Totals.{Count, with_cost}
+use Rattle.credit.proofs.Distances.{distance-zero, distance-uncounted}
 
 -- a counter that is not touched
 kept : (n x : ℕ) → x < n → x ≡ (x + 0) % n
@@ -43,6 +45,41 @@ Count-counted total c cost counts k =
     let is = counts k in
     let below : at c k < size_of k = omega arith in
     at-counted c cost k below ∙ (ap (λ m. (m + cost_of cost k) % size_of k) is ∙ mod-add-mod (total k) (size_of k) (cost_of cost k))
+
+-- a counter that is not taken back
+stays : (n x : ℕ) → x < n → x ≡ distance n 0 x
+stays n x h = sym (distance-zero n x h)
+
+-- each counter goes back by what its kind costs
+at-discharged : (class : Class) (n : ℕ) (c : Counters) (k : Kind) → at c k < size_of k → at (with_credits c class (back (credits_at c class) n)) k ≡ distance (size_of k) (amount_of class n k % size_of k) (at c k)
+at-discharged Class.Posted n c (Kind.Headers Class.Posted) h = refl
+at-discharged Class.Posted n c (Kind.Headers Class.NonPosted) h = stays 256 (at c (Kind.Headers Class.NonPosted)) h
+at-discharged Class.Posted n c (Kind.Headers Class.Completion) h = stays 256 (at c (Kind.Headers Class.Completion)) h
+at-discharged Class.Posted n c (Kind.Data Class.Posted) h = refl
+at-discharged Class.Posted n c (Kind.Data Class.NonPosted) h = stays 4096 (at c (Kind.Data Class.NonPosted)) h
+at-discharged Class.Posted n c (Kind.Data Class.Completion) h = stays 4096 (at c (Kind.Data Class.Completion)) h
+at-discharged Class.NonPosted n c (Kind.Headers Class.Posted) h = stays 256 (at c (Kind.Headers Class.Posted)) h
+at-discharged Class.NonPosted n c (Kind.Headers Class.NonPosted) h = refl
+at-discharged Class.NonPosted n c (Kind.Headers Class.Completion) h = stays 256 (at c (Kind.Headers Class.Completion)) h
+at-discharged Class.NonPosted n c (Kind.Data Class.Posted) h = stays 4096 (at c (Kind.Data Class.Posted)) h
+at-discharged Class.NonPosted n c (Kind.Data Class.NonPosted) h = refl
+at-discharged Class.NonPosted n c (Kind.Data Class.Completion) h = stays 4096 (at c (Kind.Data Class.Completion)) h
+at-discharged Class.Completion n c (Kind.Headers Class.Posted) h = stays 256 (at c (Kind.Headers Class.Posted)) h
+at-discharged Class.Completion n c (Kind.Headers Class.NonPosted) h = stays 256 (at c (Kind.Headers Class.NonPosted)) h
+at-discharged Class.Completion n c (Kind.Headers Class.Completion) h = refl
+at-discharged Class.Completion n c (Kind.Data Class.Posted) h = stays 4096 (at c (Kind.Data Class.Posted)) h
+at-discharged Class.Completion n c (Kind.Data Class.NonPosted) h = stays 4096 (at c (Kind.Data Class.NonPosted)) h
+at-discharged Class.Completion n c (Kind.Data Class.Completion) h = refl
+
+pub at-uncounted : (c : Counters) (cost : Cost) (k : Kind) → at c k < size_of k → at (uncounted c cost) k ≡ distance (size_of k) (cost_of cost k % size_of k) (at c k)
+at-uncounted c cost k h = at-discharged cost.class cost.data c k h
+
+pub Count-uncounted : (total : Kind → ℕ) (c : Counters) (cost : Cost) → Count (with_cost total cost) c → Count total (uncounted c cost)
+Count-uncounted total c cost counts k =
+    let positive = size_positive k in
+    let is = counts k in
+    let below : at c k < size_of k = omega arith in
+    at-uncounted c cost k below ∙ (ap (λ m. distance (size_of k) (cost_of cost k % size_of k) m) is ∙ distance-uncounted (size_of k) (total k) (cost_of cost k) positive)
 
 -- a fact about a cost of one class, and about none
 where_same_le : (class c : Class) (n : ℕ) (left : Class → ℕ) → n ≤ left class → where_same class c n ≤ left c

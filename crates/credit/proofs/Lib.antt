@@ -1,3 +1,4 @@
 pub mod Counting
 pub mod Distances
+pub mod Freeing
 pub mod Standing

@@ -25,6 +25,10 @@ zero_counters = record { posted = no_credits; non_posted = no_credits; completio
 abbrev pub further : Credits → ℕ → Credits
 further c n = record { headers = (c.headers + 1) % 256; payload = (c.payload + n) % 4096 }
 
+-- one header and n data credits back
+abbrev pub back : Credits → ℕ → Credits
+back c n = record { headers = distance 256 1 c.headers; payload = distance 4096 (n % 4096) c.payload }
+
 -- the counters with one class's credits in place of those that it had
 abbrev pub with_credits : Counters → Class → Credits → Counters
 with_credits c Class.Posted x = record { posted = x; non_posted = c.non_posted; completion = c.completion }
@@ -34,6 +38,10 @@ with_credits c Class.Completion x = record { posted = c.posted; non_posted = c.n
 -- the counters once a packet of this cost is counted
 abbrev pub counted : Counters → Cost → Counters
 counted c cost = with_credits c cost.class (further (credits_at c cost.class) cost.data)
+
+-- the counters from which a packet of this cost leads to these
+abbrev pub uncounted : Counters → Cost → Counters
+uncounted c cost = with_credits c cost.class (back (credits_at c cost.class) cost.data)
 
 -- a receiver may advertise these at the start: less than half of what a counter holds
 abbrev pub MayStart : Counters → Type 0

@@ -49,6 +49,16 @@ impl<const SIZE: u16> Counter<SIZE> {
         }
     }
 
+    /// The counter so many credits before.
+    pub fn minus(self, credits: u16) -> Self
+        ensures { result ≡ distance SIZE (credits % SIZE) self.entry }
+    {
+        let behind = u32::from(self.value) + u32::from(SIZE - credits % SIZE);
+        Counter {
+            value: (behind % u32::from(SIZE)) as u16,
+        }
+    }
+
     /// How many credits this counter is behind `other`, modulo `SIZE`.
     pub fn distance_to(self, other: Self) -> u16
         ensures { result ≡ distance SIZE self.entry other.entry }

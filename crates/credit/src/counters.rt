@@ -1,7 +1,7 @@
 //! The counters of the six kinds.
 
 ghost use Rattle.std.specs.Prelude.{◌≡◌, ◌<◌};
-ghost use Rattle.credit.specs.Limits.{credits_at, further, counted, zero_counters};
+ghost use Rattle.credit.specs.Limits.{back, credits_at, further, counted, uncounted, zero_counters};
 
 use crate::counter::Counter;
 use fab_types::{Class, Cost};
@@ -39,6 +39,15 @@ impl Credits {
         Credits {
             headers: self.headers.plus(1),
             payload: self.payload.plus(payload),
+        }
+    }
+
+    fn minus(self, payload: u16) -> Credits
+        ensures { result ≡ back self payload }
+    {
+        Credits {
+            headers: self.headers.minus(1),
+            payload: self.payload.minus(payload),
         }
     }
 }
@@ -100,6 +109,34 @@ impl Counters {
                 posted,
                 non_posted,
                 completion: completion.plus(cost.data),
+            },
+        }
+    }
+
+    /// The counters from which a packet of this cost leads to these.
+    pub(crate) fn minus(self, cost: Cost) -> Counters
+        ensures { result ≡ uncounted self cost }
+    {
+        let Counters {
+            posted,
+            non_posted,
+            completion,
+        } = self;
+        match cost.class {
+            Class::Posted => Counters {
+                posted: posted.minus(cost.data),
+                non_posted,
+                completion,
+            },
+            Class::NonPosted => Counters {
+                posted,
+                non_posted: non_posted.minus(cost.data),
+                completion,
+            },
+            Class::Completion => Counters {
+                posted,
+                non_posted,
+                completion: completion.minus(cost.data),
             },
         }
     }

@@ -2,7 +2,7 @@
 
 ghost use Rattle.std.specs.Prelude.{◌≡◌, ℕ};
 ghost use Rattle.credit.specs.Kinds.{Kind};
-ghost use Rattle.credit.specs.Limits.{Allotment, counted, zero_counters};
+ghost use Rattle.credit.specs.Limits.{Allotment, counted, uncounted, zero_counters};
 ghost use Rattle.credit.specs.Totals.{Count, with_cost};
 
 use crate::counters::{Counters, Limits};
@@ -52,6 +52,14 @@ impl Receiver {
         ensures totals { (limit : Kind → ℕ) → Count limit self.old.limit → Count (with_cost limit cost) self.new.limit }
     {
         self.limit = self.limit.plus(cost);
+    }
+
+    /// Takes the credits of a packet back that were freed, and that no sender was told of.
+    pub fn reclaim(&mut self, cost: Cost)
+        ensures exact { self.new ≡ record self.old { limit = uncounted self.old.limit cost } }
+        ensures totals { (limit : Kind → ℕ) → Count (with_cost limit cost) self.old.limit → Count limit self.new.limit }
+    {
+        self.limit = self.limit.minus(cost);
     }
 
     /// The limits as they are now, for the sender.

@@ -3,7 +3,7 @@
 ghost use Rattle.std.specs.Prelude.{◌≡◌, ◌<◌, ◌^◌, ℕ, [], None, ◌∷◌, ◌++◌, ◌≢◌, IsTrue, ◌↔◌, MatchBool, MatchResult, OnErr};
 ghost use Rattle.port_queue.specs.Queue.{count_of};
 ghost use Rattle.port.specs.Lanes.{class_of};
-ghost use Rattle.port.specs.Queues.{frames_of, frames_restored};
+ghost use Rattle.port.specs.Queues.{frames_of, frames_restored, IsSorted};
 
 use crate::lanes::{LaneIn, LaneOut};
 use fab_types::{Class, Head};
@@ -45,7 +45,8 @@ impl<const CAP: usize> FrameQueue<CAP> {
 
     /// Do `CAP` packets of the class wait?
     pub fn has_no_place(&self, class: Class) -> bool
-        ensures { IsTrue result ↔ (count_of class self.now.queue.waiting ≡ CAP) }
+        ensures exact { IsTrue result ↔ (count_of class self.now.queue.waiting ≡ CAP) }
+        ensures sorted { IsSorted self.now.queue.waiting }
     {
         self.queue.is_full(class)
     }
