@@ -120,7 +120,7 @@ spent-stands sent limit s cost range room stands = record {
       (omega arith, omega arith);
 }
 
-at-zero : (k : Kind) → at zero_counters k ≡ 0
+pub at-zero : (k : Kind) → at zero_counters k ≡ 0
 at-zero (Kind.Headers Class.Posted) = refl
 at-zero (Kind.Headers Class.NonPosted) = refl
 at-zero (Kind.Headers Class.Completion) = refl

@@ -1,0 +1,5 @@
+pub mod Totals
+pub mod Credits
+pub mod Keeping
+pub mod Moving
+pub mod Stepping

@@ -1,0 +1,195 @@
+-- The steps of a link, from what each leaves of the parts to what it keeps and what happened.
+use Rattle.std.proofs.Common.{◌≡◌, ◌≢◌, ℕ, ◌+◌, ◌-◌, ◌≤◌, ◌<◌, Bool, true, false, cond, List, [], ◌∷◌, ◌++◌, Option, Some, None, refl, sym, ap, ◌∙◌, subst, arith}
+use Rattle.std.specs.Prelude.{MatchBool, MatchOption, IfSome, IsSome, slice_get, nat_le, ◌&&◌}
+use Rattle.fab_types.specs.declared.head.Head.{Head}
+use Rattle.frame_log.specs.Descriptor.{Descriptor}
+use Rattle.credit.specs.Kinds.{Class, Cost, Kind, cost_of}
+use Rattle.credit.specs.Limits.{Ledger, Allotment, at, counted, uncounted, zero_counters, left_of, MayStart}
+use Rattle.credit.specs.declared.counters.Counters.{Counters}
+use Rattle.credit.proofs.Counting.{covers-all}
+use Rattle.port_queue.specs.Queue.{Queue, count_of}
+use Rattle.port.specs.Lanes.{class_of, eligible}
+use Rattle.port.specs.Queues.{Waiting, IsSorted, frames_of, frames_restored}
+use Rattle.link.specs.Channels.{send, receive, tell, total}
+use Rattle.link.specs.Simplexes.{IsCounted, has_place, left_counters}
+use Rattle.link.specs.Steps.{IsStuck, Lands, Launches}
+use Rattle.link.proofs.Totals.{count-total, total-append, total-sent, total-landed, total-taken, total-restored}
+use Rattle.link.proofs.Credits.{at-left, both-true, true-both}
+use Rattle.link.proofs.Keeping.{start-counted, moved-counted, spent-counted, told-counted, freed-counted, reclaimed-counted}
+use Rattle.link.proofs.Moving.{link_of, send-some, send-none, receive-some, receive-none, tell-some, tell-none}
+
+-- ---- the start
+
+pub started : (limits : Counters) (s : Ledger) (receiver : Allotment) (wire : List Descriptor) (ingress : Waiting) → MayStart limits
+    → s ≡ record { sent = zero_counters; limit = limits; start = limits } → receiver ≡ record { taken = zero_counters; limit = limits } → wire ≡ []
+    → ingress ≡ record { queue = record { waiting = []; gap = None }; misses = 0; refusals = 0 }
+    → IsCounted s receiver.limit (wire ++ frames_of ingress.queue.waiting)
+started limits s receiver wire ingress may sender_is receiver_is wire_is ingress_is =
+    rw (sender_is, receiver_is, wire_is, ingress_is) (start-counted limits may)
+
+-- ---- what is sent
+
+same_link : (s s' : Ledger) (egress egress' wire wire' ingress ingress' : List Descriptor) → s' ≡ s → egress' ≡ egress → wire' ≡ wire → ingress' ≡ ingress → link_of s' egress' wire' ingress' ≡ link_of s egress wire ingress
+same_link s s' egress egress' wire wire' ingress ingress' sender waits travels arrived =
+    ap (λ (t : Ledger). link_of t egress' wire' ingress') sender
+    ∙ (ap (λ (x : List Descriptor). link_of s x wire' ingress') waits
+    ∙ (ap (λ (x : List Descriptor). link_of s egress x ingress') travels ∙ ap (λ (x : List Descriptor). link_of s egress wire x) arrived))
+
+pub sent : (class : Class) (answer : Bool) (s s' : Ledger) (limit : Counters) (egress egress' wire wire' ingress : List Descriptor) → IsCounted s limit (wire ++ ingress)
+    → (answer ≡ true → Launches class egress s wire egress' s' wire')
+    → (answer ≡ false → IsStuck class egress s)
+    → (answer ≡ false → (egress' ≡ egress) × (s' ≡ s) × (wire' ≡ wire))
+    → MatchBool answer (send class (link_of s egress wire ingress) ≡ Some (link_of s' egress' wire' ingress))
+        ((send class (link_of s egress wire ingress) ≡ None) × (link_of s' egress' wire' ingress ≡ link_of s egress wire ingress))
+sent class true s s' limit egress egress' wire wire' ingress kept went stuck rests = send-some class s s' egress egress' wire wire' ingress kept.range (went refl)
+sent class false s s' limit egress egress' wire wire' ingress kept went stuck rests =
+    let r = rests refl in
+    (send-none class s egress wire ingress (stuck refl), same_link s s' egress egress' wire wire' ingress ingress r.1 r.0 r.2 refl)
+
+pub sent-kept : (class : Class) (answer : Bool) (s s' : Ledger) (limit : Counters) (egress egress' wire wire' ingress : List Descriptor) → IsCounted s limit (wire ++ ingress)
+    → (answer ≡ true → Launches class egress s wire egress' s' wire')
+    → (answer ≡ false → (egress' ≡ egress) × (s' ≡ s) × (wire' ≡ wire))
+    → IsCounted s' limit (wire' ++ ingress)
+sent-kept class true s s' limit egress egress' wire wire' ingress kept went rests =
+    let w = went refl in
+    subst (λ (t : Ledger). IsCounted t limit (wire' ++ ingress)) (sym w.spends)
+    (spent-counted s limit w.frame.head.cost (wire ++ ingress) (wire' ++ ingress) (λ k. ap (λ (x : List Descriptor). total k (x ++ ingress)) w.behind ∙ total-sent k wire ingress w.frame) w.room kept)
+sent-kept class false s s' limit egress egress' wire wire' ingress kept went rests =
+    let r = rests refl in
+    subst (λ (t : Ledger). IsCounted t limit (wire' ++ ingress)) (sym r.1) (subst (λ (x : List Descriptor). IsCounted s limit (x ++ ingress)) (sym r.2) kept)
+
+-- ---- what arrives
+
+pub full_never : (head : Head) (f : Descriptor) (ws : List (Class × Descriptor)) → head ≡ f.head → IsSorted ws → total (Kind.Headers (class_of f)) (frames_of ws) < 127 → count_of head.cost.class ws ≡ 127 → ⊥
+full_never head f ws e sorted place full =
+    let same : total (Kind.Headers head.cost.class) (frames_of ws) ≡ total (Kind.Headers (class_of f)) (frames_of ws) = ap (λ (h : Head). total (Kind.Headers h.cost.class) (frames_of ws)) e in
+    let counts = count-total head.cost.class ws sorted in
+    omega arith
+
+pub none_waits : (wire wire' : List Descriptor) → slice_get wire 0 ≡ None → wire ≡ wire' → (wire ≡ []) × (wire' ≡ [])
+none_waits [] wire' h e = (refl, sym e)
+none_waits (x ∷ xs) wire' h e = absurd cc
+
+pub landed : (answer : Bool) (s : Ledger) (egress wire wire' ingress ingress' : List Descriptor)
+    → (answer ≡ true → Lands wire ingress wire' ingress')
+    → (answer ≡ false → (wire ≡ []) × (wire' ≡ []) × (ingress' ≡ ingress))
+    → MatchBool answer (receive (link_of s egress wire ingress) ≡ Some (link_of s egress wire' ingress'))
+        ((receive (link_of s egress wire ingress) ≡ None) × (link_of s egress wire' ingress' ≡ link_of s egress wire ingress))
+landed true s egress wire wire' ingress ingress' went rests = receive-some s egress wire wire' ingress ingress' (went refl)
+landed false s egress wire wire' ingress ingress' went rests =
+    let r = rests refl in
+    (receive-none s egress wire ingress r.0, same_link s s egress egress wire wire' ingress ingress' refl refl (r.1 ∙ sym r.0) r.2)
+
+pub landed-kept : (answer : Bool) (s : Ledger) (limit : Counters) (wire wire' ingress ingress' : List Descriptor) → IsCounted s limit (wire ++ ingress)
+    → (answer ≡ true → Lands wire ingress wire' ingress')
+    → (answer ≡ false → (wire ≡ []) × (wire' ≡ []) × (ingress' ≡ ingress))
+    → IsCounted s limit (wire' ++ ingress')
+landed-kept true s limit wire wire' ingress ingress' kept went rests =
+    let w = went refl in
+    moved-counted s limit (wire ++ ingress) (wire' ++ ingress')
+    (λ k. ap (λ (x : List Descriptor). total k (wire' ++ x)) w.behind ∙ (total-landed k wire' ingress w.frame ∙ ap (λ (x : List Descriptor). total k (x ++ ingress)) (sym w.oldest))) kept
+landed-kept false s limit wire wire' ingress ingress' kept went rests =
+    let r = rests refl in
+    moved-counted s limit (wire ++ ingress) (wire' ++ ingress')
+    (λ k. ap (λ (x : List Descriptor). total k (x ++ ingress')) (r.1 ∙ sym r.0) ∙ ap (λ (x : List Descriptor). total k (wire ++ x)) r.2) kept
+
+-- ---- what is told
+
+pub heard : (answer : Bool) (s s' : Ledger) (limit told : Counters) (egress wire ingress : List Descriptor) → IsCounted s limit (wire ++ ingress) → told ≡ limit
+    → (answer ≡ true → (s' ≡ record s { limit = told }) × (told ≢ s.limit))
+    → (answer ≡ false → (s' ≡ s) × (told ≡ s.limit))
+    → MatchBool answer (tell (link_of s egress wire ingress) ≡ Some (link_of s' egress wire ingress))
+        ((tell (link_of s egress wire ingress) ≡ None) × (link_of s' egress wire ingress ≡ link_of s egress wire ingress))
+heard true s s' limit told egress wire ingress kept is new known =
+    let n = new refl in
+    tell-some s s' told egress wire ingress (subst (λ (l : Counters). IsCounted s l (wire ++ ingress)) (sym is) kept) n.0 n.1
+heard false s s' limit told egress wire ingress kept is new known =
+    let k = known refl in
+    (tell-none s limit egress wire ingress kept (sym is ∙ k.1), ap (λ (t : Ledger). link_of t egress wire ingress) k.0)
+
+pub heard-kept : (answer : Bool) (s s' : Ledger) (limit told : Counters) (behind : List Descriptor) → IsCounted s limit behind → told ≡ limit
+    → (answer ≡ true → (s' ≡ record s { limit = told }) × (told ≢ s.limit))
+    → (answer ≡ false → (s' ≡ s) × (told ≡ s.limit))
+    → IsCounted s' limit behind
+heard-kept true s s' limit told behind kept is new known =
+    subst (λ (t : Ledger). IsCounted t limit behind) (sym ((new refl).0 ∙ ap (λ (l : Counters). record s { limit = l }) is)) (told-counted s limit behind kept)
+heard-kept false s s' limit told behind kept is new known =
+    subst (λ (t : Ledger). IsCounted t limit behind) (sym (known refl).0) kept
+
+-- ---- what leaves, and comes back
+
+-- a packet more of what travels and waits
+total-behind : (k : Kind) (wire less more : List Descriptor) (n : ℕ) → total k more ≡ n + total k less → total k (wire ++ more) ≡ n + total k (wire ++ less)
+total-behind k wire less more n h =
+    let some = total-append k wire more in
+    let others = total-append k wire less in
+    omega arith
+
+abbrev pub Took : Class → List Descriptor → List Descriptor → Option Descriptor → Type 0
+Took class ingress ingress' result = MatchOption result ((eligible class ingress ≡ None) × (ingress' ≡ ingress)) (λ f. eligible class ingress ≡ Some (f, ingress'))
+
+abbrev pub Freed : Counters → Counters → Option Descriptor → Type 0
+Freed limit limit' result = MatchOption result (limit' ≡ limit) (λ f. limit' ≡ counted limit f.head.cost)
+
+pub took-kept : (class : Class) (result : Option Descriptor) (s : Ledger) (limit limit' : Counters) (wire ingress ingress' : List Descriptor) → IsCounted s limit (wire ++ ingress)
+    → Took class ingress ingress' result → Freed limit limit' result → IsCounted s limit' (wire ++ ingress')
+took-kept class None s limit limit' wire ingress ingress' kept took freed =
+    subst (λ (l : Counters). IsCounted s l (wire ++ ingress')) (sym freed) (subst (λ (x : List Descriptor). IsCounted s limit (wire ++ x)) (sym took.1) kept)
+took-kept class (Some f) s limit limit' wire ingress ingress' kept took freed =
+    subst (λ (l : Counters). IsCounted s l (wire ++ ingress')) (sym freed)
+    (freed-counted s limit f.head.cost (wire ++ ingress) (wire ++ ingress') (λ k. total-behind k wire ingress' ingress (cost_of f.head.cost k) (total-taken k class ingress ingress' f took)) kept)
+
+-- what a kind's start leaves beside the credits that are left, and all that travels and waits
+abbrev spare : Ledger → List Descriptor → Kind → ℕ
+spare s behind k = at s.start k - (left_of s k + total k behind)
+
+place-true : (s : Ledger) (egress wire ingress : List Descriptor) (cost : Cost) → ((k : Kind) → left_of s k + (cost_of cost k + total k (wire ++ ingress)) ≤ at s.start k) → has_place (link_of s egress wire ingress) cost ≡ true
+place-true s egress wire ingress cost room =
+    let both = (covers-all cost.class cost.data (spare s (wire ++ ingress))).1 (λ k. let r = room k in omega arith) in
+    let first = both.0 in let second = both.1 in
+    let headers = room (Kind.Headers cost.class) in
+    let payload = room (Kind.Data cost.class) in
+    let header_left = at-left s.sent s.limit (Kind.Headers cost.class) in
+    let payload_left = at-left s.sent s.limit (Kind.Data cost.class) in
+    both-true
+    (at (left_counters s.sent s.limit) (Kind.Headers cost.class) + total (Kind.Headers cost.class) (wire ++ ingress) + 1) (at s.start (Kind.Headers cost.class))
+    (at (left_counters s.sent s.limit) (Kind.Data cost.class) + total (Kind.Data cost.class) (wire ++ ingress) + cost.data) (at s.start (Kind.Data cost.class))
+    (omega arith) (omega arith)
+
+true-place : (s : Ledger) (limit : Counters) (egress wire ingress : List Descriptor) (cost : Cost) → IsCounted s limit (wire ++ ingress) → has_place (link_of s egress wire ingress) cost ≡ true
+    → (k : Kind) → left_of s k + (cost_of cost k + total k (wire ++ ingress)) ≤ at s.start k
+true-place s limit egress wire ingress cost kept h k =
+    let both = true-both
+    (at (left_counters s.sent s.limit) (Kind.Headers cost.class) + total (Kind.Headers cost.class) (wire ++ ingress) + 1) (at s.start (Kind.Headers cost.class))
+    (at (left_counters s.sent s.limit) (Kind.Data cost.class) + total (Kind.Data cost.class) (wire ++ ingress) + cost.data) (at s.start (Kind.Data cost.class)) h in
+    let first = both.0 in let second = both.1 in
+    let header_left = at-left s.sent s.limit (Kind.Headers cost.class) in
+    let payload_left = at-left s.sent s.limit (Kind.Data cost.class) in
+    let within = (covers-all cost.class cost.data (spare s (wire ++ ingress))).0 (omega arith, omega arith) k in
+    let covered = kept.covered k in
+    omega arith
+
+-- right after a take there is a place for what was taken
+pub took-restores : (class : Class) (result : Option Descriptor) (s : Ledger) (limit : Counters) (egress wire ingress ingress' : List Descriptor) (queue : Queue Descriptor) → IsCounted s limit (wire ++ ingress)
+    → Took class ingress ingress' result → IfSome result (λ f. frames_restored queue f ≡ Some ingress)
+    → IfSome result (λ f. cond (has_place (link_of s egress wire ingress') f.head.cost) (frames_restored queue f) None ≡ Some ingress)
+took-restores class None s limit egress wire ingress ingress' queue kept took restores = tt
+took-restores class (Some f) s limit egress wire ingress ingress' queue kept took restores =
+    ap (λ (b : Bool). cond b (frames_restored queue f) None)
+    (place-true s egress wire ingress' f.head.cost
+        (λ k. let covered = kept.covered k in let more = total-behind k wire ingress' ingress (cost_of f.head.cost k) (total-taken k class ingress ingress' f took) in omega arith))
+    ∙ restores
+
+some_place : (b : Bool) (o : Option (List Descriptor)) → IsSome (cond b o None) → b ≡ true
+some_place true o h = refl
+some_place false o h = cc
+
+pub gave-kept : (f : Descriptor) (s : Ledger) (limit limit' : Counters) (egress wire : List Descriptor) (queue : Queue Descriptor) (ingress' : List Descriptor) → IsCounted s limit (wire ++ frames_of queue.waiting)
+    → IsSome (cond (has_place (link_of s egress wire (frames_of queue.waiting)) f.head.cost) (frames_restored queue f) None) → frames_restored queue f ≡ Some ingress' → limit' ≡ uncounted limit f.head.cost
+    → IsCounted s limit' (wire ++ ingress')
+gave-kept f s limit limit' egress wire queue ingress' kept place restored reclaimed =
+    let more = λ (k : Kind). total-behind k wire (frames_of queue.waiting) ingress' (cost_of f.head.cost k) (total-restored k queue f ingress' restored) in
+    let has = some_place (has_place (link_of s egress wire (frames_of queue.waiting)) f.head.cost) (frames_restored queue f) place in
+    subst (λ (l : Counters). IsCounted s l (wire ++ ingress')) (sym reclaimed)
+    (reclaimed-counted s limit f.head.cost (wire ++ frames_of queue.waiting) (wire ++ ingress') more
+        (λ k. let room = true-place s limit egress wire (frames_of queue.waiting) f.head.cost kept has k in let is = more k in omega arith) kept)

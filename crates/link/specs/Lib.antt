@@ -1,0 +1,3 @@
+pub mod Channels
+pub mod Simplexes
+pub mod Steps

@@ -1,0 +1,8 @@
+//! One direction of a link (PCIe 4.0, 2.6): the queue at its sender, the wire, the queue at its receiver,
+//! and the credits that keep the receiver from being overrun.
+#![tactic(auto)]
+
+mod simplex;
+mod steps;
+
+pub use simplex::Simplex;

@@ -1,0 +1,133 @@
+//! One direction of a link.
+
+ghost use Rattle.std.specs.Prelude.{◌≡◌, ◌<◌, ◌++◌, ◌∷◌, [], None, Some, MatchBool};
+ghost use Rattle.credit.specs.Limits.{MayStart};
+ghost use Rattle.link.specs.Channels.{receive, send, tell};
+ghost use Rattle.link.specs.Simplexes.{channel};
+
+use crate::steps::{give_back, hand_over, hear, land, launch};
+use credit::{Limits, Receiver, Sender};
+use fab_types::{Class, Head};
+use frame_log::Frame;
+use port::{FrameQueue, LaneIn, LaneOut};
+use port_queue::Ring;
+use std::marker::Model;
+
+/// One direction of a link, which is dual simplex (PCIe 4.0, 1.2): what waits at its sender, travels, and
+/// waits at its receiver, and the credits of both. It is the lane out of its sender and the lane in of
+/// its receiver. The credits of a packet that leaves the receiver are free, and its sender learns of them
+/// by `tell`. A contract sees a `SimplexView`.
+#[derive(Drop)]
+pub struct Simplex {
+    sender: Sender,
+    egress: FrameQueue<16>,
+    wire: Ring<Frame, 381>,
+    ingress: FrameQueue<127>,
+    receiver: Receiver,
+}
+
+impl Model for Simplex {
+    ghost use Rattle.link.specs.Simplexes.{SimplexView, IsKept, view_of};
+
+    ghost Value = { SimplexView };
+
+    ghost view = { view_of };
+
+    ghost invariant = { IsKept };
+}
+
+impl Simplex {
+    /// A direction on which nothing was sent yet, whose receiver advertises these credits: headers at
+    /// most 127, data at most 2,047.
+    pub fn new(limits: Limits) -> Simplex
+        requires { MayStart limits }
+        ensures { result ≡ record {
+          start = limits;
+          left = limits;
+          egress = record { queue = record { waiting = []; gap = None }; misses = 0; refusals = 0 };
+          wire = [];
+          ingress = record { queue = record { waiting = []; gap = None }; misses = 0; refusals = 0 };
+        } }
+    {
+        let start = limits;
+        Simplex {
+            sender: Sender::new(start),
+            egress: FrameQueue::new(),
+            wire: Ring::new(),
+            ingress: FrameQueue::new(),
+            receiver: Receiver::new(limits),
+        }
+    }
+
+    /// Puts the eligible packet of the class on the wire and spends its credits. It answers false, and
+    /// changes nothing, where no packet is eligible, or there are too few credits.
+    pub fn send(&mut self, class: Class) -> bool
+        ensures { MatchBool result (send class (channel self.old) ≡ Some (channel self.new)) ((send class (channel self.old) ≡ None) × (channel self.new ≡ channel self.old)) }
+    {
+        launch(&mut self.egress, &mut self.sender, &mut self.wire, class)
+    }
+
+    /// The oldest packet of the wire reaches the receiver, where there always is a place for it. It
+    /// answers false where the wire is empty.
+    pub fn receive(&mut self) -> bool
+        ensures { MatchBool result (receive (channel self.old) ≡ Some (channel self.new)) ((receive (channel self.old) ≡ None) × (channel self.new ≡ channel self.old)) }
+    {
+        land(&mut self.wire, &mut self.ingress)
+    }
+
+    /// The sender learns the receiver's present limits. It answers false where it knows them.
+    pub fn tell(&mut self) -> bool
+        ensures { MatchBool result (tell (channel self.old) ≡ Some (channel self.new)) ((tell (channel self.old) ≡ None) × (channel self.new ≡ channel self.old)) }
+    {
+        let limits = self.receiver.advert();
+        hear(&mut self.sender, limits)
+    }
+}
+
+impl LaneIn for Simplex {
+    ghost use Rattle.port.specs.Queues.{frames_of};
+    ghost use Rattle.link.specs.Simplexes.{Behind, simplex_restored};
+
+    ghost Lane = { Behind };
+
+    ghost lane = { λ s. record { start = s.start; left = s.left; egress = frames_of s.egress.queue.waiting; wire = s.wire } };
+
+    ghost waiting = { λ s. frames_of s.ingress.queue.waiting };
+
+    ghost restored = { λ s f. simplex_restored s f };
+
+    ghost misses = { λ s. s.ingress.misses };
+
+    fn head(&mut self, class: Class) -> Option<Head> {
+        self.ingress.head(class)
+    }
+
+    fn take(&mut self, class: Class) -> Option<Frame> {
+        hand_over(&mut self.ingress, &mut self.receiver, class)
+    }
+
+    fn put_back(&mut self, frame: Frame) {
+        give_back(&mut self.ingress, &mut self.receiver, frame);
+    }
+}
+
+impl LaneOut for Simplex {
+    ghost use Rattle.port.specs.Queues.{frames_of};
+    ghost use Rattle.link.specs.Simplexes.{Before};
+
+    ghost Lane = { Before };
+
+    ghost lane = { λ s. record { start = s.start; left = s.left; wire = s.wire; ingress = frames_of s.ingress.queue.waiting } };
+
+    ghost sent = { λ s. frames_of s.egress.queue.waiting };
+
+    ghost refusals = { λ s. s.egress.refusals };
+
+    fn is_full(&mut self, class: Class) -> bool {
+        self.egress.is_full(class)
+    }
+
+    fn push(&mut self, frame: Frame) -> Result<(), Frame> {
+        self.egress.push(frame)
+    }
+}
