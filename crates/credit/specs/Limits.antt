@@ -57,6 +57,14 @@ pub record Ledger : Type 0 where
 abbrev pub left_of : Ledger → Kind → ℕ
 left_of s k = distance (size_of k) (at s.sent k) (at s.limit k)
 
+-- how far the counters of a class are behind others
+abbrev pub ahead : Credits → Credits → Credits
+ahead sent limit = record { headers = distance 256 sent.headers limit.headers; payload = distance 4096 sent.payload limit.payload }
+
+-- the credits of all kinds that are left
+abbrev pub left_counters : Counters → Counters → Counters
+left_counters sent limit = record { posted = ahead sent.posted limit.posted; non_posted = ahead sent.non_posted limit.non_posted; completion = ahead sent.completion limit.completion }
+
 -- of a kind never more is left than at the start, which is less than half of what a counter holds
 pub record IsInRangeAt (s : Ledger) (k : Kind) : Type 0 where
   pub counter : at s.sent k < size_of k

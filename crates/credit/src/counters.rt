@@ -1,7 +1,7 @@
 //! The counters of the six kinds.
 
 ghost use Rattle.std.specs.Prelude.{◌≡◌, ◌<◌};
-ghost use Rattle.credit.specs.Limits.{back, credits_at, further, counted, uncounted, zero_counters};
+ghost use Rattle.credit.specs.Limits.{ahead, back, credits_at, further, counted, uncounted, zero_counters};
 
 use crate::counter::Counter;
 use fab_types::{Class, Cost};
@@ -48,6 +48,16 @@ impl Credits {
         Credits {
             headers: self.headers.minus(1),
             payload: self.payload.minus(payload),
+        }
+    }
+
+    /// How many credits these counters are behind `limit`.
+    pub(crate) fn left_to(self, limit: Credits) -> Credits
+        ensures { result ≡ ahead self limit }
+    {
+        Credits {
+            headers: Counter::new(self.headers.distance_to(limit.headers)),
+            payload: Counter::new(self.payload.distance_to(limit.payload)),
         }
     }
 }

@@ -4,7 +4,7 @@ ghost use Rattle.std.specs.Prelude.{◌≡◌, ◌↔◌, ℕ, ◌+◌, ◌≤�
 ghost use Rattle.std.specs.Bool.{OnTrue, OnFalse};
 ghost use Rattle.credit.specs.Counter.{distance};
 ghost use Rattle.credit.specs.Kinds.{Kind};
-ghost use Rattle.credit.specs.Limits.{Ledger, at, counted, zero_counters, MayStart, IsInRange, HasRoom, IsUpdate};
+ghost use Rattle.credit.specs.Limits.{Ledger, at, counted, left_counters, zero_counters, MayStart, IsInRange, HasRoom, IsUpdate};
 ghost use Rattle.credit.specs.Totals.{Count, StandsFor, IsAllowed, PassesGate, with_cost};
 
 use crate::counter::Counter;
@@ -118,6 +118,17 @@ impl Sender {
             limits.completion,
         );
         posted & non_posted & completion
+    }
+
+    /// The credits that are left.
+    pub fn left(&self) -> Counters
+        ensures { result ≡ left_counters self.now.sent self.now.limit }
+    {
+        Counters {
+            posted: self.sent.posted.left_to(self.limit.posted),
+            non_posted: self.sent.non_posted.left_to(self.limit.non_posted),
+            completion: self.sent.completion.left_to(self.limit.completion),
+        }
     }
 
     /// The counters of what was sent.

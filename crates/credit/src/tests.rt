@@ -93,3 +93,17 @@ fn limits_that_take_something_back_are_refused(rt: HostRuntime) {
     assert!(rt; !sender.update(limits(&rt, (3, 48), (15, 16))));
     assert!(rt; sender.update(limits(&rt, (3, 48), (16, 16))));
 }
+
+#[test]
+fn what_is_reclaimed_is_not_told(rt: HostRuntime) {
+    let start = limits(&rt, (3, 48), (16, 16));
+    let mut receiver = Receiver::new(start);
+    let mut sender = Sender::new(limits(&rt, (3, 48), (16, 16)));
+    let write = cost_of_payload(Posted, 64);
+    sent(&rt, &mut sender, write);
+    receiver.free(write);
+    receiver.reclaim(write);
+    assert_eq!(rt; receiver.advert(), sender.limits());
+    let left = sender.left().posted;
+    assert_eq!(rt; (left.headers.value(), left.payload.value()), (2, 32));
+}

@@ -5,11 +5,10 @@ use Rattle.std.proofs.lemmas.Bool.{leb-true, le-leb, eqb-true, eq-eqb}
 use Rattle.frame_log.specs.Descriptor.{Descriptor}
 use Rattle.credit.specs.Counter.{distance}
 use Rattle.credit.specs.Kinds.{Class, Cost, Kind, size_of, amount_of, cost_of}
-use Rattle.credit.specs.Limits.{credits_at, at, with_credits}
+use Rattle.credit.specs.Limits.{credits_at, at, with_credits, left_counters}
 use Rattle.credit.specs.declared.counters.Credits.{Credits}
 use Rattle.credit.specs.declared.counters.Counters.{Counters}
 use Rattle.link.specs.Channels.{less, spent, unspent, same_credits, same_counters, total}
-use Rattle.link.specs.Simplexes.{left_counters}
 
 pub at-left : (sent limit : Counters) (k : Kind) → at (left_counters sent limit) k ≡ distance (size_of k) (at sent k) (at limit k)
 at-left sent limit (Kind.Headers Class.Posted) = refl

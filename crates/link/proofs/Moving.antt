@@ -4,13 +4,13 @@ use Rattle.std.specs.Prelude.{◌&&◌, nat_le, MatchBool}
 use Rattle.frame_log.specs.Descriptor.{Descriptor}
 use Rattle.credit.specs.Counter.{distance}
 use Rattle.credit.specs.Kinds.{Class, Cost, Kind, size_of, cost_of}
-use Rattle.credit.specs.Limits.{Ledger, credits_at, at, counted, left_of, IsInRange, HasRoom}
+use Rattle.credit.specs.Limits.{Ledger, credits_at, at, counted, left_of, IsInRange, HasRoom, left_counters}
 use Rattle.credit.specs.declared.counters.Counters.{Counters}
 use Rattle.credit.proofs.Counting.{at-counted, covers-all}
 use Rattle.credit.proofs.Distances.{distance-spent, distance-same}
 use Rattle.port.specs.Lanes.{eligible}
 use Rattle.link.specs.Channels.{Channel, has_room, spent, unspent, same_counters, total, sent_on, send, received_of, receive, told_of, tell}
-use Rattle.link.specs.Simplexes.{left_counters, IsCounted}
+use Rattle.link.specs.Simplexes.{IsCounted}
 use Rattle.link.specs.Steps.{IsStuck, Lands, Launches}
 use Rattle.link.proofs.Credits.{at-left, same-at, at-spent, at-unspent, both-true, true-both, true-same, same-self}
 
@@ -40,17 +40,17 @@ left-room s cost h =
 left_spent : (s : Ledger) (cost : Cost) → IsInRange s → HasRoom s cost → spent (left_counters s.sent s.limit) cost ≡ left_counters (counted s.sent cost) s.limit
 left_spent s cost range room = same-at (spent (left_counters s.sent s.limit) cost) (left_counters (counted s.sent cost) s.limit)
     (λ k. at-spent (left_counters s.sent s.limit) cost k
-        ∙ (ap (λ n. n - cost_of cost k) (at-left s.sent s.limit k)
-        ∙ (sym (distance-spent (size_of k) (at s.sent k) (at s.limit k) (cost_of cost k) (range k).counter (room k))
-        ∙ (ap (λ m. distance (size_of k) m (at s.limit k)) (sym (at-counted s.sent cost k (range k).counter))
-        ∙ sym (at-left (counted s.sent cost) s.limit k)))))
+    ∙ (ap (λ n. n - cost_of cost k) (at-left s.sent s.limit k)
+    ∙ (sym (distance-spent (size_of k) (at s.sent k) (at s.limit k) (cost_of cost k) (range k).counter (room k))
+    ∙ (ap (λ m. distance (size_of k) m (at s.limit k)) (sym (at-counted s.sent cost k (range k).counter))
+    ∙ sym (at-left (counted s.sent cost) s.limit k)))))
 
 -- the receiver's limits leave the start without what travels and waits
 told_left : (s : Ledger) (limit : Counters) (behind : List Descriptor) → IsCounted s limit behind → left_counters s.sent limit ≡ unspent s.start behind
 told_left s limit behind kept = same-at (left_counters s.sent limit) (unspent s.start behind)
     (λ k. let freed = kept.freed k in
-        let left : distance (size_of k) (at s.sent k) (at limit k) ≡ at s.start k - total k behind = omega arith in
-        at-left s.sent limit k ∙ (left ∙ sym (at-unspent s.start behind k)))
+    let left : distance (size_of k) (at s.sent k) (at limit k) ≡ at s.start k - total k behind = omega arith in
+    at-left s.sent limit k ∙ (left ∙ sym (at-unspent s.start behind k)))
 
 -- ---- send
 
@@ -103,7 +103,7 @@ told_at c most b is = ap (λ (x : Bool). cond x None (Some (record { start = c.s
 limits_same : (s : Ledger) (limit : Counters) (behind : List Descriptor) → IsCounted s limit behind → same_counters (left_counters s.sent s.limit) (left_counters s.sent limit) ≡ true → limit ≡ s.limit
 limits_same s limit behind kept h = same-at limit s.limit
     (λ k. distance-same (size_of k) (at s.sent k) (at limit k) (at s.limit k) (kept.range k).counter (kept.bounded k) (kept.known k)
-        (sym (at-left s.sent limit k) ∙ (sym (true-same (left_counters s.sent s.limit) (left_counters s.sent limit) h k) ∙ at-left s.sent s.limit k)))
+    (sym (at-left s.sent limit k) ∙ (sym (true-same (left_counters s.sent s.limit) (left_counters s.sent limit) h k) ∙ at-left s.sent s.limit k)))
 
 differs : (b : Bool) → (b ≡ true → ⊥) → b ≡ false
 differs true never = absurd (never refl)

@@ -4,18 +4,18 @@ use Rattle.std.specs.Prelude.{MatchBool, MatchOption, IfSome, IsSome, slice_get,
 use Rattle.fab_types.specs.declared.head.Head.{Head}
 use Rattle.frame_log.specs.Descriptor.{Descriptor}
 use Rattle.credit.specs.Kinds.{Class, Cost, Kind, cost_of}
-use Rattle.credit.specs.Limits.{Ledger, Allotment, at, counted, uncounted, zero_counters, left_of, MayStart}
+use Rattle.credit.specs.Limits.{Ledger, Allotment, at, counted, uncounted, zero_counters, left_of, MayStart, left_counters}
 use Rattle.credit.specs.declared.counters.Counters.{Counters}
 use Rattle.credit.proofs.Counting.{covers-all}
 use Rattle.port_queue.specs.Queue.{Queue, count_of}
 use Rattle.port.specs.Lanes.{class_of, eligible}
 use Rattle.port.specs.Queues.{Waiting, IsSorted, frames_of, frames_restored}
-use Rattle.link.specs.Channels.{send, receive, tell, total}
-use Rattle.link.specs.Simplexes.{IsCounted, has_place, left_counters}
+use Rattle.link.specs.Channels.{IsCovered, count_in, send, receive, tell, total}
+use Rattle.link.specs.Simplexes.{IsCounted, has_place}
 use Rattle.link.specs.Steps.{IsStuck, Lands, Launches}
-use Rattle.link.proofs.Totals.{count-total, total-append, total-sent, total-landed, total-taken, total-restored}
+use Rattle.link.proofs.Totals.{count-total, count_in-total, total-append, total-sent, total-landed, total-taken, total-restored}
 use Rattle.link.proofs.Credits.{at-left, both-true, true-both}
-use Rattle.link.proofs.Keeping.{start-counted, moved-counted, spent-counted, told-counted, freed-counted, reclaimed-counted}
+use Rattle.link.proofs.Keeping.{counted-places, start-counted, moved-counted, spent-counted, told-counted, freed-counted, reclaimed-counted}
 use Rattle.link.proofs.Moving.{link_of, send-some, send-none, receive-some, receive-none, tell-some, tell-none}
 
 -- ---- the start
@@ -26,6 +26,26 @@ pub started : (limits : Counters) (s : Ledger) (receiver : Allotment) (wire : Li
     → IsCounted s receiver.limit (wire ++ frames_of ingress.queue.waiting)
 started limits s receiver wire ingress may sender_is receiver_is wire_is ingress_is =
     rw (sender_is, receiver_is, wire_is, ingress_is) (start-counted limits may)
+
+-- ---- what always holds
+
+pub covers-left : (s : Ledger) (limit : Counters) (egress wire ingress : List Descriptor) → IsCounted s limit (wire ++ ingress) → IsCovered (link_of s egress wire ingress)
+covers-left s limit egress wire ingress kept k =
+    let covered = kept.covered k in
+    let left = at-left s.sent s.limit k in
+    omega arith
+
+pub few-left : (s : Ledger) (limit : Counters) (behind : List Descriptor) → IsCounted s limit behind → (k : Kind) → at (left_counters s.sent s.limit) k ≤ at s.start k
+few-left s limit behind kept k =
+    let covered = kept.covered k in
+    let left = at-left s.sent s.limit k in
+    omega arith
+
+pub few-behind : (s : Ledger) (limit : Counters) (behind : List Descriptor) → IsCounted s limit behind → (class : Class) → count_in class behind ≤ 127
+few-behind s limit behind kept class =
+    let places = counted-places s limit behind class kept in
+    let counts = count_in-total class behind in
+    omega arith
 
 -- ---- what is sent
 
@@ -40,7 +60,7 @@ pub sent : (class : Class) (answer : Bool) (s s' : Ledger) (limit : Counters) (e
     → (answer ≡ false → IsStuck class egress s)
     → (answer ≡ false → (egress' ≡ egress) × (s' ≡ s) × (wire' ≡ wire))
     → MatchBool answer (send class (link_of s egress wire ingress) ≡ Some (link_of s' egress' wire' ingress))
-        ((send class (link_of s egress wire ingress) ≡ None) × (link_of s' egress' wire' ingress ≡ link_of s egress wire ingress))
+    ((send class (link_of s egress wire ingress) ≡ None) × (link_of s' egress' wire' ingress ≡ link_of s egress wire ingress))
 sent class true s s' limit egress egress' wire wire' ingress kept went stuck rests = send-some class s s' egress egress' wire wire' ingress kept.range (went refl)
 sent class false s s' limit egress egress' wire wire' ingress kept went stuck rests =
     let r = rests refl in
@@ -74,7 +94,7 @@ pub landed : (answer : Bool) (s : Ledger) (egress wire wire' ingress ingress' : 
     → (answer ≡ true → Lands wire ingress wire' ingress')
     → (answer ≡ false → (wire ≡ []) × (wire' ≡ []) × (ingress' ≡ ingress))
     → MatchBool answer (receive (link_of s egress wire ingress) ≡ Some (link_of s egress wire' ingress'))
-        ((receive (link_of s egress wire ingress) ≡ None) × (link_of s egress wire' ingress' ≡ link_of s egress wire ingress))
+    ((receive (link_of s egress wire ingress) ≡ None) × (link_of s egress wire' ingress' ≡ link_of s egress wire ingress))
 landed true s egress wire wire' ingress ingress' went rests = receive-some s egress wire wire' ingress ingress' (went refl)
 landed false s egress wire wire' ingress ingress' went rests =
     let r = rests refl in
@@ -99,7 +119,7 @@ pub heard : (answer : Bool) (s s' : Ledger) (limit told : Counters) (egress wire
     → (answer ≡ true → (s' ≡ record s { limit = told }) × (told ≢ s.limit))
     → (answer ≡ false → (s' ≡ s) × (told ≡ s.limit))
     → MatchBool answer (tell (link_of s egress wire ingress) ≡ Some (link_of s' egress wire ingress))
-        ((tell (link_of s egress wire ingress) ≡ None) × (link_of s' egress wire ingress ≡ link_of s egress wire ingress))
+    ((tell (link_of s egress wire ingress) ≡ None) × (link_of s' egress wire ingress ≡ link_of s egress wire ingress))
 heard true s s' limit told egress wire ingress kept is new known =
     let n = new refl in
     tell-some s s' told egress wire ingress (subst (λ (l : Counters). IsCounted s l (wire ++ ingress)) (sym is) kept) n.0 n.1
@@ -177,7 +197,7 @@ took-restores class None s limit egress wire ingress ingress' queue kept took re
 took-restores class (Some f) s limit egress wire ingress ingress' queue kept took restores =
     ap (λ (b : Bool). cond b (frames_restored queue f) None)
     (place-true s egress wire ingress' f.head.cost
-        (λ k. let covered = kept.covered k in let more = total-behind k wire ingress' ingress (cost_of f.head.cost k) (total-taken k class ingress ingress' f took) in omega arith))
+    (λ k. let covered = kept.covered k in let more = total-behind k wire ingress' ingress (cost_of f.head.cost k) (total-taken k class ingress ingress' f took) in omega arith))
     ∙ restores
 
 some_place : (b : Bool) (o : Option (List Descriptor)) → IsSome (cond b o None) → b ≡ true
@@ -192,4 +212,4 @@ gave-kept f s limit limit' egress wire queue ingress' kept place restored reclai
     let has = some_place (has_place (link_of s egress wire (frames_of queue.waiting)) f.head.cost) (frames_restored queue f) place in
     subst (λ (l : Counters). IsCounted s l (wire ++ ingress')) (sym reclaimed)
     (reclaimed-counted s limit f.head.cost (wire ++ frames_of queue.waiting) (wire ++ ingress') more
-        (λ k. let room = true-place s limit egress wire (frames_of queue.waiting) f.head.cost kept has k in let is = more k in omega arith) kept)
+    (λ k. let room = true-place s limit egress wire (frames_of queue.waiting) f.head.cost kept has k in let is = more k in omega arith) kept)

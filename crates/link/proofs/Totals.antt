@@ -11,7 +11,7 @@ use Rattle.credit.specs.Kinds.{Kind, cost_of, where_same}
 use Rattle.port_queue.specs.Queue.{Queue, count_of, restored_at}
 use Rattle.port.specs.Lanes.{class_of, eligible}
 use Rattle.port.specs.Queues.{IsSorted, frames_of, frames_restored}
-use Rattle.link.specs.Channels.{total}
+use Rattle.link.specs.Channels.{count_in, total}
 
 pub total-append : (k : Kind) (xs ys : List Descriptor) → total k (xs ++ ys) ≡ total k xs + total k ys
 total-append k [] ys = omega arith
@@ -86,6 +86,11 @@ count-total class (w ∷ ws) all =
     let own = All-head IsIn w ws all in
     ap (λ (d : Class). cond (same_class class d) (1 + count_of class ws) (count_of class ws)) own
     ∙ (counts_one class (class_of w.1) (count_of class ws) ∙ ap (λ n. where_same (class_of w.1) class 1 + n) (count-total class ws (All-tail IsIn w ws all)))
+
+-- the same of packets alone
+pub count_in-total : (class : Class) (fs : List Descriptor) → count_in class fs ≡ total (Kind.Headers class) fs
+count_in-total class [] = refl
+count_in-total class (f ∷ fs) = counts_one class (class_of f) (count_in class fs) ∙ ap (λ n. where_same (class_of f) class 1 + n) (count_in-total class fs)
 
 -- each packet is of one class
 one_class : (d : Class) → where_same d Class.Posted 1 + where_same d Class.NonPosted 1 + where_same d Class.Completion 1 ≡ 1

@@ -7,7 +7,8 @@ use Rattle.credit.specs.Kinds.{Class, Cost, Kind, cost_of}
 use Rattle.credit.specs.Limits.{credits_at, at, with_credits}
 use Rattle.credit.specs.declared.counters.Credits.{Credits}
 use Rattle.credit.specs.declared.counters.Counters.{Counters}
-use Rattle.port.specs.Lanes.{eligible}
+use Rattle.ordering.specs.Ordering.{same_class}
+use Rattle.port.specs.Lanes.{class_of, eligible}
 
 pub record Channel : Type 0 where
   pub start : Counters  -- the credits that the receiver advertised at the start
@@ -47,6 +48,11 @@ same_counters a b = same_credits a.posted b.posted && (same_credits a.non_posted
 abbrev pub total : Kind → List Descriptor → ℕ
 total k [] = 0
 total k (frame ∷ frames) = cost_of frame.head.cost k + total k frames
+
+-- how many of these packets are of a class
+abbrev pub count_in : Class → List Descriptor → ℕ
+count_in class [] = 0
+count_in class (frame ∷ frames) = if same_class class (class_of frame) then 1 + count_in class frames else count_in class frames
 
 -- what the sender has left and what travels and waits behind it never cost more than the start
 abbrev pub IsCovered : Channel → Type 0

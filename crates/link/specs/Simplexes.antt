@@ -3,8 +3,7 @@ use Rattle.std.specs.Prelude.{◌≡◌, ℕ, ◌+◌, ◌<◌, ◌≤◌, ◌++
 use Rattle.frame_log.specs.Descriptor.{Descriptor}
 use Rattle.credit.specs.Counter.{distance}
 use Rattle.credit.specs.Kinds.{Kind, Cost, size_of}
-use Rattle.credit.specs.Limits.{Ledger, IsInRange, at, left_of}
-use Rattle.credit.specs.declared.counters.Credits.{Credits}
+use Rattle.credit.specs.Limits.{Ledger, IsInRange, at, left_counters, left_of}
 use Rattle.credit.specs.declared.counters.Counters.{Counters}
 use Rattle.port.specs.Queues.{Waiting, frames_of, frames_restored}
 use Rattle.link.specs.Channels.{Channel, total}
@@ -19,13 +18,6 @@ pub record SimplexView : Type 0 where
 
 abbrev pub channel : SimplexView → Channel
 channel s = record { start = s.start; left = s.left; egress = frames_of s.egress.queue.waiting; wire = s.wire; ingress = frames_of s.ingress.queue.waiting }
-
-abbrev pub ahead : Credits → Credits → Credits
-ahead sent limit = record { headers = distance 256 sent.headers limit.headers; payload = distance 4096 sent.payload limit.payload }
-
--- how far the limits are beyond what was sent
-abbrev pub left_counters : Counters → Counters → Counters
-left_counters sent limit = record { posted = ahead sent.posted limit.posted; non_posted = ahead sent.non_posted limit.non_posted; completion = ahead sent.completion limit.completion }
 
 abbrev pub view_of : Inside → SimplexView
 view_of s = record { start = s.sender.start; left = left_counters s.sender.sent s.sender.limit; egress = s.egress; wire = s.wire; ingress = s.ingress }

@@ -6,3 +6,6 @@ mod simplex;
 mod steps;
 
 pub use simplex::Simplex;
+
+#[cfg(test)]
+mod tests;

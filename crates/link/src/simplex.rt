@@ -1,8 +1,11 @@
 //! One direction of a link.
 
-ghost use Rattle.std.specs.Prelude.{◌≡◌, ◌<◌, ◌++◌, ◌∷◌, [], None, Some, MatchBool};
-ghost use Rattle.credit.specs.Limits.{MayStart};
-ghost use Rattle.link.specs.Channels.{receive, send, tell};
+ghost use Rattle.std.specs.Prelude.{◌≡◌, ◌≤◌, ◌++◌, [], None, Some, MatchBool};
+ghost use Rattle.fab_types.specs.declared.class.Class.{Class};
+ghost use Rattle.credit.specs.Kinds.{Kind};
+ghost use Rattle.credit.specs.Limits.{MayStart, at};
+ghost use Rattle.port.specs.Queues.{frames_of};
+ghost use Rattle.link.specs.Channels.{IsCovered, count_in, receive, send, tell};
 ghost use Rattle.link.specs.Simplexes.{channel};
 
 use crate::steps::{give_back, hand_over, hear, land, launch};
@@ -75,6 +78,18 @@ impl Simplex {
         land(&mut self.wire, &mut self.ingress)
     }
 
+    /// The credits that the sender knows to be left. They and the cost of all that travels and waits at the
+    /// receiver never exceed the start, so no more packets of a class are behind the sender than the receiver
+    /// has places.
+    pub fn left(&self) -> Limits
+        ensures value { result ≡ self.now.left }
+        ensures covered { IsCovered (channel self.now) }
+        ensures within { (k : Kind) → at self.now.left k ≤ at self.now.start k }
+        ensures places { (class : Class) → count_in class (self.now.wire ++ frames_of self.now.ingress.queue.waiting) ≤ 127 }
+    {
+        self.sender.left()
+    }
+
     /// The sender learns the receiver's present limits. It answers false where it knows them.
     pub fn tell(&mut self) -> bool
         ensures { MatchBool result (tell (channel self.old) ≡ Some (channel self.new)) ((tell (channel self.old) ≡ None) × (channel self.new ≡ channel self.old)) }
@@ -85,7 +100,6 @@ impl Simplex {
 }
 
 impl LaneIn for Simplex {
-    ghost use Rattle.port.specs.Queues.{frames_of};
     ghost use Rattle.link.specs.Simplexes.{Behind, simplex_restored};
 
     ghost Lane = { Behind };
@@ -112,7 +126,6 @@ impl LaneIn for Simplex {
 }
 
 impl LaneOut for Simplex {
-    ghost use Rattle.port.specs.Queues.{frames_of};
     ghost use Rattle.link.specs.Simplexes.{Before};
 
     ghost Lane = { Before };

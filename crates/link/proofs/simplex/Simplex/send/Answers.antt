@@ -16,4 +16,4 @@ pub returns : goal.returns
 returns c = let s = c.self.inside in
     rw (← c.self.view_is)
     (sent c.args.class c.launch.result s.sender c.launch.new.sender s.receiver.limit (frames_of s.egress.queue.waiting) (frames_of c.launch.new.egress.queue.waiting) s.wire c.launch.new.wire (frames_of s.ingress.queue.waiting)
-        c.self.invariant c.launch.ensures.sent c.launch.ensures.stuck c.launch.ensures.rests)
+    c.self.invariant c.launch.ensures.sent c.launch.ensures.stuck c.launch.ensures.rests)
