@@ -1,5 +1,5 @@
 -- How far the limit is from what was sent, once credits are freed or taken back.
-use Rattle.std.proofs.Common.{◌≡◌, ℕ, ◌+◌, ◌-◌, ◌<◌, ◌≤◌, ap, ◌∙◌}
+use Rattle.std.proofs.Common.{◌≡◌, ◌+◌, ◌-◌, ◌<◌, ◌≤◌, ap, ◌∙◌}
 use Rattle.credit.specs.Counter.{distance}
 use Rattle.credit.specs.Kinds.{Cost, Kind, size_of, cost_of}
 use Rattle.credit.specs.Limits.{Counters, at, counted, uncounted}

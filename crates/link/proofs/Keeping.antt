@@ -1,11 +1,11 @@
 -- What a direction of a link keeps, at each of its steps.
-use Rattle.std.proofs.Common.{◌≡◌, ℕ, ◌+◌, ◌-◌, ◌/◌, ◌≤◌, ◌<◌, List, [], ◌∷◌, ◌++◌, length, Some, refl, sym, ap, ◌∙◌, subst, arith}
+use Rattle.std.proofs.Common.{◌≡◌, ℕ, ◌+◌, ◌-◌, ◌/◌, ◌≤◌, ◌<◌, List, [], ◌∷◌, ◌++◌, length, Some, refl, ap, ◌∙◌, subst, arith}
 use Rattle.std.specs.Prelude.{slice_get}
 use Rattle.std.proofs.lemmas.List.{length-append}
 use Rattle.frame_log.specs.Descriptor.{Descriptor}
 use Rattle.credit.specs.Counter.{distance}
-use Rattle.credit.specs.Kinds.{Class, Cost, Kind, size_of, amount_of, cost_of, where_same}
-use Rattle.credit.specs.Limits.{Ledger, at, counted, uncounted, zero_counters, left_of, MayStart, IsInRange, HasRoom, IsUpdate}
+use Rattle.credit.specs.Kinds.{Class, Cost, Kind, size_of, cost_of, where_same}
+use Rattle.credit.specs.Limits.{Ledger, at, counted, uncounted, zero_counters, left_of, MayStart, HasRoom, IsUpdate}
 use Rattle.credit.specs.declared.counters.Counters.{Counters}
 use Rattle.credit.proofs.Counting.{at-counted, at-uncounted, size_positive, covers-all}
 use Rattle.credit.proofs.Distances.{distance-spent, distance-zero}
@@ -14,8 +14,7 @@ use Rattle.credit.proofs.Standing.{at-zero, start-in_range, spent-in_range, upda
 use Rattle.port.specs.Lanes.{class_of}
 use Rattle.link.specs.Channels.{total}
 use Rattle.link.specs.Simplexes.{IsCounted}
-use Rattle.link.specs.Steps.{Lands, Launches}
-use Rattle.link.proofs.Totals.{total-append, total-sent, total-landed, length-total}
+use Rattle.link.proofs.Totals.{total-append, length-total}
 
 half : (k : Kind) → size_of k / 2 + size_of k / 2 ≡ size_of k
 half (Kind.Headers c) = refl

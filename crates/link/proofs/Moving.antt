@@ -1,10 +1,9 @@
 -- What each step makes of the parts is what may happen on a link.
-use Rattle.std.proofs.Common.{◌≡◌, ◌≢◌, ℕ, ◌+◌, ◌-◌, ◌≤◌, ◌<◌, Bool, true, false, cond, List, [], ◌∷◌, ◌++◌, Option, Some, None, refl, sym, ap, ◌∙◌, subst, arith}
-use Rattle.std.specs.Prelude.{◌&&◌, nat_le, MatchBool}
+use Rattle.std.proofs.Common.{◌≡◌, ◌≢◌, ℕ, ◌-◌, ◌≤◌, Bool, true, false, cond, List, [], ◌∷◌, ◌++◌, Option, Some, None, refl, sym, ap, ◌∙◌, subst, arith}
 use Rattle.frame_log.specs.Descriptor.{Descriptor}
 use Rattle.credit.specs.Counter.{distance}
 use Rattle.credit.specs.Kinds.{Class, Cost, Kind, size_of, cost_of}
-use Rattle.credit.specs.Limits.{Ledger, credits_at, at, counted, left_of, IsInRange, HasRoom, left_counters}
+use Rattle.credit.specs.Limits.{Ledger, at, counted, left_of, IsInRange, HasRoom, left_counters}
 use Rattle.credit.specs.declared.counters.Counters.{Counters}
 use Rattle.credit.proofs.Counting.{at-counted, covers-all}
 use Rattle.credit.proofs.Distances.{distance-spent, distance-same}

@@ -1,6 +1,6 @@
 -- The steps of a link, from what each leaves of the parts to what it keeps and what happened.
 use Rattle.std.proofs.Common.{◌≡◌, ◌≢◌, ℕ, ◌+◌, ◌-◌, ◌≤◌, ◌<◌, Bool, true, false, cond, List, [], ◌∷◌, ◌++◌, Option, Some, None, refl, sym, ap, ◌∙◌, subst, arith}
-use Rattle.std.specs.Prelude.{MatchBool, MatchOption, IfSome, IsSome, slice_get, nat_le, ◌&&◌}
+use Rattle.std.specs.Prelude.{MatchBool, MatchOption, IfSome, IsSome, slice_get}
 use Rattle.fab_types.specs.declared.head.Head.{Head}
 use Rattle.frame_log.specs.Descriptor.{Descriptor}
 use Rattle.credit.specs.Kinds.{Class, Cost, Kind, cost_of}

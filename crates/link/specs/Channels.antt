@@ -1,7 +1,7 @@
 -- One direction of a link: what waits at its sender, travels and waits at its receiver, and the credits that bound it
 -- (PCIe 4.0, 2.6.1). A receiver gives back the credits of a packet that leaves its queue, so what the sender may have at
 -- most is the start without the cost of all that travels or waits behind it.
-use Rattle.std.specs.Prelude.{◌≡◌, ℕ, ◌+◌, ◌-◌, ◌==◌, ◌≤◌, Bool, true, ◌&&◌, nat_le, List, [], ◌∷◌, ◌++◌, Option, Some, None, if◌then◌else◌}
+use Rattle.std.specs.Prelude.{ℕ, ◌+◌, ◌-◌, ◌==◌, ◌≤◌, Bool, ◌&&◌, nat_le, List, [], ◌∷◌, ◌++◌, Option, Some, None, if◌then◌else◌}
 use Rattle.frame_log.specs.Descriptor.{Descriptor}
 use Rattle.credit.specs.Kinds.{Class, Cost, Kind, cost_of}
 use Rattle.credit.specs.Limits.{credits_at, at, with_credits}

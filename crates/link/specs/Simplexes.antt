@@ -1,5 +1,5 @@
 -- One direction of a link, as a contract sees it.
-use Rattle.std.specs.Prelude.{◌≡◌, ℕ, ◌+◌, ◌<◌, ◌≤◌, ◌++◌, Bool, ◌&&◌, nat_le, List, Option, None, if◌then◌else◌}
+use Rattle.std.specs.Prelude.{◌≡◌, ◌+◌, ◌<◌, ◌≤◌, ◌++◌, Bool, ◌&&◌, nat_le, List, Option, None, if◌then◌else◌}
 use Rattle.frame_log.specs.Descriptor.{Descriptor}
 use Rattle.credit.specs.Counter.{distance}
 use Rattle.credit.specs.Kinds.{Kind, Cost, size_of}
