@@ -1,6 +1,6 @@
 //! Turns of ports over queues in memory, with one domain at the desk.
 
-ghost use Rattle.std.specs.Prelude.{⊤, ℕ};
+ghost use Rattle.std.specs.Prelude.{⊤, ℕ, true, false};
 ghost use Rattle.domain.specs.Domains.{DomainView};
 ghost use Rattle.port.specs.Queues.{frames_of};
 
@@ -74,6 +74,10 @@ impl LaneOut for Giving {
 
     ghost refusals = { λ l. l.refused };
 
+    ghost may_refuse = { λ lane class. true };
+
+    ghost is_sure = { false };
+
     fn is_full(&mut self, _class: Class) -> bool {
         false
     }
@@ -108,6 +112,10 @@ impl Reporter for Place {
     ghost reported = { λ p. p.reports.violations };
 
     ghost refusals = { λ p. p.refused };
+
+    ghost has_room = { λ place. false };
+
+    ghost is_sure = { false };
 
     fn prepare_report(&mut self) -> Result<(), NoMemory> {
         self.reports.prepare_report()

@@ -1,3 +1,4 @@
 pub mod OneLane
 pub mod Stopping
 pub mod Sorting
+pub mod Waiting

@@ -5,3 +5,4 @@ pub mod Courses
 pub mod Steps
 pub mod Queues
 pub mod Turns
+pub mod Blocked

@@ -1,8 +1,9 @@
 //! What a port takes packets from and puts them into.
 
-ghost use Rattle.std.specs.Prelude.{◌≡◌, ◌≢◌, ℕ, List, Option, [], ◌∷◌, ◌++◌, MatchOption, MatchResult, MatchBool, Some, None, IsSome, IfSome, option_map};
+ghost use Rattle.std.specs.Prelude.{◌≡◌, ◌≢◌, ℕ, List, Option, [], ◌∷◌, ◌++◌, MatchOption, MatchResult, MatchBool, Bool, true, Some, None, IsSome, IfSome, OnErr, option_map};
+ghost use Rattle.std.specs.Bool.{OnTrue};
 ghost use Rattle.frame_log.specs.Descriptor.{Descriptor};
-ghost use Rattle.port.specs.Lanes.{eligible};
+ghost use Rattle.port.specs.Lanes.{Class, class_of, eligible};
 
 use fab_types::{Class, Head};
 use frame_log::Frame;
@@ -62,15 +63,25 @@ pub trait LaneOut {
     /// How often the lane was full or gave a packet back, in a number that wraps.
     ghost refusals: { Self → ℕ };
 
+    /// May the lane have no place for a packet of the class?
+    ghost may_refuse: { Self → Class → Bool };
+
+    /// Is that known beforehand? Of a queue in memory it is, of a ring whose other end is a thread's it isn't.
+    ghost is_sure: { Bool };
+
     /// Has the lane no place for a packet of this class?
     fn is_full(&mut self, class: Class) -> bool
         ensures lane { lane self.new ≡ lane self.old }
         ensures sent { sent self.new ≡ sent self.old }
-        ensures counted { MatchBool result (refusals self.new ≢ refusals self.old) (refusals self.new ≡ refusals self.old) };
+        ensures counted { MatchBool result (refusals self.new ≢ refusals self.old) (refusals self.new ≡ refusals self.old) }
+        ensures full { OnTrue result (may_refuse self.old class ≡ true) }
+        ensures exact { is_sure ≡ true → result ≡ may_refuse self.old class }
+        ensures same { (other : Class) → may_refuse self.new other ≡ may_refuse self.old other };
 
     /// Puts a packet behind the others of its class, or gives it back.
     fn push(&mut self, frame: Frame) -> Result<(), Frame>
         ensures lane { lane self.new ≡ lane self.old }
         ensures put { MatchResult result (λ _. (sent self.new ≡ sent self.old ++ frame ∷ []) × (refusals self.new ≡ refusals self.old))
-            (λ back. (back ≡ frame) × (sent self.new ≡ sent self.old) × (refusals self.new ≢ refusals self.old)) };
+            (λ back. (back ≡ frame) × (sent self.new ≡ sent self.old) × (refusals self.new ≢ refusals self.old)) }
+        ensures full { OnErr result (may_refuse self.old (class_of frame) ≡ true) };
 }

@@ -1,8 +1,7 @@
 //! Lanes that are queues in memory.
 
-ghost use Rattle.std.specs.Prelude.{◌≡◌, ◌<◌, ◌^◌, ℕ, [], None, ◌∷◌, ◌++◌, ◌≢◌, IsTrue, ◌↔◌, MatchBool, MatchResult, OnErr};
+ghost use Rattle.std.specs.Prelude.{◌≡◌, ◌<◌, ◌^◌, ◌==◌, ℕ, [], None, true, IsTrue, ◌↔◌};
 ghost use Rattle.port_queue.specs.Queue.{count_of};
-ghost use Rattle.port.specs.Lanes.{class_of};
 ghost use Rattle.port.specs.Queues.{frames_of, frames_restored, IsSorted};
 
 use crate::lanes::{LaneIn, LaneOut};
@@ -92,11 +91,11 @@ impl<const CAP: usize> LaneOut for FrameQueue<CAP> {
 
     ghost refusals = { λ q. q.refusals };
 
-    fn is_full(&mut self, class: Class) -> bool
-        ensures sent { frames_of self.new.queue.waiting ≡ frames_of self.old.queue.waiting }
-        ensures counted { MatchBool result (self.new.refusals ≢ self.old.refusals) (self.new.refusals ≡ self.old.refusals) }
-        ensures exact { IsTrue result ↔ (count_of class self.old.queue.waiting ≡ CAP) }
-    {
+    ghost may_refuse = { λ q class. count_of class q.queue.waiting == CAP };
+
+    ghost is_sure = { true };
+
+    fn is_full(&mut self, class: Class) -> bool {
         let is_full = self.queue.is_full(class);
         if is_full {
             self.refusals = self.refusals.wrapping_add(1);
@@ -104,11 +103,7 @@ impl<const CAP: usize> LaneOut for FrameQueue<CAP> {
         is_full
     }
 
-    fn push(&mut self, frame: Frame) -> Result<(), Frame>
-        ensures put { MatchResult result (λ _. (frames_of self.new.queue.waiting ≡ frames_of self.old.queue.waiting ++ frame ∷ []) × (self.new.refusals ≡ self.old.refusals))
-            (λ back. (back ≡ frame) × (frames_of self.new.queue.waiting ≡ frames_of self.old.queue.waiting) × (self.new.refusals ≢ self.old.refusals)) }
-        ensures full { OnErr result (count_of (class_of frame) self.old.queue.waiting ≡ CAP) }
-    {
+    fn push(&mut self, frame: Frame) -> Result<(), Frame> {
         let class = frame.head().cost.class;
         if self.queue.is_full(class) {
             self.refusals = self.refusals.wrapping_add(1);

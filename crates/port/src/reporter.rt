@@ -1,6 +1,6 @@
 //! Whom a port tells of violations.
 
-ghost use Rattle.std.specs.Prelude.{◌≡◌, ◌≢◌, ℕ, List, [], ◌∷◌, ◌++◌, MatchResult};
+ghost use Rattle.std.specs.Prelude.{◌≡◌, ◌≢◌, ℕ, Bool, true, false, List, [], ◌∷◌, ◌++◌, MatchResult, OnOk, OnErr};
 ghost use Rattle.fab_types.specs.declared.violation.Violation.{Violation};
 
 use fab_types::{NoMemory, Violation};
@@ -13,13 +13,21 @@ pub trait Reporter {
     /// How often a report was given back, in a number that wraps.
     ghost refusals: { Self → ℕ };
 
+    /// Is there a place for one more report?
+    ghost has_room: { Self → Bool };
+
+    /// Is that known beforehand, so that room which was made is still there for the next report?
+    ghost is_sure: { Bool };
+
     /// Makes room for a report. It answers `NoMemory` where memory was refused.
     fn prepare_report(&mut self) -> Result<(), NoMemory>
         ensures reported { reported self.new ≡ reported self.old }
-        ensures counted { refusals self.new ≡ refusals self.old };
+        ensures counted { refusals self.new ≡ refusals self.old }
+        ensures room { is_sure ≡ true → OnOk result (has_room self.new ≡ true) };
 
     /// Takes a report, or gives it back where there is no place for it.
     fn report(&mut self, violation: Violation) -> Result<(), Violation>
-        ensures { MatchResult result (λ _. (reported self.new ≡ reported self.old ++ violation ∷ []) × (refusals self.new ≡ refusals self.old))
-            (λ back. (back ≡ violation) × (reported self.new ≡ reported self.old) × (refusals self.new ≢ refusals self.old)) };
+        ensures taken { MatchResult result (λ _. (reported self.new ≡ reported self.old ++ violation ∷ []) × (refusals self.new ≡ refusals self.old))
+            (λ back. (back ≡ violation) × (reported self.new ≡ reported self.old) × (refusals self.new ≢ refusals self.old)) }
+        ensures full { OnErr result (has_room self.old ≡ false) };
 }

@@ -1,6 +1,6 @@
 //! Reports of violations in a list.
 
-ghost use Rattle.std.specs.Prelude.{◌≡◌, [], OnOk, true};
+ghost use Rattle.std.specs.Prelude.{◌≡◌, [], true};
 
 use crate::reporter::Reporter;
 use fab_types::{NoMemory, Violation};
@@ -47,11 +47,11 @@ impl Reporter for Reports {
 
     ghost refusals = { λ r. r.refusals };
 
-    fn prepare_report(&mut self) -> Result<(), NoMemory>
-        ensures reported { self.new.violations ≡ self.old.violations }
-        ensures counted { self.new.refusals ≡ self.old.refusals }
-        ensures room { OnOk result (self.new.has_room ≡ true) }
-    {
+    ghost has_room = { λ r. r.has_room };
+
+    ghost is_sure = { true };
+
+    fn prepare_report(&mut self) -> Result<(), NoMemory> {
         self.violations.reserve(1)?;
         Ok(())
     }

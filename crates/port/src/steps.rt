@@ -1,6 +1,8 @@
 //! The steps of a turn, each over the parts that it changes.
 
-ghost use Rattle.std.specs.Prelude.{◌≡◌, ◌≢◌, ◌⊎◌, ◌++◌, ◌∷◌, [], Some, None, IsSome, true, false, ⊤, option_to_list};
+ghost use Rattle.std.specs.Prelude.{◌≡◌, ◌≢◌, ◌⊎◌, ◌++◌, ◌∷◌, [], Some, None, IsSome, IfSome, OnOk, true, false, ⊤, option_to_list};
+ghost use Rattle.port.specs.Blocked.{may_refuse_answer};
+ghost use Rattle.port.specs.Lanes.{Class, class_of, eligible};
 ghost use Rattle.port.specs.Steps.{Forwards, IsOfTurn, Refuses, Strays};
 ghost use Rattle.port.specs.Vetted.{may_go_on};
 
@@ -39,6 +41,7 @@ pub(crate) fn prepare<R: Reporter>(
 ) -> Result<(), NoMemory>
     ensures reported { R.reported reporter.new ≡ R.reported reporter.old }
     ensures counted { R.refusals reporter.new ≡ R.refusals reporter.old }
+    ensures room { R.is_sure ≡ true → OnOk result (IfSome report.now (λ _. R.has_room reporter.new ≡ true)) }
 {
     match report {
         Some(_) => reporter.prepare_report(),
@@ -53,7 +56,8 @@ pub(crate) fn report_or_hold<R: Reporter>(
     report: Option<Violation>,
 )
     requires { held.old ≡ None }
-    ensures { R.reported reporter.old ++ option_to_list report ≡ R.reported reporter.new ++ option_to_list held.new }
+    ensures told { R.reported reporter.old ++ option_to_list report ≡ R.reported reporter.new ++ option_to_list held.new }
+    ensures room { IfSome report (λ _. R.has_room reporter.old ≡ true) → held.new ≡ None }
 {
     let Some(violation) = report else {
         return;
@@ -68,6 +72,7 @@ pub(crate) fn settle<O: LaneOut>(back: &mut O, kept: &mut Option<Frame>) -> bool
     ensures put { result ≡ true → (kept.new ≡ None) × (O.sent back.new ≡ O.sent back.old ++ option_to_list kept.old) }
     ensures rests { result ≡ false → (kept.new ≡ kept.old) × (O.sent back.new ≡ O.sent back.old) × (O.refusals back.new ≢ O.refusals back.old) }
     ensures counted { result ≡ true → O.refusals back.new ≡ O.refusals back.old }
+    ensures nothing_kept { kept.old ≡ None → back.new ≡ back.old }
     ensures lane { O.lane back.new ≡ O.lane back.old }
 {
     let Some(frame) = kept.take() else {
@@ -114,6 +119,8 @@ pub(crate) fn forward<I: LaneIn, O: LaneOut>(
     ensures moved { result ≡ Outcome.Moved → Forwards class (may_go_on is_guarded owner) (I.waiting input.old) (O.sent out.old) strays.old.items (I.waiting input.new) (O.sent out.new) strays.new.items }
     ensures rests { result ≢ Outcome.Moved → (I.waiting input.new ≡ I.waiting input.old) × (O.sent out.new ≡ O.sent out.old) × (strays.new.items ≡ strays.old.items) }
     ensures cause { result ≡ Outcome.Idle → (I.misses input.new ≢ I.misses input.old) ⊎ (O.refusals out.new ≢ O.refusals out.old) }
+    ensures blocked { result ≡ Outcome.Idle → (eligible class (I.waiting input.old) ≡ None) ⊎ (O.may_refuse out.old class ≡ true) }
+    ensures free { O.is_sure ≡ true → result ≢ Outcome.Idle → O.may_refuse out.old class ≡ false }
     ensures answer { IsOfTurn result }
     ensures input_lane { I.lane input.new ≡ I.lane input.old }
     ensures lane { O.lane out.new ≡ O.lane out.old }
@@ -142,6 +149,7 @@ pub(crate) fn stray<I: LaneIn>(input: &mut I, strays: &mut Vec<Frame>, class: Cl
     ensures moved { result ≡ Outcome.Moved → Strays class (λ _. ⊤) (I.waiting input.old) strays.old.items (I.waiting input.new) strays.new.items }
     ensures rests { result ≢ Outcome.Moved → (I.waiting input.new ≡ I.waiting input.old) × (strays.new.items ≡ strays.old.items) }
     ensures cause { result ≡ Outcome.Idle → I.misses input.new ≢ I.misses input.old }
+    ensures blocked { result ≡ Outcome.Idle → eligible class (I.waiting input.old) ≡ None }
     ensures answer { IsOfTurn result }
     ensures input_lane { I.lane input.new ≡ I.lane input.old }
 {
@@ -150,6 +158,21 @@ pub(crate) fn stray<I: LaneIn>(input: &mut I, strays: &mut Vec<Frame>, class: Cl
         return Outcome::Idle;
     };
     keep_stray(input, strays, frame)
+}
+
+/// Has the lane no place for what answers a packet of this class? Only a non-posted request is answered.
+pub(crate) fn answer_waits<O: LaneOut>(back: &mut O, class: Class) -> bool
+    ensures lane { O.lane back.new ≡ O.lane back.old }
+    ensures sent { O.sent back.new ≡ O.sent back.old }
+    ensures cause { result ≡ true → O.refusals back.new ≢ O.refusals back.old }
+    ensures full { result ≡ true → may_refuse_answer (O.may_refuse back.old) class ≡ true }
+    ensures exact { O.is_sure ≡ true → result ≡ may_refuse_answer (O.may_refuse back.old) class }
+    ensures same { (other : Class) → O.may_refuse back.new other ≡ O.may_refuse back.old other }
+{
+    match class {
+        Class::NonPosted => back.is_full(Class::Completion),
+        Class::Posted | Class::Completion => false,
+    }
 }
 
 /// What became of a packet that was to be refused.
@@ -177,14 +200,12 @@ pub(crate) fn refuse<W: Wait, I: LaneIn, O: LaneOut, D: Desk>(
     ensures strayed { result ≡ Refusal.Strayed → (Strays class (λ f. D.unknown (D.known desk.old) f port) (I.waiting input.old) strays.old.items (I.waiting input.new) strays.new.items) × (O.sent back.new ≡ O.sent back.old) × (D.known desk.new ≡ D.known desk.old) × (kept.new ≡ None) }
     ensures idle { result ≡ Refusal.Idle → (I.waiting input.new ≡ I.waiting input.old) × (O.sent back.new ≡ O.sent back.old) × (D.known desk.new ≡ D.known desk.old) × (kept.new ≡ None) × (strays.new.items ≡ strays.old.items) }
     ensures memory { result ≡ Refusal.NoMemory → (I.waiting input.new ≡ I.waiting input.old) × (O.sent back.new ≡ O.sent back.old) × (D.known desk.new ≡ D.known desk.old) × (kept.new ≡ None) × (strays.new.items ≡ strays.old.items) }
-    ensures cause { result ≡ Refusal.Idle → (I.misses input.new ≢ I.misses input.old) ⊎ (O.refusals back.new ≢ O.refusals back.old) }
+    ensures cause { result ≡ Refusal.Idle → I.misses input.new ≢ I.misses input.old }
+    ensures blocked { result ≡ Refusal.Idle → eligible class (I.waiting input.old) ≡ None }
+    ensures kept { IfSome kept.new (λ answer. O.may_refuse back.old (class_of answer) ≡ true) }
     ensures input_lane { I.lane input.new ≡ I.lane input.old }
     ensures lane { O.lane back.new ≡ O.lane back.old }
 {
-    // Only a non-posted request is answered.
-    if matches!(class, Class::NonPosted) && back.is_full(Class::Completion) {
-        return Refusal::Idle;
-    }
     let Some(frame) = input.take(class) else {
         let _ = input.head(class);
         return Refusal::Idle;

@@ -1,9 +1,11 @@
 //! One turn of a port, over lanes of any kind.
 
-ghost use Rattle.std.specs.Prelude.{◌≡◌, ◌≢◌, ◌⊎◌, ◌+◌, ◌≤◌, Some, None, length, map};
+ghost use Rattle.std.specs.Prelude.{◌≡◌, ◌≢◌, ◌⊎◌, ◌+◌, ◌≤◌, Some, None, IfSome, true, false, length, map};
 ghost use Rattle.fab_types.specs.declared.violation.Violation.{Violation};
 ghost use Rattle.port.specs.Vetted.{requester_owner};
+ghost use Rattle.port.specs.Lanes.{class_of, eligible};
 ghost use Rattle.port.specs.Steps.{IsOfTurn};
+ghost use Rattle.port.specs.Blocked.{course_is_blocked, is_blocked, may_refuse_at};
 ghost use Rattle.port.specs.Turns.{Advanced, Moves, Rests, Stops, sight_of, sight_with, counts_of};
 
 use crate::course::Course;
@@ -11,7 +13,7 @@ use crate::desk::Desk;
 use crate::lanes::{LaneIn, LaneOut};
 use crate::port::Port;
 use crate::reporter::Reporter;
-use crate::slots::{forward_at, refuse_at, settle_at};
+use crate::slots::{answer_waits_at, forward_at, refuse_at, settle_at};
 use crate::steps::{Refusal, prepare, report_or_hold, stray, tell};
 use acs::requester_of;
 use bridge::Bridge;
@@ -54,10 +56,18 @@ fn stop<W: Wait, I: LaneIn, O: LaneOut, D: Desk, R: Reporter>(
     ensures moved { result ≡ Outcome.Moved → Stops D.refuses D.unknown port.old.config class report (sight_with (I.waiting input.old) (map O.sent outs.old) (D.known desk.old) (R.reported reporter.old) port.old) (sight_with (I.waiting input.new) (map O.sent outs.new) (D.known desk.new) (R.reported reporter.new) port.new) }
     ensures rests { result ≢ Outcome.Moved → sight_with (I.waiting input.new) (map O.sent outs.new) (D.known desk.new) (R.reported reporter.new) port.new ≡ sight_with (I.waiting input.old) (map O.sent outs.old) (D.known desk.old) (R.reported reporter.old) port.old }
     ensures cause { result ≡ Outcome.Idle → (I.misses input.new ≢ I.misses input.old) ⊎ (map O.refusals outs.new ≢ map O.refusals outs.old) }
+    ensures blocked { result ≡ Outcome.Idle → (eligible class (I.waiting input.old) ≡ None) ⊎ (course_is_blocked (map O.may_refuse outs.old) port.old.config.own class (Course.Stop report) ≡ true) }
+    ensures free { O.is_sure ≡ true → result ≢ Outcome.Idle → course_is_blocked (map O.may_refuse outs.old) port.old.config.own class (Course.Stop report) ≡ false }
+    ensures kept { IfSome port.new.kept (λ answer. may_refuse_at (map O.may_refuse outs.old) port.old.config.own (class_of answer) ≡ true) }
+    ensures held { R.is_sure ≡ true → port.new.held ≡ None }
     ensures answer { IsOfTurn result }
     ensures config { port.new.config ≡ port.old.config }
     ensures same_lanes { (I.lane input.new ≡ I.lane input.old) × (map O.lane outs.new ≡ map O.lane outs.old) }
 {
+    // Only where the packet can be refused is memory asked for.
+    if answer_waits_at(outs, port.own, class) {
+        return Outcome::Idle;
+    }
     if prepare(reporter, &report).is_err() {
         return Outcome::NoMemory;
     }
@@ -99,6 +109,10 @@ fn proceed<W: Wait, I: LaneIn, O: LaneOut, D: Desk, R: Reporter>(
     ensures moved { result ≡ Outcome.Moved → Advanced D.refuses D.unknown bridge.now port.old.config class (sight_with (I.waiting input.old) (map O.sent outs.old) (D.known desk.old) (R.reported reporter.old) port.old) (sight_with (I.waiting input.new) (map O.sent outs.new) (D.known desk.new) (R.reported reporter.new) port.new) }
     ensures rests { result ≢ Outcome.Moved → sight_with (I.waiting input.new) (map O.sent outs.new) (D.known desk.new) (R.reported reporter.new) port.new ≡ sight_with (I.waiting input.old) (map O.sent outs.old) (D.known desk.old) (R.reported reporter.old) port.old }
     ensures cause { result ≡ Outcome.Idle → (I.misses input.new ≢ I.misses input.old) ⊎ (map O.refusals outs.new ≢ map O.refusals outs.old) }
+    ensures blocked { result ≡ Outcome.Idle → is_blocked bridge.now port.old.config (map O.may_refuse outs.old) class (I.waiting input.old) ≡ true }
+    ensures free { O.is_sure ≡ true → result ≢ Outcome.Idle → is_blocked bridge.now port.old.config (map O.may_refuse outs.old) class (I.waiting input.old) ≡ false }
+    ensures kept { IfSome port.new.kept (λ answer. may_refuse_at (map O.may_refuse outs.old) port.old.config.own (class_of answer) ≡ true) }
+    ensures held { R.is_sure ≡ true → port.new.held ≡ None }
     ensures answer { IsOfTurn result }
     ensures config { port.new.config ≡ port.old.config }
     ensures same_lanes { (I.lane input.new ≡ I.lane input.old) × (map O.lane outs.new ≡ map O.lane outs.old) }
@@ -140,6 +154,10 @@ fn advance<W: Wait, I: LaneIn, O: LaneOut, D: Desk, R: Reporter>(
     ensures rests { result ≢ Outcome.Moved → Rests port.old.config.own (sight_with (I.waiting input.old) (map O.sent outs.old) (D.known desk.old) (R.reported reporter.old) port.old) (sight_with (I.waiting input.new) (map O.sent outs.new) (D.known desk.new) (R.reported reporter.new) port.new) }
     ensures waits { (v : Violation) → port.old.held ≡ Some v → (I.waiting input.new ≡ I.waiting input.old) × (map O.sent outs.new ≡ map O.sent outs.old) }
     ensures cause { result ≡ Outcome.Idle → (I.misses input.new ≢ I.misses input.old) ⊎ ((map O.refusals outs.new ≢ map O.refusals outs.old) ⊎ (R.refusals reporter.new ≢ R.refusals reporter.old)) }
+    ensures blocked { port.old.held ≡ None → port.old.kept ≡ None → result ≡ Outcome.Idle → is_blocked bridge.now port.old.config (map O.may_refuse outs.old) class (I.waiting input.old) ≡ true }
+    ensures free { O.is_sure ≡ true → port.old.held ≡ None → port.old.kept ≡ None → result ≢ Outcome.Idle → is_blocked bridge.now port.old.config (map O.may_refuse outs.old) class (I.waiting input.old) ≡ false }
+    ensures kept { port.old.kept ≡ None → IfSome port.new.kept (λ answer. may_refuse_at (map O.may_refuse outs.old) port.old.config.own (class_of answer) ≡ true) }
+    ensures held { R.is_sure ≡ true → port.old.held ≡ None → port.new.held ≡ None }
     ensures answer { IsOfTurn result }
     ensures config { port.new.config ≡ port.old.config }
     ensures same_lanes { (I.lane input.new ≡ I.lane input.old) × (map O.lane outs.new ≡ map O.lane outs.old) }
@@ -160,6 +178,11 @@ impl Port {
     /// that made it, or is kept as one that the port has no case for. `Moved`: a packet left the lane in,
     /// or a held report was taken. `Idle`: the lane lent no head, a lane was full, or one gave a packet
     /// or the reporter a report back. `NoMemory`: memory was refused; then the packet stays where it was.
+    ///
+    /// Over lanes and a reporter that are sure, a turn that begins with nothing held and nothing kept holds no
+    /// report, keeps an answer only where the port's own lane has no place for its class, and is `Idle` exactly
+    /// where it is blocked: no packet of the class is eligible, the lane that its course names has no place for
+    /// it, or the port's own lane has none for the answer to a non-posted request that it stops.
     pub fn turn<W: Wait, I: LaneIn, O: LaneOut, D: Desk, R: Reporter>(
         &mut self,
         rt: &W,
@@ -171,6 +194,16 @@ impl Port {
         ensures rests { result ≢ Outcome.Moved → Rests self.old.config.own (sight_of I.waiting O.sent D.known R.reported self.old lanes.old) (sight_of I.waiting O.sent D.known R.reported self.new lanes.new) }
         ensures waits { (v : Violation) → self.old.held ≡ Some v → (I.waiting lanes.new.input.now ≡ I.waiting lanes.old.input.now) × (map O.sent lanes.new.outs.now ≡ map O.sent lanes.old.outs.now) }
         ensures cause { result ≡ Outcome.Idle → counts_of I.misses O.refusals R.refusals lanes.new ≢ counts_of I.misses O.refusals R.refusals lanes.old }
+
+        // A turn that begins with nothing held and nothing kept is idle only where it is blocked, and always
+        // there if the lanes are sure.
+        ensures blocked { self.old.held ≡ None → self.old.kept ≡ None → result ≡ Outcome.Idle → is_blocked lanes.old.bridge.now self.old.config (map O.may_refuse lanes.old.outs.now) class (I.waiting lanes.old.input.now) ≡ true }
+        ensures free { O.is_sure ≡ true → self.old.held ≡ None → self.old.kept ≡ None → result ≢ Outcome.Idle → is_blocked lanes.old.bridge.now self.old.config (map O.may_refuse lanes.old.outs.now) class (I.waiting lanes.old.input.now) ≡ false }
+
+        // An answer is kept only where the port's own lane, as it was before the turn, may refuse its class.
+        ensures kept { self.old.kept ≡ None → IfSome self.new.kept (λ answer. may_refuse_at (map O.may_refuse lanes.old.outs.now) self.old.config.own (class_of answer) ≡ true) }
+        ensures held { R.is_sure ≡ true → self.old.held ≡ None → self.new.held ≡ None }
+
         ensures answer { IsOfTurn result }
         ensures config { self.new.config ≡ self.old.config }
         ensures same_lanes { (I.lane lanes.new.input.now ≡ I.lane lanes.old.input.now) × (map O.lane lanes.new.outs.now ≡ map O.lane lanes.old.outs.now) }

@@ -1,5 +1,6 @@
-use Rattle.std.proofs.Common.{◌≡◌, true, false, inl, inr, ⊎_elim}
-use Rattle.port.proofs.OneLane.{put_at, kept_at, counted_at}
+use Rattle.std.proofs.Common.{ap, ◌∙◌, inl, inr, ⊎_elim, Bool}
+use Rattle.port.proofs.OneLane.{put_at, kept_at, counted_at, refused_at}
+use Rattle.port.specs.Lanes.{Class}
 use Rattle.port.proofs.slots.forward_at.Goals as goal
 
 pub returns-clause-moved : goal.returns-clause-moved
@@ -23,3 +24,11 @@ returns-clause-cause g c = λ e. ⊎_elim inl
 
 pub returns-clause-lanes : goal.returns-clause-lanes
 returns-clause-lanes g c = kept_at g.O.LaneOut.lane c.args.outs.now c.args.lane c.index-outs-lane.result c.forward.new.out c.forward.ensures.lane
+
+pub returns-clause-blocked : goal.returns-clause-blocked
+returns-clause-blocked g c = λ e. let at = refused_at g.O.LaneOut.may_refuse c.args.outs.now c.args.lane c.index-outs-lane.result c.requires in
+    ⊎_elim inl (λ h. inr (ap (λ (may : Class → Bool). may c.args.class) at ∙ h)) (c.forward.ensures.blocked e)
+
+pub returns-clause-free : goal.returns-clause-free
+returns-clause-free g c = λ sure e. let at = refused_at g.O.LaneOut.may_refuse c.args.outs.now c.args.lane c.index-outs-lane.result c.requires in
+    ap (λ (may : Class → Bool). may c.args.class) at ∙ c.forward.ensures.free sure e

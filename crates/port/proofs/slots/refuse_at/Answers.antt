@@ -1,5 +1,4 @@
-use Rattle.std.proofs.Common.{◌≡◌, true, false, inl, inr, ⊎_elim}
-use Rattle.port.proofs.OneLane.{put_at, kept_at, counted_at}
+use Rattle.port.proofs.OneLane.{put_at, kept_at, refused_kept}
 use Rattle.port.proofs.slots.refuse_at.Goals as goal
 
 pub returns-clause-refused : goal.returns-clause-refused
@@ -28,10 +27,8 @@ pub returns-clause-memory : goal.returns-clause-memory
 returns-clause-memory g c = λ e. let w = c.refuse.ensures.memory e in
     (w.0, kept_at g.O.LaneOut.sent c.args.outs.now c.args.own c.index-outs-own.result c.refuse.new.back w.1, w.2, w.3, w.4)
 
-pub returns-clause-cause : goal.returns-clause-cause
-returns-clause-cause g c = λ e. ⊎_elim inl
-    (λ h. inr (λ same. h (counted_at g.O.LaneOut.refusals c.args.outs.now c.args.own c.index-outs-own.result c.refuse.new.back c.requires.lane same)))
-    (c.refuse.ensures.cause e)
-
 pub returns-clause-lanes : goal.returns-clause-lanes
 returns-clause-lanes g c = kept_at g.O.LaneOut.lane c.args.outs.now c.args.own c.index-outs-own.result c.refuse.new.back c.refuse.ensures.lane
+
+pub returns-clause-kept : goal.returns-clause-kept
+returns-clause-kept g c = refused_kept g.O.LaneOut.may_refuse c.args.outs.now c.args.own c.index-outs-own.result c.requires.lane c.refuse.new.kept c.refuse.ensures.kept

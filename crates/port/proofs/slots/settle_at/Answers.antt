@@ -1,4 +1,4 @@
-use Rattle.port.proofs.OneLane.{put_at, kept_at, counted_at}
+use Rattle.port.proofs.OneLane.{put_at, kept_at, counted_at, left_at}
 use Rattle.port.proofs.slots.settle_at.Goals as goal
 
 pub returns-clause-put : goal.returns-clause-put
@@ -18,3 +18,6 @@ returns-clause-cause g c = λ e same. let w = c.settle.ensures.rests e in
 
 pub returns-clause-lanes : goal.returns-clause-lanes
 returns-clause-lanes g c = kept_at g.O.LaneOut.lane c.args.outs.now c.args.own c.index-outs-own.result c.settle.new.back c.settle.ensures.lane
+
+pub returns-clause-nothing_kept : goal.returns-clause-nothing_kept
+returns-clause-nothing_kept g c = λ none. left_at c.args.outs.now c.args.own c.index-outs-own.result c.settle.new.back (c.settle.ensures.nothing_kept none)
