@@ -1,5 +1,4 @@
 pub mod OwnerLemmas
-pub mod TextLemmas
 pub mod Pieces
 pub mod Bools
 pub mod NoFault

@@ -4,8 +4,9 @@ use Rattle.std.specs.Prelude.{nat_le, Result, Ok, Err}
 use Rattle.fab_types.specs.declared.faults.layout.LayoutCause.{LayoutCause}
 use Rattle.fab_types.specs.declared.faults.layout.LayoutCause.TheVariants as cause
 use Rattle.fab_types.specs.declared.faults.layout.LayoutFault.{LayoutFault}
+use Rattle.text.specs.Text.{is_last}
 use Rattle.layout.specs.Platform.{Platform}
-use Rattle.layout.specs.Reading.{with_line, read_from, next_number, fault_at, ended, is_last, and_on, is_reached}
+use Rattle.layout.specs.Reading.{with_line, read_from, next_number, fault_at, ended, and_on, is_reached}
 
 here : (n : ℕ) → nat_le n n ≡ true
 here n = le-leb n n (omega arith)

@@ -9,15 +9,15 @@ use Rattle.layout.specs.declared.lines.BudgetLine.{BudgetLine}
 use Rattle.layout.specs.declared.lines.CreditLimits.{CreditLimits}
 use Rattle.layout.specs.declared.lines.CreditLine.{CreditLine}
 use Rattle.fab_types.specs.declared.controls.AcsControl.{AcsControl}
-use Rattle.layout.specs.declared.text.statement.SwitchText.{SwitchText}
-use Rattle.layout.specs.declared.text.statement.PortText.{PortText}
-use Rattle.layout.specs.declared.text.statement.MapText.{MapText}
-use Rattle.layout.specs.declared.text.statement.TargetText.{TargetText}
-use Rattle.layout.specs.declared.text.statement.TargetText.TheVariants as target
-use Rattle.layout.specs.declared.text.statement.BudgetText.{BudgetText}
-use Rattle.layout.specs.declared.text.statement.CreditText.{CreditText}
-use Rattle.layout.specs.declared.text.statement.Statement.{Statement}
-use Rattle.layout.specs.declared.text.statement.Statement.TheVariants.{Frames, Root, Switch, Port, Function, Map, Budget, Credit}
+use Rattle.layout.specs.declared.statement.SwitchText.{SwitchText}
+use Rattle.layout.specs.declared.statement.PortText.{PortText}
+use Rattle.layout.specs.declared.statement.MapText.{MapText}
+use Rattle.layout.specs.declared.statement.TargetText.{TargetText}
+use Rattle.layout.specs.declared.statement.TargetText.TheVariants as target
+use Rattle.layout.specs.declared.statement.BudgetText.{BudgetText}
+use Rattle.layout.specs.declared.statement.CreditText.{CreditText}
+use Rattle.layout.specs.declared.statement.Statement.{Statement}
+use Rattle.layout.specs.declared.statement.Statement.TheVariants.{Frames, Root, Switch, Port, Function, Map, Budget, Credit}
 use Rattle.layout.specs.Platform.{Platform}
 
 abbrev pub root_line : ℕ → SwitchLine

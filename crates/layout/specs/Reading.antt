@@ -1,11 +1,11 @@
 -- A text is read line by line: it is a platform, or it has a first faulty line.
-use Rattle.std.specs.Prelude.{◌≡◌, ℕ, ◌+◌, ◌^◌, ◌-◌, ◌==◌, min, Bool, true, false, ◌&&◌, not, nat_le, List, [], ◌∷◌, slice_index, codes, Option, Some, None, Result, Ok, Err, MatchResult, ◌⊎◌, if◌then◌else◌}
+use Rattle.std.specs.Prelude.{◌≡◌, ℕ, ◌+◌, ◌^◌, ◌-◌, min, Bool, true, false, ◌&&◌, not, nat_le, List, [], ◌∷◌, codes, Option, Some, None, Result, Ok, Err, MatchResult, ◌⊎◌, if◌then◌else◌}
 use Rattle.std.specs.Str.{bytes_eq}
 use Rattle.fab_types.specs.declared.faults.layout.LayoutCause.{LayoutCause}
 use Rattle.fab_types.specs.declared.faults.layout.LayoutCause.TheVariants as cause
 use Rattle.fab_types.specs.declared.faults.layout.LayoutFault.{LayoutFault}
-use Rattle.layout.specs.declared.text.statement.Statement.{Statement}
-use Rattle.layout.specs.Text.{pieces}
+use Rattle.layout.specs.declared.statement.Statement.{Statement}
+use Rattle.text.specs.Text.{pieces, is_last, is_comment}
 use Rattle.layout.specs.Statements.{statement_of}
 use Rattle.layout.specs.Platform.{Platform, no_lines}
 use Rattle.layout.specs.Tree.{has_root}
@@ -24,10 +24,7 @@ abbrev pub with_form : Platform → Option Statement → Result Platform LayoutC
 with_form platform None = Err cause.Line
 with_form platform (Some statement) = with_statement platform statement
 
--- a line that begins with `#` says nothing
-abbrev pub is_comment : List ℕ → Bool
-is_comment line = slice_index line 0 == 35
-
+-- a comment says nothing
 unfoldable pub with_line : Platform → List ℕ → Result Platform LayoutCause
 with_line platform line = if is_comment line then Ok platform else with_form platform (statement_of line)
 
@@ -37,10 +34,6 @@ fault_at number refusal = record { cause = refusal; line = number }
 -- lines are counted from 1; the count stops at 4,294,967,295
 abbrev pub next_number : ℕ → ℕ
 next_number number = min (number + 1) (2 ^ 32 - 1)
-
-abbrev pub is_last : List (List ℕ) → Bool
-is_last [] = true
-is_last (piece ∷ rest) = false
 
 -- behind the last line feed stands nothing, and by then there is a switch below the root port
 abbrev pub ended : Platform → ℕ → List ℕ → Result Platform LayoutFault

@@ -10,15 +10,15 @@ use Rattle.layout.specs.declared.lines.FunctionLine.{FunctionLine}
 use Rattle.layout.specs.declared.lines.MapTarget.{MapTarget}
 use Rattle.layout.specs.declared.lines.MapTarget.TheVariants as mapped
 use Rattle.layout.specs.declared.lines.MapLine.{MapLine}
-use Rattle.layout.specs.declared.text.statement.SwitchText.{SwitchText}
-use Rattle.layout.specs.declared.text.statement.PortText.{PortText}
-use Rattle.layout.specs.declared.text.statement.MapText.{MapText}
-use Rattle.layout.specs.declared.text.statement.TargetText.{TargetText}
-use Rattle.layout.specs.declared.text.statement.TargetText.TheVariants as target
-use Rattle.layout.specs.declared.text.statement.BudgetText.{BudgetText}
-use Rattle.layout.specs.declared.text.statement.CreditText.{CreditText}
-use Rattle.layout.specs.declared.text.statement.Statement.{Statement}
-use Rattle.layout.specs.declared.text.statement.Statement.TheVariants.{Frames, Root, Switch, Port, Function, Map, Budget, Credit}
+use Rattle.layout.specs.declared.statement.SwitchText.{SwitchText}
+use Rattle.layout.specs.declared.statement.PortText.{PortText}
+use Rattle.layout.specs.declared.statement.MapText.{MapText}
+use Rattle.layout.specs.declared.statement.TargetText.{TargetText}
+use Rattle.layout.specs.declared.statement.TargetText.TheVariants as target
+use Rattle.layout.specs.declared.statement.BudgetText.{BudgetText}
+use Rattle.layout.specs.declared.statement.CreditText.{CreditText}
+use Rattle.layout.specs.declared.statement.Statement.{Statement}
+use Rattle.layout.specs.declared.statement.Statement.TheVariants.{Frames, Root, Switch, Port, Function, Map, Budget, Credit}
 use Rattle.layout.specs.Owners.{is_function, owns_port}
 use Rattle.layout.specs.Tree.{port_at, port_over, id_below, switch_on, port_above, is_third_level, is_taken, domain_of}
 use Rattle.layout.specs.Platform.{Platform}

@@ -1,21 +1,13 @@
 -- What a line says, before any rule is tested: a first word and its fields, each up to the next
 -- blank and the last one up to the line's end.
-use Rattle.std.specs.Prelude.{ℕ, true, false, List, codes, Option, Some, None, option_map, option_and_then, if◌then◌else◌}
+use Rattle.std.specs.Prelude.{ℕ, true, false, List, codes, Option, Some, None, option_map, if◌then◌else◌}
 use Rattle.std.specs.Str.{bytes_eq}
-use Rattle.layout.specs.Text.{cut, decimal, hexadecimal, id_at}
+use Rattle.text.specs.Text.{◌>>=◌, at_blank, decimal, hexadecimal, id_at}
 use Rattle.layout.specs.declared.lines.Rights.{Rights}
-use Rattle.layout.specs.declared.text.statement.TargetText.{TargetText}
-use Rattle.layout.specs.declared.text.statement.TargetText.TheVariants as target
-use Rattle.layout.specs.declared.text.statement.Statement.{Statement}
-use Rattle.layout.specs.declared.text.statement.Statement.TheVariants.{Frames, Root, Switch, Port, Function, Map, Budget, Credit}
-
-infixl 10 ◌>>=◌
-abbrev pub ◌>>=◌ : {A B : Type 0} → Option A → (A → Option B) → Option B
-o >>= f = option_and_then f o
-
--- a text cut at its first blank
-abbrev pub at_blank : List ℕ → Option (List ℕ × List ℕ)
-at_blank text = cut 32 text
+use Rattle.layout.specs.declared.statement.TargetText.{TargetText}
+use Rattle.layout.specs.declared.statement.TargetText.TheVariants as target
+use Rattle.layout.specs.declared.statement.Statement.{Statement}
+use Rattle.layout.specs.declared.statement.Statement.TheVariants.{Frames, Root, Switch, Port, Function, Map, Budget, Credit}
 
 -- `frames N`
 abbrev pub frames_text : List ℕ → Option Statement

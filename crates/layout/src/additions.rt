@@ -5,16 +5,17 @@ ghost use Rattle.std.specs.List.{find};
 ghost use Rattle.layout.specs.Rules.{has_good_credits, is_past_frames};
 ghost use Rattle.layout.specs.Owners.{owns_port};
 ghost use Rattle.layout.specs.Additions.{port_line, target_of_text, limits_of_text};
-ghost use Rattle.layout.specs.Reading.{with_statement, with_form, with_line, is_comment, IsStep};
+ghost use Rattle.layout.specs.Reading.{with_statement, with_form, with_line, IsStep};
 
 use crate::lines::{
     BudgetLine, CreditLimits, CreditLine, FunctionLine, MapLine, MapTarget, PortLine, SwitchLine,
 };
 use crate::platform::Layout;
-use crate::text::statement::{
+use crate::statement::{
     BudgetText, CreditText, MapText, PortText, Statement, SwitchText, TargetText, statement_of,
 };
 use fab_types::{AcsControl, Bdf, DomainId, LayoutCause, PortId};
+use text::is_comment;
 
 fn port_line(port: &PortText) -> PortLine
     requires owner { (1 ≤ port.now.owner) × (port.now.owner ≤ 31) }
@@ -55,12 +56,6 @@ fn target_of_text(target: &TargetText) -> MapTarget
         TargetText::Frame(frame) => MapTarget::Frame(*frame as u16),
         TargetText::Peer(peer) => MapTarget::Peer(*peer),
     }
-}
-
-fn is_comment(line: &[u8]) -> bool
-    ensures { result ≡ is_comment line.now }
-{
-    !line.is_empty() && line[0] == b'#'
 }
 
 fn find_owner(ports: &[PortLine], domain: u32) -> Option<DomainId>

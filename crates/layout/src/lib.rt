@@ -9,7 +9,7 @@ mod reach;
 mod read;
 mod rules;
 mod start;
-mod text;
+mod statement;
 mod views;
 
 pub use lines::{

@@ -1,16 +1,16 @@
 //! Reading a layout text.
 
 ghost use Rattle.std.specs.Prelude.{◌≡◌, IfOk};
-ghost use Rattle.layout.specs.Text.{pieces};
+ghost use Rattle.text.specs.Text.{pieces};
 ghost use Rattle.layout.specs.Platform.{no_lines};
 ghost use Rattle.layout.specs.Laws.{IsPlatform};
 ghost use Rattle.layout.specs.Reading.{ended, read_from, reading, IsReading};
 
 use crate::platform::Layout;
 use crate::rules::tree::has_root;
-use crate::text::fields::{cut, is_word};
 use fab_types::{LayoutCause, LayoutFault};
 use std::alloc::Global;
+use text::{cut, is_word};
 
 // Behind the last line feed stands nothing, and by then there is a switch below the root port.
 fn ended(layout: Layout, line: u32, rest: &[u8]) -> Result<Layout, LayoutFault>

@@ -10,7 +10,7 @@ use crate::lines::{FunctionLine, MapLine, MapTarget, PortLine};
 use crate::owners::is_function;
 use crate::platform::Layout;
 use crate::rules::tree::domain_of;
-use crate::text::statement::{MapText, TargetText};
+use crate::statement::{MapText, TargetText};
 use fab_types::{Bdf, LayoutCause};
 
 fn is_known_target(functions: &[FunctionLine], target: &TargetText) -> bool

@@ -8,7 +8,7 @@ use crate::lines::{PortLine, SwitchLine};
 use crate::platform::Layout;
 use crate::rules::links::is_within;
 use crate::rules::tree::{port_above, port_at, switch_on};
-use crate::text::statement::PortText;
+use crate::statement::PortText;
 use fab_types::LayoutCause;
 
 #[tactic(auto, unfolding(crate::specs::Rules::has_bad_fields))]

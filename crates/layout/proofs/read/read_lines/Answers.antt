@@ -1,5 +1,5 @@
 use Rattle.std.proofs.Common.{sym, ◌∙◌, inl, inr, arith}
-use Rattle.layout.specs.Text.{pieces}
+use Rattle.text.specs.Text.{pieces}
 use Rattle.layout.proofs.Pieces.{read-line, read-fault, read-end, reading-is}
 use Rattle.layout.proofs.Reached.{reached}
 use Rattle.layout.proofs.read.read_lines.Goals as goal

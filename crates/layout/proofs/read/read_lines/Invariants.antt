@@ -1,5 +1,5 @@
 use Rattle.std.proofs.Common.{◌≡◌, ◌<◌, length}
-use Rattle.layout.specs.Text.{pieces}
+use Rattle.text.specs.Text.{pieces}
 use Rattle.layout.specs.Platform.{no_lines}
 use Rattle.layout.specs.Reading.{read_from}
 use Rattle.layout.proofs.read.read_lines.Given as goal

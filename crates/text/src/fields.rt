@@ -3,11 +3,11 @@
 ghost use Rattle.std.specs.Prelude.{◌≡◌, ◌<◌, length, IfSome, option_map};
 ghost use Rattle.std.specs.Str.{bytes_eq};
 ghost use Rattle.std.specs.List.{position};
-ghost use Rattle.layout.specs.Text.{cut, is_byte};
+ghost use Rattle.text.specs.Text.{at_blank, cut, is_byte, is_comment};
 
 /// The two parts of a text that was cut.
-#[derive(Clone, Copy)]
-pub(crate) struct Parts<'a> {
+#[derive(Clone, Copy, Debug)]
+pub struct Parts<'a> {
     pub before: &'a [u8],
     pub after: &'a [u8],
 }
@@ -20,7 +20,7 @@ fn first_place(text: &[u8], byte: u8) -> Option<usize>
 }
 
 /// Cuts a text at the first such byte, if there is one.
-pub(crate) fn cut(text: &[u8], byte: u8) -> Option<Parts<'_>>
+pub fn cut(text: &[u8], byte: u8) -> Option<Parts<'_>>
     ensures parts { option_map (λ parts. (parts.before.now, parts.after.now)) result ≡ cut byte text.now }
     ensures shorter { IfSome result (λ parts. length parts.after.now < length text.now) }
 {
@@ -33,9 +33,24 @@ pub(crate) fn cut(text: &[u8], byte: u8) -> Option<Parts<'_>>
     }
 }
 
+/// Cuts a text at its first blank, if there is one.
+pub fn at_blank(text: &[u8]) -> Option<Parts<'_>>
+    ensures parts { option_map (λ parts. (parts.before.now, parts.after.now)) result ≡ at_blank text.now }
+    ensures shorter { IfSome result (λ parts. length parts.after.now < length text.now) }
+{
+    cut(text, b' ')
+}
+
 /// Is the field this word?
-pub(crate) fn is_word(field: &[u8], word: &str) -> bool
+pub fn is_word(field: &[u8], word: &str) -> bool
     ensures { result ≡ bytes_eq field.now word.now }
 {
     field == word.as_bytes()
+}
+
+/// Does the line begin with `#`?
+pub fn is_comment(line: &[u8]) -> bool
+    ensures { result ≡ is_comment line.now }
+{
+    !line.is_empty() && line[0] == b'#'
 }

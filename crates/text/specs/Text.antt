@@ -1,5 +1,5 @@
 -- The lines of a text, the fields of a line, and numbers and IDs in them.
-use Rattle.std.specs.Prelude.{ℕ, ◌+◌, ◌*◌, ◌-◌, ◌==◌, Bool, ◌&&◌, nat_lt, nat_le, List, [], ◌∷◌, length, take, drop, slice_index, Option, Some, None, option_map, option_and_then, if◌then◌else◌}
+use Rattle.std.specs.Prelude.{ℕ, ◌+◌, ◌*◌, ◌-◌, ◌==◌, Bool, true, false, ◌&&◌, nat_lt, nat_le, List, [], ◌∷◌, length, take, drop, slice_index, Option, Some, None, option_map, option_and_then, if◌then◌else◌}
 use Rattle.std.specs.List.{position}
 use Rattle.fab_types.specs.Id.{id_of}
 
@@ -14,6 +14,14 @@ cut_at text at = (take at text, drop (at + 1) text)
 unfoldable pub cut : ℕ → List ℕ → Option (List ℕ × List ℕ)
 cut byte text = option_map (cut_at text) (position (is_byte byte) text)
 
+-- a text cut at its first blank
+abbrev pub at_blank : List ℕ → Option (List ℕ × List ℕ)
+at_blank text = cut 32 text
+
+infixl 10 ◌>>=◌
+abbrev pub ◌>>=◌ : {A B : Type 0} → Option A → (A → Option B) → Option B
+o >>= f = option_and_then f o
+
 abbrev pub before_line : ℕ → List (List ℕ) → List (List ℕ)
 before_line b [] = []
 before_line b (line ∷ lines) = (b ∷ line) ∷ lines
@@ -22,6 +30,15 @@ before_line b (line ∷ lines) = (b ∷ line) ∷ lines
 abbrev pub pieces : List ℕ → List (List ℕ)
 pieces [] = [] ∷ []
 pieces (b ∷ text) = if b == 10 then [] ∷ pieces text else before_line b (pieces text)
+
+-- the piece before these is the last
+abbrev pub is_last : List (List ℕ) → Bool
+is_last [] = true
+is_last (piece ∷ rest) = false
+
+-- the line begins with `#`
+abbrev pub is_comment : List ℕ → Bool
+is_comment line = slice_index line 0 == 35
 
 abbrev pub decimal_digit : ℕ → Option ℕ
 decimal_digit b = if nat_le 48 b && nat_le b 57 then Some (b - 48) else None

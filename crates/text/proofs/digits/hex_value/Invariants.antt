@@ -1,6 +1,6 @@
 use Rattle.std.proofs.Common.{◌≡◌, ◌<◌, ◌^◌, drop}
-use Rattle.layout.specs.Text.{hex_digit, digits}
-use Rattle.layout.proofs.text.digits.hex_value.Given as goal
+use Rattle.text.specs.Text.{hex_digit, digits}
+use Rattle.text.proofs.digits.hex_value.Given as goal
 
 abbrev pub invariant-loop-byte : goal.invariant-loop-byte
 invariant-loop-byte l = record {

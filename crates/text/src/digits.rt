@@ -1,7 +1,7 @@
 //! Numbers and IDs in a text.
 
 ghost use Rattle.std.specs.Prelude.{◌≡◌, ℕ, ◌<◌, ◌≤◌, ◌^◌, length, IfSome};
-ghost use Rattle.layout.specs.Text.{decimal_digit, hex_digit, digits, decimal, hexadecimal, hex_pair, id_of_known, id_of_parts, id_at};
+ghost use Rattle.text.specs.Text.{decimal_digit, hex_digit, digits, decimal, hexadecimal, hex_pair, id_of_known, id_of_parts, id_at};
 
 use fab_types::Bdf;
 
@@ -45,7 +45,7 @@ fn decimal_value(text: &[u8]) -> Option<u32>
 }
 
 fn hex_value(text: &[u8]) -> Option<u64>
-    requires { length text.now ≤ 13 }
+    requires { length text.now ≤ 16 }
     ensures value { result ≡ digits hex_digit 16 0 text.now }
     ensures small { IfSome result (λ value. value < 16 ^ length text.now) }
 {
@@ -61,7 +61,7 @@ fn hex_value(text: &[u8]) -> Option<u64>
 
 /// A number of one to nine decimal digits. Leading zeros are allowed.
 #[tactic(auto, unfolding(crate::specs::Text::decimal))]
-pub(crate) fn decimal(text: &[u8]) -> Option<u32>
+pub fn decimal(text: &[u8]) -> Option<u32>
     ensures { result ≡ decimal text.now }
 {
     if 1 <= text.len() && text.len() <= 9 {
@@ -73,8 +73,8 @@ pub(crate) fn decimal(text: &[u8]) -> Option<u32>
 
 /// A number of `least` to `most` hexadecimal digits in lower case.
 #[tactic(auto, unfolding(crate::specs::Text::hexadecimal))]
-fn hexadecimal(text: &[u8], least: usize, most: usize) -> Option<u64>
-    requires { most ≤ 13 }
+pub fn hexadecimal(text: &[u8], least: usize, most: usize) -> Option<u64>
+    requires { most ≤ 16 }
     ensures value { result ≡ hexadecimal least most text.now }
     ensures small { IfSome result (λ value. value < 16 ^ most) }
 {
@@ -86,7 +86,7 @@ fn hexadecimal(text: &[u8], least: usize, most: usize) -> Option<u64>
 }
 
 /// A number of two hexadecimal digits.
-pub(crate) fn hex_byte(text: &[u8]) -> Option<u8>
+pub fn hex_byte(text: &[u8]) -> Option<u8>
     ensures { result ≡ hexadecimal 2 2 text.now }
 {
     match hexadecimal(text, 2, 2) {
@@ -96,20 +96,13 @@ pub(crate) fn hex_byte(text: &[u8]) -> Option<u8>
 }
 
 /// A number of eight hexadecimal digits.
-pub(crate) fn hex_word(text: &[u8]) -> Option<u32>
+pub fn hex_word(text: &[u8]) -> Option<u32>
     ensures { result ≡ hexadecimal 8 8 text.now }
 {
     match hexadecimal(text, 8, 8) {
         Some(value) => Some(value as u32),
         None => None,
     }
-}
-
-/// The number of a page: 1 to 13 hexadecimal digits.
-pub(crate) fn page(text: &[u8]) -> Option<u64>
-    ensures { result ≡ hexadecimal 1 13 text.now }
-{
-    hexadecimal(text, 1, 13)
 }
 
 fn hex_pair(high: u8, low: u8) -> Option<u8>
@@ -134,7 +127,7 @@ fn id_of_parts(bus: Option<u8>, device: Option<u8>, function: Option<u8>) -> Opt
 
 /// An ID, as `03:00.0`.
 #[tactic(auto, unfolding(crate::specs::Text::id_at))]
-pub(crate) fn id(text: &[u8]) -> Option<Bdf>
+pub fn id(text: &[u8]) -> Option<Bdf>
     ensures { result ≡ id_at text.now }
 {
     if text.len() == 7 && text[2] == b':' && text[5] == b'.' {

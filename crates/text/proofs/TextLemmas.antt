@@ -5,7 +5,7 @@ use Rattle.std.specs.List.{position}
 use Rattle.std.proofs.lemmas.List.{take_rest}
 use Rattle.std.proofs.Math.Seq.{drop-cons}
 use Rattle.std.proofs.Math.Nat.{pow-suc, pow-le-pow_right}
-use Rattle.layout.specs.Text.{cut, cut_at, is_byte, digits}
+use Rattle.text.specs.Text.{cut, cut_at, is_byte, digits}
 
 pub cut-some : (byte at : ℕ) (text : List ℕ) → Some at ≡ position (is_byte byte) text → Some (take at text, take (length text - (at + 1)) (drop (at + 1) text)) ≡ cut byte text
 unfolding cut
@@ -34,7 +34,7 @@ digits-small base high d i small next = rw (add-one, pow-suc base i) next
 pub below_ten : (high i : ℕ) → high < 10 ^ i → i ≤ 8 → high < 100000000
 below_ten high i small few = omega (arith, pow-le-pow_right {n = 10} (lit< tt) few)
 
-pub below_sixteen : (high i : ℕ) → high < 16 ^ i → i ≤ 12 → high < 281474976710656
+pub below_sixteen : (high i : ℕ) → high < 16 ^ i → i ≤ 15 → high < 1152921504606846976
 below_sixteen high i small few = omega (arith, pow-le-pow_right {n = 16} (lit< tt) few)
 
 pub small-grown : (value : Option ℕ) (n m : ℕ) → n ≤ m → IfSome value (λ v. v < 16 ^ n) → IfSome value (λ v. v < 16 ^ m)

@@ -1,6 +1,6 @@
 use Rattle.std.proofs.Common.{arith}
-use Rattle.layout.proofs.TextLemmas.{below_sixteen}
-use Rattle.layout.proofs.text.digits.hex_value.Goals as goal
+use Rattle.text.proofs.TextLemmas.{below_sixteen}
+use Rattle.text.proofs.digits.hex_value.Goals as goal
 
 pub overflow_mul-value : goal.overflow_mul-value
 overflow_mul-value c = omega (arith, below_sixteen c.loop-byte.value c.loop-byte.byte-index c.loop-byte.invariant.small (omega arith))

@@ -1,5 +1,5 @@
-use Rattle.layout.proofs.TextLemmas.{cut-some, cut-none}
-use Rattle.layout.proofs.text.fields.cut.Goals as goal
+use Rattle.text.proofs.TextLemmas.{cut-some, cut-none}
+use Rattle.text.proofs.fields.cut.Goals as goal
 
 pub returns-in-Some-clause-parts : goal.returns-in-Some-clause-parts
 returns-in-Some-clause-parts c = cut-some c.args.byte c.in-Some.at c.args.text.now c.in-Some.ensures.place

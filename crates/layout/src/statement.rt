@@ -1,13 +1,11 @@
 //! What a line says, before any rule is tested.
 
-ghost use Rattle.std.specs.Prelude.{◌≡◌, option_map};
-ghost use Rattle.layout.specs.Text.{cut};
+ghost use Rattle.std.specs.Prelude.{◌≡◌};
 ghost use Rattle.layout.specs.Statements.{frames_text, switch_below, switch_text, port_fields, port_text, function_text, rights_text, target_text, map_fields, map_text, budget_text, credit_fields, credit_text, statement_of_word, statement_of};
 
 use crate::lines::{FunctionLine, Rights};
-use crate::text::digits::{decimal, hex_byte, hex_word, id, page};
-use crate::text::fields::{Parts, cut, is_word};
 use fab_types::Bdf;
+use text::{at_blank, decimal, hex_byte, hex_word, hexadecimal, id, is_word};
 
 /// What a `switch` line says that isn't the root's.
 #[derive(Clone, Copy, Debug)]
@@ -88,14 +86,8 @@ fn switch_below(id: Bdf, above: &[u8]) -> Option<Statement>
     if is_word(above, "root") {
         return Some(Statement::Root(id));
     }
-    let above = crate::text::digits::id(above)?;
+    let above = text::id(above)?;
     Some(Statement::Switch(SwitchText { id, above }))
-}
-
-fn at_blank(text: &[u8]) -> Option<Parts<'_>>
-    ensures { option_map (λ parts. (parts.before.now, parts.after.now)) result ≡ cut 32 text.now }
-{
-    cut(text, b' ')
 }
 
 fn switch_text(rest: &[u8]) -> Option<Statement>
@@ -197,7 +189,7 @@ fn map_fields(
     ensures { result ≡ map_fields requester.now number.now word.now target.now rights.now }
 {
     let requester = id(requester)?;
-    let page = page(number)?;
+    let page = hexadecimal(number, 1, 13)?;
     let target = target_text(word, target)?;
     let rights = rights_text(rights)?;
     Some(Statement::Map(MapText {

@@ -1,0 +1,11 @@
+//! A text read as lines, fields, numbers and IDs.
+#![tactic(auto)]
+
+mod digits;
+mod fields;
+
+pub use digits::{decimal, hex_byte, hex_word, hexadecimal, id};
+pub use fields::{Parts, at_blank, cut, is_comment, is_word};
+
+#[cfg(test)]
+mod tests;
