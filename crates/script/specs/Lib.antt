@@ -1,0 +1,4 @@
+pub mod Answers
+pub mod PacketWord
+pub mod Commands
+pub mod Reading

@@ -1,0 +1,15 @@
+//! The script text: what the functions and the host of each domain do, line by line.
+#![tactic(auto)]
+
+mod commands;
+mod lines;
+mod packet_word;
+mod read;
+
+pub use fab_types::ScriptFault;
+pub use lines::{Command, Line};
+pub use packet_word::packet_bytes;
+pub use read::Script;
+
+#[cfg(test)]
+mod tests;
