@@ -1,5 +1,5 @@
 -- A text's first line is read, and then the rest.
-use Rattle.std.proofs.Common.{◌≡◌, ℕ, inr, Bool, true, false, cond, List, [], Some, None, refl, Option}
+use Rattle.std.proofs.Common.{◌≡◌, ℕ, inr, Bool, true, false, cond, List, [], Some, None, refl}
 use Rattle.std.specs.Prelude.{not, ◌&&◌, Result, Ok, Err, codes}
 use Rattle.std.specs.Str.{bytes_eq}
 use Rattle.fab_types.specs.declared.faults.layout.LayoutCause.{LayoutCause}
