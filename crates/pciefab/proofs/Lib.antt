@@ -1,4 +1,3 @@
 pub mod CommandWords
-pub mod Digits
 pub mod Shares
 pub mod Writing

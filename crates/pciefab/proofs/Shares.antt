@@ -13,5 +13,3 @@ share-Run old [] (outcome ∷ outcomes) new h = absurd h
 share-Run old (event ∷ events) [] new h = absurd h
 share-Run old (event ∷ events) (outcome ∷ outcomes) new h =
     share-Run h.0 events outcomes new h.2 ∙ share_step old h.0 event outcome h.1
-
-pub ruleset shares = share-Run

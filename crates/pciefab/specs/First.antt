@@ -11,7 +11,7 @@ use Rattle.fabric_core.specs.declared.event.Event.TheVariants.{Submit, Root}
 use Rattle.fabric_core.specs.Runs.{Run}
 use Rattle.fabric_core.specs.World.{World}
 use Rattle.pciefab.specs.Outcomes.{first_refusal}
-use Rattle.pciefab.specs.PacketWord.{StandsFor}
+use Rattle.script.specs.PacketWord.{StandsFor}
 use Rattle.pciefab.specs.Report.{memory_lines, refusal_line}
 
 -- the smallest fabric at its start

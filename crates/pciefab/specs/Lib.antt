@@ -2,5 +2,4 @@ pub mod CommandLine
 pub mod Endings
 pub mod First
 pub mod Outcomes
-pub mod PacketWord
 pub mod Report

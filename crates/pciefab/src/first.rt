@@ -7,16 +7,16 @@ ghost use Rattle.layout.specs.First.{first_share};
 ghost use Rattle.fabric_core.specs.Runs.{Run};
 ghost use Rattle.pciefab.specs.First.{Prints, ending_lines, first_events, first_world};
 ghost use Rattle.pciefab.specs.Outcomes.{first_refusal, lacks_memory};
-ghost use Rattle.pciefab.specs.PacketWord.{IsPacketWord};
+ghost use Rattle.script.specs.PacketWord.{IsPacketWord};
 
 use crate::fault::Fault;
-use crate::packet_word::packet_bytes;
 use crate::report;
 use fab_types::{
     Bdf, BeginFault, Class, DomainId, MmioFault, NoMemory, Outcome, SubmitFault, TickFault,
 };
 use fabric_core::{Event, Fabric};
 use frame_log::PacketBytes;
+use script::packet_bytes;
 use std::alloc::Global;
 use std::io;
 use std::io::Write;
@@ -36,7 +36,7 @@ pub fn first<R: Wait, W: Write>(
     ensures printed { OnOk result ((text : List ℕ) × Prints packet.now text × Appends (W.contents out.old) (W.contents out.new) text) }
     ensures line { IsErrOf result (Fault.ScriptLine 1) ↔ (¬ IsPacketWord packet.now) }
 {
-    let bytes = match packet_bytes(alloc, packet) {
+    let bytes = match packet_bytes(alloc, packet.as_bytes()) {
         Ok(bytes) => bytes,
         Err(cause) => return Err(Fault::at_line(1, cause)),
     };
@@ -47,18 +47,17 @@ pub fn first<R: Wait, W: Write>(
 }
 
 /// The smallest fabric after it carried the packet, and what came of the two events.
-#[tactic(auto, using(crate::proofs::Shares::shares))]
 fn submitted<R: Wait>(
     rt: &R,
     alloc: Global,
-    bytes: Vec<u8>,
+    bytes: PacketBytes,
 ) -> Result<(Fabric, Vec<Outcome>), NoMemory>
-    ensures run { IfOk result (λ done. Run first_world (first_events bytes.items) done.1.items done.0) }
+    ensures run { IfOk result (λ done. Run first_world (first_events bytes) done.1.items done.0) }
     ensures share { IfOk result (λ done. done.0.domain.share ≡ first_share) }
 {
     let mut fabric = Fabric::first(alloc)?;
     let events = [
-        Event::Submit(Bdf::from_bits(FUNCTION), PacketBytes::from_vec(bytes)),
+        Event::Submit(Bdf::from_bits(FUNCTION), bytes),
         Event::Root(Class::Posted),
     ];
     let outcomes = fabric.run(rt, alloc, &events)?;

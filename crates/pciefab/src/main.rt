@@ -7,7 +7,6 @@ mod fault;
 mod files;
 mod first;
 mod host;
-mod packet_word;
 mod program;
 #[cfg(test)]
 mod programs;

@@ -12,8 +12,8 @@ returns-clause-printed g c =
     c.in_ok-refused.ensures.first ∙ ap first_refusal c.deref.ensures.value in (
       ending_lines c.in_ok-refused.refused domain,
       record {
-        bytes = c.in-Ok.bytes.items;
-        stands = c.in-Ok.ensures.read;
+        bytes = c.in-Ok.bytes;
+        stands = rw c.as_bytes.ensures.value at c.in-Ok.ensures;
         outcomes = c.in_ok-fabric.outcomes.items;
         world = c.in_ok-fabric.fabric;
         run = c.in_ok-fabric.ensures.run;
