@@ -1,4 +1,5 @@
 pub mod Totals
+pub mod Fullness
 pub mod Credits
 pub mod Keeping
 pub mod Moving

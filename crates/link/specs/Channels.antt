@@ -54,6 +54,10 @@ abbrev pub count_in : Class → List Descriptor → ℕ
 count_in class [] = 0
 count_in class (frame ∷ frames) = if same_class class (class_of frame) then 1 + count_in class frames else count_in class frames
 
+-- has the sender no place for one more packet of the class?
+abbrev pub is_full : Class → Channel → Bool
+is_full class c = count_in class c.egress == 16
+
 -- what the sender has left and what travels and waits behind it never cost more than the start
 abbrev pub IsCovered : Channel → Type 0
 IsCovered c = (k : Kind) → at c.left k + total k (c.wire ++ c.ingress) ≤ at c.start k

@@ -126,7 +126,9 @@ impl LaneIn for Simplex {
 }
 
 impl LaneOut for Simplex {
-    ghost use Rattle.link.specs.Simplexes.{Before};
+    ghost use Rattle.link.specs.Simplexes.{Before, channel};
+    ghost use Rattle.link.specs.Channels.{is_full};
+    ghost use Rattle.std.specs.Prelude.{true};
 
     ghost Lane = { Before };
 
@@ -136,11 +138,19 @@ impl LaneOut for Simplex {
 
     ghost refusals = { λ s. s.egress.refusals };
 
+    ghost may_refuse = { λ s class. is_full class (channel s) };
+
+    ghost is_sure = { true };
+
     fn is_full(&mut self, class: Class) -> bool {
+        // It tells that each packet waits under its own class.
+        let _ = self.egress.has_no_place(class);
         self.egress.is_full(class)
     }
 
     fn push(&mut self, frame: Frame) -> Result<(), Frame> {
+        // It tells that each packet waits under its own class.
+        let _ = self.egress.has_no_place(frame.head().cost.class);
         self.egress.push(frame)
     }
 }

@@ -47,6 +47,7 @@ fn arrive(ingress: &mut FrameQueue<127>, frame: Frame)
     requires { total (Kind.Headers (class_of frame)) (frames_of ingress.old.queue.waiting) < 127 }
     ensures { frames_of ingress.new.queue.waiting ≡ frames_of ingress.old.queue.waiting ++ frame ∷ [] }
 {
+    // With its answer comes that each packet waits under its own class, and so was counted with its cost.
     if ingress.has_no_place(frame.head().cost.class) {
         unreachable!();
     }
