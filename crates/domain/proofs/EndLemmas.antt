@@ -100,15 +100,18 @@ serve_read_fits share frames x t a e =
     either_fits (nat_lt 64 (dw_count t.length)) (Some (record { deed = Leave; reply = Some (host_refusal share t) })) (read_from share frames t target) x a
     (λ long is. subst (Fits x) (some_is _ a is) tt) (read_fits share frames x t target a) e
 
+pub serve_fits : (share : Share) (frames : List (ℕ × List ℕ)) (x : Emission) (a : Ending) → malformed x.bytes ≡ None → serve share frames (packet_of x.bytes) ≡ Some a → DeedFits x a.deed
+serve_fits share frames x a good e =
+    let t = packet_of x.bytes in
+    let target = target_of share.maps t.requester (address_of t / 4096) Write in
+    either_fits (is_write t.kind) (write_to share t target) (serve_read share frames t) x a (write_fits share x target a good) (serve_read_fits share frames x t a) e
+
 carriage_by_fits : (share : Share) (frames : List (ℕ × List ℕ)) (x : Emission) (g : Fate) (a : Ending) → (g ≡ ToHost → malformed x.bytes ≡ None) → carriage_by share frames x.bytes g ≡ Some a → Fits x a
 carriage_by_fits share frames x Vanish a good e = absurd cc
 carriage_by_fits share frames x (Refused status) a good e = absurd cc
 carriage_by_fits share frames x ToHost a good e =
     let t = packet_of x.bytes in
-    let target = target_of share.maps t.requester (address_of t / 4096) Write in
-    either_fits (is_carried share t) (serve share frames t) None x a
-    (λ carried. either_fits (is_write t.kind) (write_to share t target) (serve_read share frames t) x a (write_fits share x target a (good refl)) (serve_read_fits share frames x t a))
-    (none_fits x a None refl) e
+    either_fits (is_carried share t) (serve share frames t) None x a (λ carried. serve_fits share frames x a (good refl)) (none_fits x a None refl) e
 
 access_fits : (share : Share) (x : Emission) (g : ℕ) (t : Packet) (page : Option (List ℕ)) (a : Ending) → x.parties ≡ Downward g
     → option_map (λ (bytes : List ℕ). record { deed = Access g; reply = function_answer share g bytes t }) page ≡ Some a → Fits x a
@@ -151,11 +154,11 @@ carries share s n (Some e) a is = record {
 
 pub refused_ends : (v : DomainView) (n : ℕ) (r : Option Ending) (a : Ending) → r ≡ Some a → r ≡ refusal_end v.share (item_at v.state.flight n) → EndsBy v (Refuse n) n a
 refused_ends v n r a some is =
-    let h = refuses v.share v.state n (item_at v.state.flight n) a (sym is ∙ some) in record { emission = h.emission; waits = h.waits; fits = h.fits; step = h.made_is }
+    let h = refuses v.share v.state n (item_at v.state.flight n) a (sym is ∙ some) in record { emission = h.emission; waits = h.waits; fits = h.fits; step = h.made_is; own = λ _. refl }
 
 pub carried_ends : (v : DomainView) (n : ℕ) (r : Option Ending) (a : Ending) → r ≡ Some a → r ≡ carriage_end v.share v.state.frames v.state.registers (item_at v.state.flight n) → EndsBy v (Carry n) n a
 carried_ends v n r a some is =
-    let h = carries v.share v.state n (item_at v.state.flight n) a (sym is ∙ some) in record { emission = h.emission; waits = h.waits; fits = h.fits; step = h.made_is }
+    let h = carries v.share v.state n (item_at v.state.flight n) a (sym is ∙ some) in record { emission = h.emission; waits = h.waits; fits = h.fits; step = h.made_is; own = λ _. refl }
 
 -- ---- where it doesn't end so, the entry is illegal
 

@@ -14,7 +14,7 @@ use Rattle.domain.specs.Answers.{bar_of, page_at}
 use Rattle.domain.specs.Domains.{DomainView, Makes}
 use Rattle.domain.specs.Heads.{descriptor_of}
 use Rattle.domain.specs.HostAccesses.{host_emission, host_request, mmio_fault, mmio_unless, mmio_with, opened_for, tag_for}
-use Rattle.domain.specs.Machine.{change, replay}
+use Rattle.domain.specs.Machine.{aliens_in, change, replay}
 use Rattle.domain.specs.State.{Alone, begun, with_emission}
 use Rattle.domain.proofs.Accounting.{accounted, mmio_budget, room_to_begin}
 use Rattle.domain.proofs.Keeping.{makes_end, makes_seen}
@@ -33,8 +33,8 @@ pub admitted : (v w : DomainView) (x : HostAccess) (tag bar : ℕ) → v ≡ w �
 admitted v w x tag bar same accepted tag_is bar_is =
     subst (λ (u : DomainView). Admitted u.share u.state x tag bar) (sym same) (record { accepted = accepted; tag_is = tag_is; bar_is = bar_is })
 
-pub mmio_room : (share : Share) (s : Alone) (js : List Entry) (x : HostAccess) (tag bar : ℕ) → replay share js ≡ Some s → Admitted share s x tag bar → length js < 4 * share.budget
-mmio_room share s js x tag bar was h = room_to_begin share s (length js) (accounted share js s was) (mmio_budget share s x h.accepted)
+pub mmio_room : (share : Share) (s : Alone) (js : List Entry) (x : HostAccess) (tag bar : ℕ) → replay share js ≡ Some s → Admitted share s x tag bar → length js < 4 * share.budget + 3 * aliens_in js
+mmio_room share s js x tag bar was h = room_to_begin share s (length js) (aliens_in js) (accounted share js s was) (mmio_budget share s x h.accepted)
 
 -- the emission of a request that was made so
 made_so : (domain tag bar : ℕ) (x : HostAccess) (d : ℕ) (packet : Packet) → d ≡ domain → packet ≡ host_request d tag (page_at bar + x.offset) x.operation

@@ -4,7 +4,7 @@ use Rattle.std.specs.Prelude.{option_map}
 use Rattle.fab_types.specs.declared.faults.begin.SubmitFault.{SubmitFault}
 use Rattle.fab_types.specs.declared.head.Parties.TheVariants.{Upward}
 use Rattle.frame_log.specs.Descriptor.{Descriptor}
-use Rattle.layout.specs.Share.{Share, IsShare}
+use Rattle.layout.specs.Share.{Share}
 use Rattle.domain.specs.declared.entry.Entry.{Entry}
 use Rattle.domain.specs.declared.entry.Entry.TheVariants.{Submit}
 use Rattle.domain.specs.declared.ending.Deed.{Deed}
@@ -12,10 +12,10 @@ use Rattle.domain.specs.declared.ending.Ending.{Ending}
 use Rattle.domain.specs.Domains.{DomainView, EndsBy, Makes}
 use Rattle.domain.specs.Ends.{DeedFits, conclude}
 use Rattle.domain.specs.Heads.{descriptor_of}
-use Rattle.domain.specs.Machine.{change, step_from, replay_from, replay}
+use Rattle.domain.specs.Machine.{aliens_in, change, step_from, replay_from, replay, with_alien}
 use Rattle.domain.specs.State.{Alone, Emission, Change, item_at, start_state, with_emission}
 use Rattle.domain.specs.Submits.{submit_fault, submitted, submit_unless}
-use Rattle.domain.proofs.Accounting.{accounted, submit_budget, room_to_begin, room_to_end}
+use Rattle.domain.proofs.Accounting.{accounted, aliens_more, submit_budget, room_to_begin, room_to_end}
 
 replay-push : (share : Share) (o : Option Alone) (es : List Entry) (e : Entry) → replay_from share o (es ++ e ∷ []) ≡ step_from share (replay_from share o es) e
 replay-push share o [] e = refl
@@ -48,8 +48,8 @@ submit_copied js js' f b copy same grown = grown ∙ ap (λ (x : List ℕ). js +
 pub not_refused : (v w : DomainView) (f : ℕ) (b : List ℕ) (r : Option SubmitFault) → v ≡ w → r ≡ None → r ≡ submit_fault w.share w.state f b → submit_fault v.share v.state f b ≡ None
 not_refused v w f b r same none is = subst (λ (u : DomainView). submit_fault u.share u.state f b ≡ None) (sym same) (sym is ∙ none)
 
-pub journal_room : (share : Share) (s : Alone) (js : List Entry) (f : ℕ) (b : List ℕ) → replay share js ≡ Some s → submit_fault share s f b ≡ None → length js < 4 * share.budget
-journal_room share s js f b was none = room_to_begin share s (length js) (accounted share js s was) (submit_budget share s f b none)
+pub journal_room : (share : Share) (s : Alone) (js : List Entry) (f : ℕ) (b : List ℕ) → replay share js ≡ Some s → submit_fault share s f b ≡ None → length js < 4 * share.budget + 3 * aliens_in js
+journal_room share s js f b was none = room_to_begin share s (length js) (aliens_in js) (accounted share js s was) (submit_budget share s f b none)
 
 pub makes_submit : (v : DomainView) (new : DomainView) (f : ℕ) (b : List ℕ) (frame : Descriptor) → submit_fault v.share v.state f b ≡ None → new.share ≡ v.share
     → new.state ≡ with_emission (submitted v.state f b) (upward f b) → new.journal ≡ v.journal ++ Submit f b ∷ []
@@ -65,15 +65,20 @@ makes_submit v new f b frame none share state journal is = record {
 -- ---- a packet that ends
 
 -- there is room for its entry
-pub end_room : (share : Share) (s : Alone) (js : List Entry) (n : ℕ) (e : Emission) → replay share js ≡ Some s → item_at s.flight n ≡ Some e → length js < 4 * share.budget
-end_room share s js n e was is = room_to_end share s (length js) n e (accounted share js s was) is
+pub end_room : (share : Share) (s : Alone) (js : List Entry) (n : ℕ) (e : Emission) → replay share js ≡ Some s → item_at s.flight n ≡ Some e → length js < 4 * share.budget + 3 * aliens_in js
+end_room share s js n e was is = room_to_end share s (length js) (aliens_in js) n e (accounted share js s was) is
 
 -- no count passes its range
-pub blocks_fit : (share : Share) (s : Alone) (js : List Entry) → IsShare share → replay share js ≡ Some s → length js < 4 * share.budget → s.counts.blocked + 1 < 2 ^ 32
-blocks_fit share s js limits was room = let a = accounted share js s was in omega (arith, a.blocks, limits.budget, room)
+pub blocks_fit : (share : Share) (s : Alone) (js : List Entry) → replay share js ≡ Some s → length js < 2 ^ 63 → s.counts.blocked + 1 < 2 ^ 64
+blocks_fit share s js was lt = let a = accounted share js s was in omega (arith, a.blocks, lt)
 
-pub strays_fit : (share : Share) (s : Alone) (js : List Entry) → IsShare share → replay share js ≡ Some s → length js < 4 * share.budget → s.counts.unexpected + 1 < 2 ^ 32
-strays_fit share s js limits was room = let a = accounted share js s was in omega (arith, a.strays, limits.budget, room)
+pub strays_fit : (share : Share) (s : Alone) (js : List Entry) → replay share js ≡ Some s → length js < 2 ^ 63 → s.counts.unexpected + 1 < 2 ^ 64
+strays_fit share s js was lt = let a = accounted share js s was in omega (arith, a.strays, lt)
+
+-- an entry of the domain's own packets needs no more room
+pub room_stays : (entries budget : ℕ) (js js' : List Entry) (x : Entry) → js' ≡ js ++ x ∷ [] → with_alien x (aliens_in js) ≡ aliens_in js → entries ≡ 4 * budget + 3 * aliens_in js
+    → entries ≡ 4 * budget + 3 * aliens_in js'
+room_stays entries budget js js' x grown own is = is ∙ ap (λ (k : ℕ). 4 * budget + 3 * k) (sym (aliens_more js js' x grown ∙ own))
 
 -- a domain seen by its fields
 pub ends_seen : (v w : DomainView) (e : Entry) (n : ℕ) (a : Ending) → v ≡ w → EndsBy w e n a → EndsBy v e n a

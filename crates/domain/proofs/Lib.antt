@@ -11,6 +11,7 @@ pub mod Keeping
 pub mod Ticking
 pub mod HostBegins
 pub mod EndLemmas
+pub mod AlienLemmas
 pub mod Replaying
 pub mod Leaving
 pub mod Smallest

@@ -28,7 +28,10 @@ use Rattle.domain.specs.declared.ending.Deed.{Deed}
 use Rattle.domain.specs.declared.ending.Deed.TheVariants.{Leave, Block, Store, Access}
 use Rattle.domain.specs.declared.ending.Ending.{Ending}
 use Rattle.domain.specs.declared.entry.Entry.{Entry}
-use Rattle.domain.specs.declared.entry.Entry.TheVariants.{Submit, Tick, Mmio, Refuse, Carry, Deliver}
+use Rattle.domain.specs.declared.entry.Entry.TheVariants.{Submit, Tick, Mmio, Refuse, Carry, Deliver, Alien}
+use Rattle.domain.specs.declared.reception.Reception.{Reception}
+use Rattle.domain.specs.declared.reception.Reception.TheVariants.{Ends, Arrives}
+use Rattle.domain.specs.Aliens.{received_if, reception_of}
 use Rattle.domain.specs.Answers.{bar_of}
 use Rattle.domain.specs.Carries.{carriage_end, refusal_end}
 use Rattle.domain.specs.Deliveries.{arrival, arrived, completed, recorded, unexpected}
@@ -118,6 +121,11 @@ delivers_same : (s : Alone) (n : ℕ) (r : Option Arrival) (c : Change) → opti
 delivers_same s n None c h = absurd cc
 delivers_same s n (Some a) c h = subst (Same s) (some_is _ c h) (arrived_same (without s n) a.delivery a.is_awaited)
 
+received_same : (s : Alone) (b : List ℕ) (o : Option Reception) (c : Change) → received_if s b o ≡ Some c → Same s c
+received_same s b None c h = absurd cc
+received_same s b (Some (Ends a)) c h = subst (Same s) (some_is _ c h) (ap ids (replied_same (done s b a.deed) a.reply) ∙ done_same s b a.deed)
+received_same s b (Some (Arrives a)) c h = subst (Same s) (some_is _ c h) (arrived_same s a.delivery a.is_awaited)
+
 change_same : (share : Share) (s : Alone) (entry : Entry) (c : Change) → change share s entry ≡ Some c → Same s c
 change_same share s (Submit f b) c h = submit_same s f b (submit_fault share s f b) c h
 change_same share s (Tick f) c h = tick_same s f (tick_fault share s f) c h
@@ -125,6 +133,7 @@ change_same share s (Mmio x) c h = mmio_same share s x (mmio_fault share s x) c 
 change_same share s (Refuse n) c h = ended_same s n (item_at s.flight n) (refusal_end share (item_at s.flight n)) c h
 change_same share s (Carry n) c h = ended_same s n (item_at s.flight n) (carriage_end share s.frames s.registers (item_at s.flight n)) c h
 change_same share s (Deliver n) c h = delivers_same s n (arrival s.open_tags (item_at s.flight n)) c h
+change_same share s (Alien place sender b) c h = received_same s b (reception_of share s place sender b) c h
 
 same_from : (share : Share) (s : Alone) (journal : List Entry) (t : Alone) → replay_from share (Some s) journal ≡ Some t → ids t.registers ≡ ids s.registers
 same_from share s [] t e = ap (λ (u : Alone). ids u.registers) (sym (some_is s t e))

@@ -1,5 +1,5 @@
 -- A tick of a function is what the machine says of its entry.
-use Rattle.std.proofs.Common.{◌≡◌, ℕ, ◌*◌, ◌<◌, Bool, true, false, List, ◌∷◌, [], ◌++◌, length, Option, Some, None, refl, sym, ap, ◌∙◌, subst}
+use Rattle.std.proofs.Common.{◌≡◌, ℕ, ◌+◌, ◌*◌, ◌<◌, Bool, true, false, List, ◌∷◌, [], ◌++◌, length, Option, Some, None, refl, sym, ap, ◌∙◌, subst}
 use Rattle.std.specs.Prelude.{IsSome, not, option_map}
 use Rattle.fab_types.specs.declared.faults.begin.TickFault.{TickFault}
 use Rattle.fab_types.specs.declared.faults.begin.TickFault.TheVariants.{NoFunction}
@@ -13,7 +13,7 @@ use Rattle.domain.specs.declared.entry.Entry.{Entry}
 use Rattle.domain.specs.declared.entry.Entry.TheVariants.{Tick}
 use Rattle.domain.specs.Domains.{DomainView, Emits, Makes}
 use Rattle.domain.specs.Heads.{descriptor_of}
-use Rattle.domain.specs.Machine.{change, replay}
+use Rattle.domain.specs.Machine.{aliens_in, change, replay}
 use Rattle.domain.specs.State.{Alone}
 use Rattle.domain.specs.Ticks.{sent_by, tick_fault, tick_unless, ticks, ticks_by}
 use Rattle.domain.proofs.Accounting.{accounted, passed, room_to_begin, tick_budget}
@@ -36,8 +36,8 @@ pub has_plan : (share : Share) (journal : List Entry) (s : Alone) (f : ℕ) (r :
     → r ≡ option_map (λ page. plan_of f page s.open_tags) (page_of s.registers f) → r ≡ None → ⊥
 has_plan share journal s f r was none is nothing = own_page_none share journal s f s.open_tags r was (ticks_own share s f none) is nothing
 
-pub tick_room : (share : Share) (s : Alone) (js : List Entry) (f : ℕ) → replay share js ≡ Some s → tick_fault share s f ≡ None → length js < 4 * share.budget
-tick_room share s js f was none = room_to_begin share s (length js) (accounted share js s was) (tick_budget share s f none)
+pub tick_room : (share : Share) (s : Alone) (js : List Entry) (f : ℕ) → replay share js ≡ Some s → tick_fault share s f ≡ None → length js < 4 * share.budget + 3 * aliens_in js
+tick_room share s js f was none = room_to_begin share s (length js) (aliens_in js) (accounted share js s was) (tick_budget share s f none)
 
 abbrev some : {A : Type 0} → A → Option A
 some x = Some x

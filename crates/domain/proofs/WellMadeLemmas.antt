@@ -1,17 +1,21 @@
 -- What a domain makes is well made.
-use Rattle.std.proofs.Common.{◌≡◌, ℕ, ◌≤◌, true, List, length, None, sym, subst}
+use Rattle.std.proofs.Common.{◌≡◌, ℕ, ◌≤◌, Bool, true, false, ◌&&◌, ◌||◌, not, refl, List, length, None, sym, subst}
+use Rattle.std.specs.Prelude.{nat_lt}
+use Rattle.std.proofs.lemmas.Bool.{ltb-false}
 use Rattle.fab_types.specs.declared.head.Parties.{Parties}
 use Rattle.fab_types.specs.declared.head.Parties.TheVariants.{Upward, Downward, Answer}
 use Rattle.function.specs.Accesses.{IsAccess, IsAccessKind}
 use Rattle.tlp_view.specs.declared.kind.Kind.{Kind}
-use Rattle.tlp_view.specs.declared.kind.Kind.TheVariants.{MWr}
+use Rattle.tlp_view.specs.declared.kind.Kind.TheVariants.{MRd, MWr}
+use Rattle.tlp_view.specs.Kinds.{is_memory}
 use Rattle.tlp_view.specs.Malformed.{malformed}
-use Rattle.tlp_view.specs.Packet.{Packet}
+use Rattle.tlp_view.specs.Packet.{Packet, dw_count}
 use Rattle.tlp_view.specs.Runs.{is_write}
 use Rattle.tlp_view.specs.Spelling.{Spells}
 use Rattle.tlp_view.proofs.Again.{packet_of-spelled}
 use Rattle.domain.specs.declared.ending.Made.{Made}
 use Rattle.domain.specs.declared.ending.Made.TheVariants.{Completion, Request}
+use Rattle.domain.specs.Aliens.{is_access}
 use Rattle.domain.specs.Answers.{IsReadAs, IsReply}
 use Rattle.domain.specs.WellMade.{IsWellMade}
 
@@ -30,6 +34,18 @@ reply_well (Upward f) m bytes is good same small = tt
 reply_well (Downward g) (Completion t) bytes is good same small = absurd is
 reply_well (Downward g) (Request t) bytes is good same small = (good, subst IsAccess (sym same) is)
 reply_well (Answer by x) m bytes is good same small = (good, small)
+
+-- what is tested to be an access is one
+access_kind : (k : Kind) (n : ℕ) → (is_memory k && (is_write k || not (nat_lt 64 n))) ≡ true → IsAccessKind k n
+access_kind MWr n e = tt
+access_kind MRd n e = ltb-false 64 n (by (nat_lt 64 n) e) where
+  by : (b : Bool) → not b ≡ true → b ≡ false
+  by true e = absurd cc
+  by false e = refl
+access_kind _ n e = absurd cc
+
+pub is_an_access : (t : Packet) → is_access t ≡ true → IsAccess t
+is_an_access t e = access_kind t.kind (dw_count t.length) e
 
 -- a write may be of any length
 write_kind : (k : Kind) (n : ℕ) → is_write k ≡ true → IsAccessKind k n

@@ -85,6 +85,10 @@ shown frames k t =
 abbrev pub answered_by : Share → Packet → Packet → Emission
 answered_by share t completion = answer by.Function (reach share t.requester) completion
 
+-- a function's refusal of a request
+abbrev pub function_refusal : Share → ℕ → Packet → Emission
+function_refusal share function t = answered_by share t (refusal function UR t)
+
 abbrev pub function_answer : Share → ℕ → List ℕ → Packet → Option Emission
 function_answer share function page t = option_map (answered_by share t) (page_answer function page t)
 

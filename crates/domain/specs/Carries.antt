@@ -22,6 +22,10 @@ use Rattle.domain.specs.declared.fate.Fate.{Fate}
 use Rattle.domain.specs.declared.fate.Fate.TheVariants.{Vanish, Refused, ToHost}
 use Rattle.domain.specs.Fates.{fate, is_untranslated}
 
+-- nothing happens, and nothing answers
+abbrev pub discarded : Ending
+discarded = record { deed = Leave; reply = None }
+
 -- ---- at the first port of its sender
 
 abbrev pub port_id : Option PortLine → ℕ
@@ -30,7 +34,7 @@ port_id (Some port) = port.id
 
 -- what its fate stops there is discarded, or answered by the port
 abbrev pub refusal_by : ℕ → ℕ → List ℕ → Fate → Option Ending
-refusal_by port function bytes Vanish = Some (record { deed = Leave; reply = None })
+refusal_by port function bytes Vanish = Some discarded
 refusal_by port function bytes (Refused status) = Some (record { deed = Leave; reply = Some (port_answer port function status (packet_of bytes)) })
 refusal_by port function bytes ToHost = None
 
@@ -51,23 +55,34 @@ abbrev pub forward : ℕ → Packet → Option ℕ → Option Ending
 forward function t None = None
 forward function t (Some bar) = Some (record { deed = Leave; reply = Some (forwarded function bar t) })
 
+-- a write of a frame
+abbrev pub to_frame : ℕ → Packet → Ending
+to_frame k t = record { deed = Store k (address_of t % 4096); reply = None }
+
+-- a read of a frame
+abbrev pub from_frame : Share → List (ℕ × List ℕ) → Packet → ℕ → Ending
+from_frame share frames t k = record { deed = Leave; reply = Some (host_data share t (shown frames k t)) }
+
 -- a write goes where its page is mapped
 abbrev pub write_to : Share → Packet → Option MapTarget → Option Ending
 write_to share t None = Some (record { deed = Block; reply = None })
-write_to share t (Some (Frame k)) = Some (record { deed = Store k (address_of t % 4096); reply = None })
+write_to share t (Some (Frame k)) = Some (to_frame k t)
 write_to share t (Some (Peer function)) = forward function t (bar_of share.functions function)
 
 -- a read is answered with what its page is mapped to
 abbrev pub read_from : Share → List (ℕ × List ℕ) → Packet → Option MapTarget → Option Ending
 read_from share frames t None = Some (record { deed = Block; reply = Some (host_refusal share t) })
-read_from share frames t (Some (Frame k)) = Some (record { deed = Leave; reply = Some (host_data share t (shown frames k t)) })
+read_from share frames t (Some (Frame k)) = Some (from_frame share frames t k)
 read_from share frames t (Some (Peer function)) = forward function t (bar_of share.functions function)
+
+abbrev pub refused_by_host : Share → Packet → Ending
+refused_by_host share t = record { deed = Leave; reply = Some (host_refusal share t) }
 
 -- a read of more than 64 DW is refused before its page is looked up
 abbrev pub serve_read : Share → List (ℕ × List ℕ) → Packet → Option Ending
 serve_read share frames t =
     if nat_lt 64 (dw_count t.length)
-    then Some (record { deed = Leave; reply = Some (host_refusal share t) })
+    then Some (refused_by_host share t)
     else read_from share frames t (target_of share.maps t.requester (address_of t / 4096) Read)
 
 abbrev pub serve : Share → List (ℕ × List ℕ) → Packet → Option Ending

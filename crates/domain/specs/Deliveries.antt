@@ -33,10 +33,14 @@ delivery_of owner t bytes = record { owner = owner; tag = t.tag; status = unwrap
 abbrev pub is_awaited : List OpenTag → Answerer → Origin → Packet → Bool
 is_awaited tags answerer owner t = is_open tags owner t.tag && (is_port answerer || (t.requester == origin_id owner))
 
+-- a completion at this function or host
+abbrev pub arrival_at : List OpenTag → List ℕ → Answerer → Origin → Arrival
+arrival_at tags bytes answerer owner =
+    record { delivery = delivery_of owner (packet_of bytes) bytes; is_awaited = is_awaited tags answerer owner (packet_of bytes) }
+
 abbrev pub arrival_for : List OpenTag → List ℕ → Answerer → Option Origin → Option Arrival
 arrival_for tags bytes answerer None = None
-arrival_for tags bytes answerer (Some owner) =
-    Some (record { delivery = delivery_of owner (packet_of bytes) bytes; is_awaited = is_awaited tags answerer owner (packet_of bytes) })
+arrival_for tags bytes answerer (Some owner) = Some (arrival_at tags bytes answerer owner)
 
 abbrev pub arrival_of : List OpenTag → List ℕ → Parties → Option Arrival
 arrival_of tags bytes (Upward function) = None

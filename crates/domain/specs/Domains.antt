@@ -14,7 +14,7 @@ use Rattle.domain.specs.Deliveries.{arrival, record_of_arrival}
 use Rattle.domain.specs.Ends.{DeedFits, conclude}
 use Rattle.domain.specs.State.{Alone, Change, Delivery, Emission, item_at}
 use Rattle.domain.specs.Heads.{descriptor_of}
-use Rattle.domain.specs.Machine.{change}
+use Rattle.domain.specs.Machine.{change, with_alien}
 
 -- what the layout gives the domain, its state, and its journal
 pub record DomainView : Type 0 where
@@ -59,6 +59,7 @@ pub record EndsBy (old : DomainView) (entry : Entry) (n : ℕ) (ending : Ending)
   pub waits : item_at old.state.flight n ≡ Some emission
   pub fits : DeedFits emission ending.deed
   pub step : change old.share old.state entry ≡ Some (conclude old.state n emission.bytes ending)
+  pub own : (aliens : ℕ) → with_alien entry aliens ≡ aliens
 
 -- the record is the one that the delivery of this number makes
 pub record Delivers (old : DomainView) (n : ℕ) (given : Option Delivery) : Type 0 where

@@ -1,7 +1,7 @@
 -- How a packet in flight ends: what that does with the domain's state, and what answers it.
 use Rattle.std.specs.Prelude.{◌≡◌, ℕ, ◌+◌, ◌≤◌, List, [], ◌∷◌, length, Option, Some, None}
 use Rattle.fab_types.specs.declared.head.Parties.TheVariants.{Downward}
-use Rattle.function.specs.Accesses.{accessed}
+use Rattle.function.specs.Accesses.{IsAccess, accessed}
 use Rattle.host_memory.specs.Pages.{written}
 use Rattle.tlp_view.specs.Bytes.{packet_of}
 use Rattle.tlp_view.specs.Malformed.{malformed}
@@ -56,9 +56,13 @@ abbrev pub replied : Alone → Option Emission → Alone
 replied s None = s
 replied s (Some e) = with_emission s e
 
--- the packet leaves flight, the deed is done, and the reply goes into flight
+-- the deed is done, and the reply goes into flight
+abbrev pub does : Alone → List ℕ → Ending → Change
+does s bytes ending = record { state = replied (done s bytes ending.deed) ending.reply; emission = ending.reply }
+
+-- the same of a packet that leaves flight
 abbrev pub conclude : Alone → ℕ → List ℕ → Ending → Change
-conclude s n bytes ending = record { state = replied (done (without s n) bytes ending.deed) ending.reply; emission = ending.reply }
+conclude s n bytes ending = does (without s n) bytes ending
 
 -- what is written to a frame lies within it, and what accesses a page is a request to its function
 abbrev pub DeedFits : Emission → Deed → Type 0
@@ -66,3 +70,10 @@ DeedFits e Leave = Unit {0}
 DeedFits e Block = Unit {0}
 DeedFits e (Store k first) = (malformed e.bytes ≡ None) × (first + length (packet_of e.bytes).payload ≤ 4096)
 DeedFits e (Access function) = e.parties ≡ Downward function
+
+-- the same of bytes that aren't in flight here: what accesses a page is a request for one
+abbrev pub BytesFit : List ℕ → Deed → Type 0
+BytesFit bytes Leave = Unit {0}
+BytesFit bytes Block = Unit {0}
+BytesFit bytes (Store k first) = (malformed bytes ≡ None) × (first + length (packet_of bytes).payload ≤ 4096)
+BytesFit bytes (Access function) = (malformed bytes ≡ None) × IsAccess (packet_of bytes)

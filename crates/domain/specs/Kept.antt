@@ -1,10 +1,10 @@
 -- What every domain keeps: its state is what its journal leaves, and its journal has room for the end of
--- each packet that its budget allows.
-use Rattle.std.specs.Prelude.{◌≡◌, ◌*◌, ◌≤◌, Some, vec_capacity}
+-- each packet that its budget and its alien packets lead to.
+use Rattle.std.specs.Prelude.{◌≡◌, ◌+◌, ◌*◌, ◌≤◌, Some, vec_capacity}
 use Rattle.layout.specs.Share.{IsShare}
 use Rattle.domain.specs.declared.domain.Domain.TheInside.{Inside}
 use Rattle.domain.specs.Domains.{DomainView}
-use Rattle.domain.specs.Machine.{replay}
+use Rattle.domain.specs.Machine.{aliens_in, replay}
 
 abbrev pub view_of : Inside → DomainView
 view_of d = record { share = d.start; state = d.state; journal = d.journal.items }
@@ -13,4 +13,5 @@ pub record Kept (d : Inside) : Type 0 where
   pub share : IsShare d.start
   pub table : d.table ≡ d.start.maps
   pub replays : replay d.start d.journal.items ≡ Some d.state
-  pub room : 4 * d.start.budget ≤ vec_capacity d.journal
+  pub entries : d.entries ≡ 4 * d.start.budget + 3 * aliens_in d.journal.items
+  pub room : d.entries ≤ vec_capacity d.journal

@@ -14,6 +14,9 @@ pub mod Deliveries
 pub mod Ticks
 pub mod HostAccesses
 pub mod Records
+pub mod Takers
+pub mod Aliens
+pub mod Receptions
 pub mod Machine
 pub mod Domains
 pub mod Kept

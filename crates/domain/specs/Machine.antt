@@ -1,11 +1,12 @@
 -- The machine of a domain by itself: what each entry of a journal does, and where it is illegal.
-use Rattle.std.specs.Prelude.{ℕ, List, [], ◌∷◌, Option, Some, None, option_map}
+use Rattle.std.specs.Prelude.{ℕ, ◌+◌, List, [], ◌∷◌, Option, Some, None, option_map}
 use Rattle.layout.specs.Share.{Share}
 use Rattle.domain.specs.declared.entry.Entry.{Entry}
-use Rattle.domain.specs.declared.entry.Entry.TheVariants.{Submit, Tick, Mmio, Refuse, Carry, Deliver}
+use Rattle.domain.specs.declared.entry.Entry.TheVariants.{Submit, Tick, Mmio, Refuse, Carry, Deliver, Alien}
 use Rattle.domain.specs.declared.ending.Ending.{Ending}
 use Rattle.domain.specs.State.{Alone, Emission, Change, emits_nothing, item_at, start_state, without}
 use Rattle.domain.specs.Submits.{submit}
+use Rattle.domain.specs.Aliens.{alien}
 use Rattle.domain.specs.Carries.{carriage_end, refusal_end}
 use Rattle.domain.specs.Deliveries.{arrival, arrived}
 use Rattle.domain.specs.Ends.{conclude}
@@ -37,6 +38,25 @@ change share s (Mmio access) = mmio share s access
 change share s (Refuse n) = refuse share s n (item_at s.flight n)
 change share s (Carry n) = carry share s n (item_at s.flight n)
 change share s (Deliver n) = deliver s n (item_at s.flight n)
+change share s (Alien place sender bytes) = alien share s place sender bytes
+
+-- how many entries are of alien packets, one more if this is one
+abbrev pub with_alien : Entry → ℕ → ℕ
+with_alien (Submit function bytes) n = n
+with_alien (Tick function) n = n
+with_alien (Mmio access) n = n
+with_alien (Refuse number) n = n
+with_alien (Carry number) n = n
+with_alien (Deliver number) n = n
+with_alien (Alien place sender bytes) n = n + 1
+
+abbrev pub aliens_from : ℕ → List Entry → ℕ
+aliens_from n [] = n
+aliens_from n (entry ∷ journal) = aliens_from (with_alien entry n) journal
+
+-- how many entries of a journal are of alien packets
+abbrev pub aliens_in : List Entry → ℕ
+aliens_in journal = aliens_from 0 journal
 
 abbrev pub step : Share → Alone → Entry → Option Alone
 step share s entry = option_map (λ c. c.state) (change share s entry)

@@ -6,7 +6,7 @@ ghost use Rattle.host_memory.specs.Pages.{part_of};
 ghost use Rattle.tlp_view.specs.Completions.{HeadFits, completion_of, read_completion};
 ghost use Rattle.tlp_view.specs.Packet.{dw_count};
 ghost use Rattle.domain.specs.Carries.{forward};
-ghost use Rattle.domain.specs.Answers.{address_of, bar_of, blank, forwarded, function_answer, host_data, host_refusal, port_answer, reads_nothing, shown};
+ghost use Rattle.domain.specs.Answers.{address_of, bar_of, blank, forwarded, function_answer, function_refusal, host_data, host_refusal, port_answer, reads_nothing, shown};
 ghost use Rattle.function.specs.Accesses.{IsAccess};
 
 use crate::ending::{Deed, Ending, Reply};
@@ -35,6 +35,18 @@ pub(crate) fn host_refusal(start: &Start, view: &TlpView) -> Reply
     let head = CompletionHead::of_refusal(Bdf::from_bits(0), Status::UR, view);
     Reply::answer(
         Answerer::Host,
+        start.reach(view.requester()),
+        CplBuf::new(head, 0),
+    )
+}
+
+/// A function refuses a request.
+pub(crate) fn function_refusal(start: &Start, function: Bdf, view: &TlpView) -> Reply
+    ensures { result ≡ function_refusal start.now function view.now }
+{
+    let head = CompletionHead::of_refusal(function, Status::UR, view);
+    Reply::answer(
+        Answerer::Function,
         start.reach(view.requester()),
         CplBuf::new(head, 0),
     )

@@ -1,6 +1,6 @@
 //! What the host does with a request, and what a function does with one of the host.
 
-ghost use Rattle.std.specs.Prelude.{◌≡◌, ◌/◌, true, None, if◌then◌else◌};
+ghost use Rattle.std.specs.Prelude.{◌≡◌, ◌/◌, ◌≤◌, true, None, if◌then◌else◌};
 ghost use Rattle.fab_types.specs.declared.head.Parties.TheVariants.{Downward, Upward};
 ghost use Rattle.function.specs.Accesses.{IsAccess};
 ghost use Rattle.tlp_view.specs.Bytes.{packet_of};
@@ -8,7 +8,7 @@ ghost use Rattle.tlp_view.specs.Kinds.{is_memory};
 ghost use Rattle.tlp_view.specs.Packet.{dw_count};
 ghost use Rattle.tlp_view.specs.Runs.{is_write};
 ghost use Rattle.domain.specs.WellMade.{IsWellMade};
-ghost use Rattle.domain.specs.Carries.{access_of, carriage_by, carriage_of, is_carried, is_owner, serve, serve_read, write_to, read_from};
+ghost use Rattle.domain.specs.Carries.{access_of, carriage_by, carriage_of, from_frame, is_carried, is_owner, refused_by_host, serve, serve_read, to_frame, write_to, read_from};
 ghost use Rattle.layout.specs.Tables.{target_of};
 ghost use Rattle.layout.specs.declared.lines.Access.TheVariants as access;
 ghost use Rattle.domain.specs.Answers.{address_of};
@@ -25,13 +25,13 @@ use host_table::{HostTable, Target};
 use layout::{Access, PortLine, Start};
 use tlp_view::{Kind, TlpView};
 
-fn is_write(kind: Kind) -> bool
+pub(crate) fn is_write(kind: Kind) -> bool
     ensures { result ≡ is_write kind }
 {
     matches!(kind, Kind::MWr)
 }
 
-fn is_owner(owner: Option<DomainId>, domain: DomainId) -> bool
+pub(crate) fn is_owner(owner: Option<DomainId>, domain: DomainId) -> bool
     ensures { result ≡ is_owner owner domain }
 {
     match owner {
@@ -53,6 +53,38 @@ fn is_carried(start: &Start, view: &TlpView) -> bool
     }
 }
 
+/// The host writes to a frame.
+pub(crate) fn to_frame(frame: u16, view: &TlpView) -> Ending
+    ensures { result ≡ to_frame frame view.now }
+{
+    let first = (view.address().unwrap_or(0) % 4096) as usize;
+    Ending {
+        deed: Deed::Store(frame, first),
+        reply: None,
+    }
+}
+
+/// The host answers a read of a frame.
+pub(crate) fn from_frame(start: &Start, memory: &HostMemory, view: &TlpView, frame: u16) -> Ending
+    requires { dw_count (view.now).length ≤ 64 }
+    ensures { result ≡ from_frame start.now memory.now view.now frame }
+{
+    Ending {
+        deed: Deed::Leave,
+        reply: Some(host_data(start, memory, frame, view)),
+    }
+}
+
+/// The host refuses a request.
+pub(crate) fn refused_by_host(start: &Start, view: &TlpView) -> Ending
+    ensures { result ≡ refused_by_host start.now view.now }
+{
+    Ending {
+        deed: Deed::Leave,
+        reply: Some(host_refusal(start, view)),
+    }
+}
+
 /// What the host does with a write.
 #[tactic(auto, using(crate::proofs::WellMadeLemmas::write_access))]
 fn serve_write(start: &Start, table: &HostTable, view: &TlpView) -> Option<Ending>
@@ -61,10 +93,7 @@ fn serve_write(start: &Start, table: &HostTable, view: &TlpView) -> Option<Endin
 {
     let address = view.address().unwrap_or(0);
     match table.lookup(view.requester(), address / 4096, Access::Write) {
-        Target::Frame(frame) => Some(Ending {
-            deed: Deed::Store(frame, (address % 4096) as usize),
-            reply: None,
-        }),
+        Target::Frame(frame) => Some(to_frame(frame, view)),
         Target::Peer(function) => forward(start, function, view),
         Target::None => Some(Ending {
             deed: Deed::Block,
@@ -85,17 +114,11 @@ fn serve_read(
     ensures { result ≡ serve_read start.now memory.now view.now }
 {
     if view.dw_length() > 64 {
-        return Some(Ending {
-            deed: Deed::Leave,
-            reply: Some(host_refusal(start, view)),
-        });
+        return Some(refused_by_host(start, view));
     }
     let page = view.address().unwrap_or(0) / 4096;
     match table.lookup(view.requester(), page, Access::Read) {
-        Target::Frame(frame) => Some(Ending {
-            deed: Deed::Leave,
-            reply: Some(host_data(start, memory, frame, view)),
-        }),
+        Target::Frame(frame) => Some(from_frame(start, memory, view, frame)),
         Target::Peer(function) => forward(start, function, view),
         Target::None => Some(Ending {
             deed: Deed::Block,
@@ -104,18 +127,34 @@ fn serve_read(
     }
 }
 
-/// What the host does with a memory request.
+/// What the host does with a memory request, by the table of its Requester ID.
+pub(crate) fn serve(
+    start: &Start,
+    table: &HostTable,
+    memory: &HostMemory,
+    view: &TlpView,
+) -> Option<Ending>
+    requires table { table.now ≡ (start.now).maps }
+    requires is_memory { is_memory (view.now).kind ≡ true }
+    ensures { result ≡ serve start.now memory.now view.now }
+{
+    if is_write(view.kind()) {
+        serve_write(start, table, view)
+    } else {
+        serve_read(start, table, memory, view)
+    }
+}
+
+/// What the host does with a memory request of this domain.
 fn carried(start: &Start, table: &HostTable, memory: &HostMemory, view: &TlpView) -> Option<Ending>
     requires table { table.now ≡ (start.now).maps }
     requires is_memory { is_memory (view.now).kind ≡ true }
     ensures { result ≡ (if is_carried start.now view.now then serve start.now memory.now view.now else None) }
 {
-    if !is_carried(start, view) {
-        None
-    } else if is_write(view.kind()) {
-        serve_write(start, table, view)
+    if is_carried(start, view) {
+        serve(start, table, memory, view)
     } else {
-        serve_read(start, table, memory, view)
+        None
     }
 }
 
@@ -158,7 +197,12 @@ pub(crate) fn carriage_to_host(
 }
 
 /// What a function does with a request for its register page.
-fn access_of(start: &Start, functions: &[Function], id: Bdf, view: &TlpView) -> Option<Ending>
+pub(crate) fn access_of(
+    start: &Start,
+    functions: &[Function],
+    id: Bdf,
+    view: &TlpView,
+) -> Option<Ending>
     requires { IsAccess view.now }
     ensures { result ≡ access_of start.now functions.now id view.now }
 {

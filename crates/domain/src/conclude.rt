@@ -24,7 +24,7 @@ use std::sync::Wait;
 use tlp_view::TlpView;
 
 /// Writes the enabled bytes of a packet to a frame, `first` being the byte that its address names.
-fn write_runs(memory: &mut HostMemory, frame: u16, first: usize, view: &TlpView)
+pub(crate) fn write_runs(memory: &mut HostMemory, frame: u16, first: usize, view: &TlpView)
     requires { first + length (view.now).payload ≤ 4096 }
     ensures { memory.new ≡ stored memory.old frame first (runs view.now) }
 {
@@ -65,7 +65,7 @@ fn complete_line(functions: &mut [Function], tags: &[OpenTag], delivery: &Record
 
 impl State {
     /// Emits what answers a packet, if anything does. Where memory was refused nothing changes.
-    fn send<R: Wait>(
+    pub(crate) fn send<R: Wait>(
         &mut self,
         rt: &R,
         domain: DomainId,
@@ -87,8 +87,8 @@ impl State {
     }
 
     /// Counts a request without a mapping.
-    fn block(&mut self)
-        requires { self.old.counts.blocked + 1 < 2 ^ 32 }
+    pub(crate) fn block(&mut self)
+        requires { self.old.counts.blocked + 1 < 2 ^ 64 }
         ensures { self.new ≡ blocked self.old }
     {
         self.counts.blocked += 1;
@@ -130,7 +130,7 @@ impl State {
 
     /// Does what the end of the packet of this number does.
     fn perform(&mut self, number: u64, deed: Deed)
-        requires blocks { self.old.counts.blocked + 1 < 2 ^ 32 }
+        requires blocks { self.old.counts.blocked + 1 < 2 ^ 64 }
         requires fits { (e : Emission) → item_at self.old.flight number ≡ Some e → DeedFits e deed }
         ensures { (e : Emission) → item_at self.old.flight number ≡ Some e → self.new ≡ done self.old e.bytes deed }
     {
@@ -152,7 +152,7 @@ impl State {
         ending: Ending,
     ) -> Result<Option<Frame>, NoMemory>
         requires waits { IsSome (item_at self.old.flight number) }
-        requires blocks { self.old.counts.blocked + 1 < 2 ^ 32 }
+        requires blocks { self.old.counts.blocked + 1 < 2 ^ 64 }
         requires fits { (e : Emission) → item_at self.old.flight number ≡ Some e → DeedFits e ending.deed }
         ensures state { IfOk result (λ _. (e : Emission) → item_at self.old.flight number ≡ Some e → self.new ≡ (conclude self.old number e.bytes ending).state) }
         ensures sent { IfOk result (λ sent. sent ≡ option_map (descriptor_of domain (length self.old.flight)) ending.reply) }
@@ -165,11 +165,11 @@ impl State {
         Ok(sent)
     }
 
-    /// Ends the packet of this number, a completion that is delivered so.
-    pub(crate) fn deliver(&mut self, number: u64, arrival: Arrival)
-        requires counts { self.old.counts.unexpected + 1 < 2 ^ 32 }
+    /// A completion arrives so.
+    pub(crate) fn arrive(&mut self, arrival: Arrival)
+        requires counts { self.old.counts.unexpected + 1 < 2 ^ 64 }
         requires is_open { arrival.is_awaited ≡ true → is_open self.old.open_tags (arrival.delivery).owner (arrival.delivery).tag ≡ true }
-        ensures { self.new ≡ arrived (without self.old number) arrival }
+        ensures { self.new ≡ arrived self.old arrival }
     {
         let Arrival {
             delivery,
@@ -181,6 +181,15 @@ impl State {
         } else {
             self.counts.unexpected += 1;
         }
+    }
+
+    /// Ends the packet of this number, a completion that is delivered so.
+    pub(crate) fn deliver(&mut self, number: u64, arrival: Arrival)
+        requires counts { self.old.counts.unexpected + 1 < 2 ^ 64 }
+        requires is_open { arrival.is_awaited ≡ true → is_open self.old.open_tags (arrival.delivery).owner (arrival.delivery).tag ≡ true }
+        ensures { self.new ≡ arrived (without self.old number) arrival }
+    {
         self.flight.end(number);
+        self.arrive(arrival);
     }
 }

@@ -4,7 +4,7 @@ pub struct Counts {
     /// Begins that were accepted.
     pub begins: u32,
     /// Requests for which no mapping was found.
-    pub blocked: u32,
+    pub blocked: u64,
     /// Completions for which no Tag was open.
-    pub unexpected: u32,
+    pub unexpected: u64,
 }

@@ -2,7 +2,7 @@
 
 ghost use Rattle.std.specs.Prelude.{◌≡◌, ◌≤◌, length, None};
 ghost use Rattle.tlp_view.specs.Malformed.{malformed};
-ghost use Rattle.domain.specs.Deliveries.{arrival_for, delivery_of, is_awaited, is_port, record_of_arrival};
+ghost use Rattle.domain.specs.Deliveries.{arrival_at, arrival_for, delivery_of, is_awaited, is_port, record_of_arrival};
 
 use crate::heads::origin_id;
 use arrayvec::ArrayVec;
@@ -136,6 +136,28 @@ fn record_of(owner: Origin, view: &TlpView, bytes: &[u8]) -> Record
     }
 }
 
+/// A well-formed completion at this function or host.
+pub(crate) fn arrival_at(
+    tags: &[OpenTag],
+    bytes: &[u8],
+    answerer: Answerer,
+    owner: Origin,
+) -> Arrival
+    requires well_formed { malformed bytes.now ≡ None }
+    requires short { length bytes.now ≤ 272 }
+    ensures { result ≡ arrival_at tags.now bytes.now answerer owner }
+{
+    let Ok(view) = TlpView::read(bytes) else {
+        unreachable!();
+    };
+    let same = owner;
+    let is_awaited = is_awaited(tags, answerer, same, &view);
+    Arrival {
+        delivery: record_of(owner, &view, bytes),
+        is_awaited,
+    }
+}
+
 /// What a well-formed completion is to its addressee.
 pub(crate) fn arrival_for(
     tags: &[OpenTag],
@@ -148,13 +170,5 @@ pub(crate) fn arrival_for(
     ensures { result ≡ arrival_for tags.now bytes.now answerer addressee }
 {
     let owner = addressee?;
-    let Ok(view) = TlpView::read(bytes) else {
-        unreachable!();
-    };
-    let same = owner;
-    let is_awaited = is_awaited(tags, answerer, same, &view);
-    Some(Arrival {
-        delivery: record_of(owner, &view, bytes),
-        is_awaited,
-    })
+    Some(arrival_at(tags, bytes, answerer, owner))
 }

@@ -27,6 +27,8 @@ pub struct Domain {
     pub(crate) table: HostTable,
     pub(crate) state: State,
     pub(crate) journal: Vec<Entry>,
+    /// How many entries the journal has room for, come what may.
+    pub(crate) entries: usize,
 }
 
 impl Model for Domain {
@@ -54,6 +56,7 @@ impl Domain {
             table: HostTable::new(alloc, start)?,
             state: State::new(alloc, start, log)?,
             journal: Vec::with_capacity(alloc, room)?,
+            entries: room,
         })
     }
 

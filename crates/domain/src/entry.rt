@@ -1,9 +1,9 @@
 use crate::access::HostAccess;
-use fab_types::Bdf;
+use fab_types::{Bdf, Parties, Place};
 use frame_log::PacketBytes;
 
-/// What a domain did, as its journal keeps it: a begin with its inputs, or the end of a packet by its
-/// number alone.
+/// What a domain did, as its journal keeps it: a begin with its inputs, the end of a packet by its
+/// number alone, or what a packet did for which its home's journal has no entry.
 #[derive(Debug, Drop)]
 pub enum Entry {
     /// This function submitted these bytes.
@@ -18,4 +18,7 @@ pub enum Entry {
     Carry(u64),
     /// The completion of this number reached the function or host that it answers.
     Deliver(u64),
+    /// At this place a packet was taken that the journal of its home has no entry for: who made it and
+    /// for whom, and its bytes.
+    Alien(Place, Parties, PacketBytes),
 }

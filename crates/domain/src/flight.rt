@@ -59,6 +59,15 @@ impl Flight {
         })
     }
 
+    /// Makes room for this many packets in all. It answers `NoMemory` where memory was refused.
+    pub(crate) fn make_room(&mut self, packets: usize) -> Result<(), NoMemory>
+        ensures { self.new ≡ self.old }
+    {
+        self.slots
+            .reserve(packets.saturating_sub(self.slots.len()))?;
+        Ok(())
+    }
+
     /// Emits a packet of at most 272 bytes under the next number. Where memory was refused nothing is
     /// in flight that was not before.
     pub(crate) fn emit<R: Wait>(

@@ -18,7 +18,7 @@ pub(crate) fn origin_id(origin: Origin) -> Bdf
 
 /// To which ID a completion is routed: a port's answer goes to the sender of what the port refused,
 /// whatever Requester ID that bore.
-fn target_for(parties: Parties, requester: Bdf) -> Bdf
+pub(crate) fn target_for(parties: Parties, requester: Bdf) -> Bdf
     ensures { result ≡ target_for parties requester }
 {
     match parties {

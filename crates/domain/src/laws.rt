@@ -1,6 +1,8 @@
 //! Laws of the machine of a domain. Each is the contract of a function that does nothing.
 
-ghost use Rattle.std.specs.Prelude.{◌≡◌};
+ghost use Rattle.std.specs.Prelude.{◌≡◌, true};
+ghost use Rattle.layout.specs.Share.{is_guarded};
+ghost use Rattle.domain.specs.Machine.{aliens_in};
 
 use crate::domain::Domain;
 
@@ -13,4 +15,13 @@ pub fn equal_journals_leave_equal_states(one: &Domain, other: &Domain)
 {
     let _ = one.journal();
     let _ = other.journal();
+}
+
+/// In a guarded layout, where all five ACS controls are set on each downstream port (PCIe 4.0, 6.12.1), no
+/// entry of a journal is of an alien packet.
+pub fn guarded_journals_have_no_alien_entry(domain: &Domain)
+    requires { is_guarded domain.now.share ≡ true }
+    ensures { aliens_in domain.now.journal ≡ 0 }
+{
+    let _ = domain.journal();
 }

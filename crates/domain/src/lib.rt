@@ -2,6 +2,7 @@
 #![tactic(auto)]
 
 mod access;
+mod alien;
 mod answers;
 mod begin;
 mod carriage;
@@ -17,12 +18,16 @@ mod flight;
 mod heads;
 mod laws;
 mod mmio;
+mod receive;
+mod reception;
 mod refusal;
 mod registers;
 mod replay;
 mod state;
+mod strangers;
 mod submit;
 mod tags;
+mod taker;
 mod tick;
 
 pub use access::{HostAccess, Operation};
@@ -32,4 +37,4 @@ pub use domain::Domain;
 pub use entry::Entry;
 pub use fate::Fate;
 pub use function::{OpenTag, TagUse};
-pub use laws::equal_journals_leave_equal_states;
+pub use laws::{equal_journals_leave_equal_states, guarded_journals_have_no_alien_entry};

@@ -1,9 +1,9 @@
 //! What the first port of its sender does with a packet that it stops.
 
-ghost use Rattle.std.specs.Prelude.{◌≡◌, Some, None};
+ghost use Rattle.std.specs.Prelude.{◌≡◌, Some};
 ghost use Rattle.fab_types.specs.declared.head.Parties.TheVariants.{Upward};
 ghost use Rattle.layout.specs.Owners.{first_port};
-ghost use Rattle.domain.specs.Carries.{refusal_by, refusal_of};
+ghost use Rattle.domain.specs.Carries.{discarded, refusal_by, refusal_of};
 ghost use Rattle.domain.specs.Fates.{fate_at};
 
 use crate::answers::port_answer;
@@ -13,8 +13,9 @@ use fab_types::Bdf;
 use layout::{PortLine, Start};
 use tlp_view::TlpView;
 
-fn discarded() -> Ending
-    ensures { result ≡ record { deed = Deed.Leave; reply = None } }
+/// Nothing happens, and nothing answers.
+pub(crate) fn discarded() -> Ending
+    ensures { result ≡ discarded }
 {
     Ending {
         deed: Deed::Leave,
@@ -23,7 +24,7 @@ fn discarded() -> Ending
 }
 
 /// How these bytes of a function end at this port, if they end there.
-fn refusal_at(port: &PortLine, function: Bdf, bytes: &[u8]) -> Option<Ending>
+pub(crate) fn refusal_at(port: &PortLine, function: Bdf, bytes: &[u8]) -> Option<Ending>
     ensures { result ≡ refusal_by port.now.id function bytes.now (fate_at port.now bytes.now) }
 {
     let Ok(view) = TlpView::read(bytes) else {

@@ -52,6 +52,12 @@ impl Domain {
                 Ok(_) => Ok(()),
                 Err(fault) => Err(fault),
             },
+            Entry::Alien(place, sender, bytes) => {
+                match self.end_alien(rt, *place, *sender, bytes.as_slice()) {
+                    Ok(_) => Ok(()),
+                    Err(fault) => Err(fault),
+                }
+            }
         }
     }
 

@@ -65,6 +65,13 @@ impl State {
         })
     }
 
+    /// Makes room for this many packets in flight, in all.
+    pub(crate) fn make_room(&mut self, packets: usize) -> Result<(), NoMemory>
+        ensures { self.new ≡ self.old }
+    {
+        self.flight.make_room(packets)
+    }
+
     pub(crate) fn counts(&self) -> Counts
         ensures { result ≡ self.now.counts }
     {

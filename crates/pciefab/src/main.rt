@@ -2,6 +2,8 @@
 //! domains (the tenants) then holds.
 #![tactic(auto)]
 
+#[cfg(test)]
+mod aliens;
 mod command_line;
 mod fault;
 mod files;

@@ -66,7 +66,7 @@ impl Scene {
         self.newest_is(answer, answer.len() / 2)
     }
 
-    fn blocked(&self) -> Result<u32, Fail> {
+    fn blocked(&self) -> Result<u64, Fail> {
         Ok(self.domain()?.counts().blocked)
     }
 }
@@ -79,7 +79,7 @@ fn is_answered<R: Wait>(
     alloc: Global,
     read: &str,
     completion: &str,
-    blocked: u32,
+    blocked: u64,
 ) -> Result<bool, Fail> {
     let mut scene = Scene::new(alloc)?;
     scene.exchange(rt, WRITE)?;

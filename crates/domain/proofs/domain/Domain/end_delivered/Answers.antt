@@ -1,21 +1,21 @@
-use Rattle.std.proofs.Common.{◌*◌, ◌<◌, length, None, arith}
+use Rattle.std.proofs.Common.{◌+◌, ◌*◌, ◌<◌, length, None, refl, arith}
 use Rattle.domain.specs.declared.entry.Entry.TheVariants.{Deliver}
+use Rattle.domain.specs.Machine.{aliens_in}
 use Rattle.domain.proofs.EndLemmas.{delivered_so, delivered_waits}
-use Rattle.domain.proofs.Keeping.{end_room, replays_more, strays_fit}
+use Rattle.domain.proofs.Keeping.{end_room, replays_more, room_stays, strays_fit}
 use Rattle.domain.proofs.domain.Domain.end_delivered.Goals as goal
 
 pub deliver-requires-clause-counts : goal.deliver-requires-clause-counts
 deliver-requires-clause-counts c =
     let d = c.self.inside in
-    let h = delivered_waits d.state c.args.number _ c.in-Some.arrival c.in-Some.is c.arrival.ensures in
-    strays_fit d.start d.state d.journal.items c.self.invariant.share c.self.invariant.replays (end_room d.start d.state d.journal.items c.args.number h.emission c.self.invariant.replays h.is)
+    strays_fit d.start d.state d.journal.items c.self.invariant.replays (omega (arith, d.journal.ok, d.journal.small))
 
 pub push_reserved-requires : goal.push_reserved-requires
 push_reserved-requires c =
     let d = c.self.inside in
     let h = delivered_waits d.state c.args.number _ c.in-Some.arrival c.in-Some.is c.arrival.ensures in
-    let room : length d.journal.items < 4 * d.start.budget = end_room d.start d.state d.journal.items c.args.number h.emission c.self.invariant.replays h.is in
-    omega (arith, d.journal.ok, c.self.invariant.room, room)
+    let room : length d.journal.items < 4 * d.start.budget + 3 * aliens_in d.journal.items = end_room d.start d.state d.journal.items c.args.number h.emission c.self.invariant.replays h.is in
+    omega (arith, d.journal.ok, c.self.invariant.room, c.self.invariant.entries, room)
 
 pub invariant_of-self : goal.invariant_of-self
 invariant_of-self c =
@@ -25,5 +25,6 @@ invariant_of-self c =
       table = c.self.invariant.table;
       replays = replays_more d.start d.state c.deliver.new.self d.journal.items _ (Deliver c.args.number) None c.self.invariant.replays c.push_reserved.ensures.items
           (delivered_so d.start d.state c.deliver.new.self c.args.number _ c.in-Some.arrival c.in-Some.is c.arrival.ensures c.deliver.ensures);
+      entries = room_stays d.entries d.start.budget d.journal.items _ (Deliver c.args.number) c.push_reserved.ensures.items refl c.self.invariant.entries;
       room = omega (arith, c.self.invariant.room, c.push_reserved.ensures.capacity);
     }

@@ -1,16 +1,17 @@
-use Rattle.std.proofs.Common.{ℕ, ◌*◌, ◌<◌, length, ap, refl, ◌∙◌, arith}
+use Rattle.std.proofs.Common.{ℕ, ◌+◌, ◌*◌, ◌<◌, length, ap, refl, ◌∙◌, arith}
 use Rattle.domain.specs.declared.entry.Entry.TheVariants.{Submit}
 use Rattle.domain.specs.Heads.{descriptor_of}
 use Rattle.domain.specs.Kept.{view_of}
-use Rattle.domain.proofs.Keeping.{upward, makes_seen, replays_more, submit_legal, submit_copied, not_refused, journal_room, makes_submit}
+use Rattle.domain.specs.Machine.{aliens_in}
+use Rattle.domain.proofs.Keeping.{upward, makes_seen, replays_more, submit_legal, submit_copied, not_refused, journal_room, room_stays, makes_submit}
 use Rattle.domain.proofs.domain.Domain.submit.Goals as goal
 
 pub push_reserved-requires : goal.push_reserved-requires
 push_reserved-requires g c =
     let d = c.self.inside in
     let none = not_refused (view_of d) c.args.self.now c.args.function c.args.bytes.now _ c.self.view_is c.in_default.is c.submit_fault.ensures in
-    let room : length d.journal.items < 4 * d.start.budget = journal_room d.start d.state d.journal.items c.args.function c.args.bytes.now c.self.invariant.replays none in
-    omega (arith, d.journal.ok, c.self.invariant.room)
+    let room : length d.journal.items < 4 * d.start.budget + 3 * aliens_in d.journal.items = journal_room d.start d.state d.journal.items c.args.function c.args.bytes.now c.self.invariant.replays none in
+    omega (arith, d.journal.ok, c.self.invariant.room, c.self.invariant.entries, room)
 
 pub invariant_of-self-2 : goal.invariant_of-self-2
 invariant_of-self-2 g c =
@@ -22,6 +23,7 @@ invariant_of-self-2 g c =
       share = c.self.invariant.share;
       table = c.self.invariant.table;
       replays = replays_more d.start d.state _ d.journal.items _ (Submit c.args.function c.args.bytes.now) _ c.self.invariant.replays grown legal;
+      entries = room_stays d.entries d.start.budget d.journal.items _ (Submit c.args.function c.args.bytes.now) grown refl c.self.invariant.entries;
       room = omega (arith, c.self.invariant.room, c.push_reserved.ensures.capacity);
     }
 

@@ -1,0 +1,104 @@
+//! A packet that is taken where its home's machine has no case.
+
+ghost use Rattle.std.specs.Prelude.{◌≡◌, ◌+◌, ◌≤◌, false, true, vec_capacity, vec_len, IfErr, IfOk, None, OnErr, length};
+ghost use Rattle.frame_log.specs.declared.fault.FrameFault.{FrameFault};
+ghost use Rattle.layout.specs.Share.{is_guarded};
+ghost use Rattle.domain.specs.declared.consume.EndFault.TheVariants as end;
+ghost use Rattle.domain.specs.Machine.{change};
+ghost use Rattle.domain.specs.Takers.{takes};
+
+use crate::consume::EndFault;
+use crate::domain::Domain;
+use crate::entry::Entry;
+use fab_types::{NoMemory, Parties, Place};
+use frame_log::{Frame, FrameFault, PacketBytes};
+use std::sync::Wait;
+
+/// How many entries an alien packet may lead to: its own, and those of two packets, one after another.
+const ENTRIES: usize = 3;
+
+/// Makes room for the entries that an alien packet may lead to, so that later calls need none. The result
+/// is how many entries there is room for then.
+fn room_for_entries(journal: &mut Vec<Entry>, entries: usize) -> Result<usize, NoMemory>
+    requires room { entries ≤ vec_capacity journal.old }
+    requires len { vec_len journal.old ≤ entries }
+    ensures items { journal.new.items ≡ journal.old.items }
+    ensures capacity { vec_capacity journal.old ≤ vec_capacity journal.new }
+    ensures value { IfOk result (λ more. more ≡ entries + 3) }
+    ensures room { IfOk result (λ more. more ≤ vec_capacity journal.new) }
+{
+    let more = entries + ENTRIES;
+    journal.reserve(more - journal.len())?;
+    Ok(more)
+}
+
+impl Domain {
+    ghost use Rattle.domain.specs.declared.entry.Entry.TheVariants.{Alien};
+    ghost use Rattle.domain.specs.Domains.{Makes};
+
+    /// The packet was taken there. It answers `Illegal` where the machine has no such entry.
+    pub(crate) fn end_alien<R: Wait>(
+        &mut self,
+        rt: &R,
+        place: Place,
+        sender: Parties,
+        bytes: &[u8],
+    ) -> Result<Option<Frame>, EndFault>
+        ensures ok { IfOk result (λ sent. Makes self.old (Alien place sender bytes.now) self.new sent) }
+        ensures illegal { IfErr result (λ fault. fault ≡ end.Illegal → change self.old.share self.old.state (Alien place sender bytes.now) ≡ None) }
+        ensures err { OnErr result (self.new ≡ self.old) }
+    {
+        let (there, these) = (place, sender);
+        let Some(reception) = self.reception(there, these, bytes) else {
+            return Err(EndFault::Illegal);
+        };
+        let Ok(entries) = room_for_entries(&mut self.journal, self.entries) else {
+            return Err(EndFault::NoMemory);
+        };
+        // As many packets as entries, but for the begins, which are no packets of their own.
+        let packets = entries.saturating_sub(self.start.budget() as usize);
+        if self.state.make_room(packets).is_err() {
+            return Err(EndFault::NoMemory);
+        }
+        let alloc = *self.journal.allocator();
+        let Ok(copy) = PacketBytes::copy_of(alloc, bytes) else {
+            return Err(EndFault::NoMemory);
+        };
+        let domain = self.start.domain();
+        let Ok(sent) = self.state.receive(rt, domain, bytes, reception) else {
+            return Err(EndFault::NoMemory);
+        };
+        self.entries = entries;
+        self.journal
+            .push_reserved(Entry::Alien(place, sender, copy));
+        Ok(sent)
+    }
+
+    /// A packet was taken where its home's machine has no case, as only in layouts that aren't guarded:
+    /// at this place, and these are its bytes, as its home lends them. This is the domain that gets the
+    /// entry: the owner of the Requester ID, of the frame, of the host or of the function that takes it,
+    /// or its home. The frame that follows is the result, if one does. The packet's own frame ends here,
+    /// while its number stays in flight at its home for ever. It answers `NoMemory` alone, where memory
+    /// was refused; then nothing changes, and the frame is given back.
+    pub fn alien<R: Wait>(
+        &mut self,
+        rt: &R,
+        place: Place,
+        frame: Frame,
+        bytes: &[u8],
+    ) -> Result<Option<Frame>, FrameFault>
+        requires unguarded { is_guarded self.old.share ≡ false }
+        requires taken { takes self.old.share place ≡ true }
+        requires short { length bytes.now ≤ 272 }
+        ensures ok { IfOk result (λ sent. Makes self.old (Alien place frame.head.parties bytes.now) self.new sent) }
+        ensures fault { IfErr result (λ fault. fault ≡ FrameFault.NoMemory frame) }
+        ensures err { OnErr result (self.new ≡ self.old) }
+    {
+        let sender = frame.head().parties;
+        match self.end_alien(rt, place, sender, bytes) {
+            Ok(sent) => Ok(sent),
+            Err(EndFault::Illegal) => unreachable!(),
+            Err(EndFault::NoMemory) => Err(FrameFault::NoMemory(frame)),
+        }
+    }
+}

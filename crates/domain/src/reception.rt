@@ -1,0 +1,133 @@
+//! What becomes of an alien packet at the one that takes it.
+
+ghost use Rattle.std.specs.Prelude.{◌≡◌, ◌≤◌, ◌==◌, length};
+ghost use Rattle.std.specs.List.{find};
+ghost use Rattle.fab_types.specs.Id.{host_of};
+ghost use Rattle.tlp_view.specs.Bytes.{packet_of};
+ghost use Rattle.tlp_view.specs.Malformed.{malformed};
+ghost use Rattle.domain.specs.Aliens.{answerer_of, at_function, at_host, at_port, completion_at_host, reception_at, reception_unless};
+
+use crate::deliver::{Arrival, arrival_at};
+use crate::domain::Domain;
+use crate::ending::Ending;
+use crate::heads::target_for;
+use crate::refusal::{discarded, refusal_at};
+use crate::strangers::{or_discarded, request_at_function, request_at_host};
+use crate::taker::{Taker, taker_of};
+use fab_types::{Answerer, Bdf, Origin, Parties, Place};
+use layout::PortLine;
+use tlp_view::TlpView;
+
+/// What becomes of an alien packet: it ends like one of the domain's own, or arrives as a completion.
+#[derive(Drop)]
+pub(crate) enum Reception {
+    Ends(Ending),
+    Arrives(Arrival),
+}
+
+fn answerer_of(sender: Parties) -> Answerer
+    ensures { result ≡ answerer_of sender }
+{
+    match sender {
+        Parties::Upward(_) => Answerer::Function,
+        Parties::Downward(_) => Answerer::Host,
+        Parties::Answer(answerer, _) => answerer,
+    }
+}
+
+/// A port refuses what its own line refuses.
+fn at_port(port: &PortLine, bytes: &[u8], sender: Parties) -> Ending
+    ensures { result ≡ at_port port.now bytes.now sender }
+{
+    match sender {
+        Parties::Upward(function) => or_discarded(refusal_at(port, function, bytes)),
+        Parties::Downward(_) | Parties::Answer(..) => discarded(),
+    }
+}
+
+impl Domain {
+    ghost use Rattle.domain.specs.Aliens.{reception_of};
+
+    /// A completion that is routed to this ID.
+    fn completion_at_host(&self, bytes: &[u8], sender: Parties, target: Bdf) -> Reception
+        requires well_formed { malformed bytes.now ≡ None }
+        requires short { length bytes.now ≤ 272 }
+        ensures { result ≡ completion_at_host self.now.share self.now.state.open_tags bytes.now sender target }
+    {
+        let domain = self.start.domain();
+        if target == domain.host() {
+            let tags = self.state.open_tags();
+            let owner = Origin::Host(domain);
+            Reception::Arrives(arrival_at(tags, bytes, answerer_of(sender), owner))
+        } else {
+            Reception::Ends(discarded())
+        }
+    }
+
+    fn at_host(&self, bytes: &[u8], sender: Parties, view: &TlpView) -> Reception
+        requires well_formed { malformed bytes.now ≡ None }
+        requires short { length bytes.now ≤ 272 }
+        ensures { result ≡ at_host self.now.share self.now.state bytes.now sender view.now }
+    {
+        if view.kind().is_completion() {
+            let these = sender;
+            let target = target_for(these, view.requester());
+            self.completion_at_host(bytes, sender, target)
+        } else {
+            let memory = self.state.memory();
+            Reception::Ends(request_at_host(&self.start, &self.table, memory, view))
+        }
+    }
+
+    fn at_function(&self, function: Bdf, bytes: &[u8], sender: Parties, view: &TlpView) -> Reception
+        requires well_formed { malformed bytes.now ≡ None }
+        requires short { length bytes.now ≤ 272 }
+        ensures { result ≡ at_function self.now.share self.now.state function bytes.now sender view.now }
+    {
+        if view.kind().is_completion() {
+            let tags = self.state.open_tags();
+            let owner = Origin::Function(function);
+            Reception::Arrives(arrival_at(tags, bytes, answerer_of(sender), owner))
+        } else {
+            let functions = self.state.functions();
+            Reception::Ends(request_at_function(&self.start, functions, function, view))
+        }
+    }
+
+    fn reception_at(&self, bytes: &[u8], sender: Parties, view: &TlpView, taker: Taker) -> Reception
+        requires well_formed { malformed bytes.now ≡ None }
+        requires short { length bytes.now ≤ 272 }
+        ensures { result ≡ reception_at self.now.share self.now.state bytes.now sender view.now taker }
+    {
+        match taker {
+            Taker::Host => self.at_host(bytes, sender, view),
+            Taker::Function(function) => self.at_function(function, bytes, sender, view),
+            Taker::Port(port) => Reception::Ends(at_port(&port, bytes, sender)),
+            Taker::Upstream => Reception::Ends(discarded()),
+        }
+    }
+
+    /// What becomes of these bytes at the one that takes them.
+    fn received_by(&self, bytes: &[u8], sender: Parties, taker: Taker) -> Reception
+        requires { length bytes.now ≤ 272 }
+        ensures { result ≡ reception_unless (malformed bytes.now) self.now.share self.now.state bytes.now sender taker }
+    {
+        match TlpView::read(bytes) {
+            Ok(view) => self.reception_at(bytes, sender, &view, taker),
+            Err(_) => Reception::Ends(discarded()),
+        }
+    }
+
+    /// What becomes of an alien packet, if it may be taken there.
+    pub(crate) fn reception(&self, place: Place, sender: Parties, bytes: &[u8]) -> Option<Reception>
+        ensures { result ≡ reception_of self.now.share self.now.state place sender bytes.now }
+    {
+        if self.start.is_guarded() || bytes.len() > 272 {
+            return None;
+        }
+        match taker_of(&self.start, place) {
+            Some(taker) => Some(self.received_by(bytes, sender, taker)),
+            None => None,
+        }
+    }
+}
