@@ -1,5 +1,5 @@
 -- Slots of packets in flight, and what is seen of them.
-use Rattle.std.proofs.Common.{◌≡◌, ℕ, zero, suc, ◌<◌, List, [], ◌∷◌, ◌++◌, Option, Some, None, refl, sym, ap, ◌∙◌, subst, arith, slice_set, slice_index_or, option_map}
+use Rattle.std.proofs.Common.{◌≡◌, ℕ, zero, suc, ◌<◌, ◌≤◌, List, length, [], ◌∷◌, ◌++◌, Option, Some, None, refl, sym, ap, ◌∙◌, subst, arith, slice_set, slice_index_or, option_map}
 use Rattle.std.specs.Option.{IsSome}
 use Rattle.std.specs.List.{All}
 use Rattle.std.proofs.lemmas.List.Elements.{All-append}
@@ -24,11 +24,12 @@ one_at P x d (suc k) p lt = absurd (omega (arith, lt))
 
 -- a slot more, whose token the log shows and whose packet is well made
 pub slots_push : (log : Log) (old now new : List (Option InFlight)) (x : InFlight) (e : TlpEntry) (bytes : List ℕ) → All (IsSlot log) old → now ≡ old → new ≡ now ++ Some x ∷ []
-    → Shown log x.token → entry_of x.token ≡ e → e.bytes ≡ bytes → IsWellMade x.parties bytes → All (IsSlot log) new
-slots_push log old now new x e bytes kept same grown shown entry are made =
+    → Shown log x.token → entry_of x.token ≡ e → e.bytes ≡ bytes → IsWellMade x.parties bytes → length bytes ≤ 272 → All (IsSlot log) new
+slots_push log old now new x e bytes kept same grown shown entry are made small =
     let well : IsWellMade x.parties (entry_of x.token).bytes = subst (IsWellMade x.parties) (sym (ap (λ (t : TlpEntry). t.bytes) entry ∙ are)) made in
+    let short : length (entry_of x.token).bytes ≤ 272 = subst (λ (b : List ℕ). length b ≤ 272) (sym (ap (λ (t : TlpEntry). t.bytes) entry ∙ are)) small in
     subst (All (IsSlot log)) (sym (grown ∙ ap (λ (xs : List (Option InFlight)). xs ++ Some x ∷ []) same))
-    (All-append (IsSlot log) old (Some x ∷ []) kept (λ k d lt. one_at (IsSlot log) (Some x) d k (shown, well) lt))
+    (All-append (IsSlot log) old (Some x ∷ []) kept (λ k d lt. one_at (IsSlot log) (Some x) d k (shown, well, short) lt))
 
 -- ---- a packet in flight, when one more is put into flight
 

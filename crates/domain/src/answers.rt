@@ -45,11 +45,8 @@ pub(crate) fn function_refusal(start: &Start, function: Bdf, view: &TlpView) -> 
     ensures { result ≡ function_refusal start.now function view.now }
 {
     let head = CompletionHead::of_refusal(function, Status::UR, view);
-    Reply::answer(
-        Answerer::Function,
-        start.reach(view.requester()),
-        CplBuf::new(head, 0),
-    )
+    let asker = start.reach(view.requester());
+    Reply::answer(Answerer::Function, asker, CplBuf::new(head, 0))
 }
 
 /// The host answers a read of a frame of memory.

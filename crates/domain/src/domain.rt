@@ -1,6 +1,6 @@
 //! A domain.
 
-ghost use Rattle.std.specs.Prelude.{◌≡◌, IfOk, Some, [], option_map};
+ghost use Rattle.std.specs.Prelude.{◌≡◌, ◌≤◌, IfOk, IfSome, length, Some, [], option_map};
 ghost use Rattle.std.specs.Option.{option_copied};
 ghost use Rattle.host_memory.specs.Pages.{page_of};
 ghost use Rattle.domain.specs.Machine.{replay};
@@ -95,9 +95,10 @@ impl Domain {
         self.state.register_page(function)
     }
 
-    /// The bytes of the packet that is in flight under this number, if one is.
+    /// The bytes of the packet that is in flight under this number, if one is: at most 272.
     pub fn bytes(&self, number: u64) -> Option<&[u8]>
-        ensures { option_copied result ≡ option_map (λ e. e.bytes) (item_at self.now.state.flight number) }
+        ensures short { IfSome result (λ bytes. length bytes.now ≤ 272) }
+        ensures value { option_copied result ≡ option_map (λ e. e.bytes) (item_at self.now.state.flight number) }
     {
         match self.state.item(number) {
             Some((_, bytes)) => Some(bytes),

@@ -95,6 +95,7 @@ impl Flight {
     /// The packet that is in flight under this number.
     pub(crate) fn item(&self, number: u64) -> Option<(Parties, &[u8])>
         ensures well_made { IfSome result (λ item. IsWellMade item.0 item.1.now) }
+        ensures short { IfSome result (λ item. length item.1.now ≤ 272) }
         ensures value { MatchOption result (item_at self.now number ≡ None)
             (λ item. item_at self.now number ≡ Some (record { parties = item.0; bytes = item.1.now })) }
     {

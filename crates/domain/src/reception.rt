@@ -12,7 +12,7 @@ use crate::domain::Domain;
 use crate::ending::Ending;
 use crate::heads::target_for;
 use crate::refusal::{discarded, refusal_at};
-use crate::strangers::{or_discarded, request_at_function, request_at_host};
+use crate::requests::{or_discarded, request_at_function, request_at_host};
 use crate::taker::{Taker, taker_of};
 use fab_types::{Answerer, Bdf, Origin, Parties, Place};
 use layout::PortLine;

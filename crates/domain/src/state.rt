@@ -1,6 +1,6 @@
 //! The state of a domain.
 
-ghost use Rattle.std.specs.Prelude.{◌≡◌, ℕ, List, IfOk, IfSome, MatchOption, None, Some, option_map};
+ghost use Rattle.std.specs.Prelude.{◌≡◌, ◌≤◌, ℕ, List, length, IfOk, IfSome, MatchOption, None, Some, option_map};
 ghost use Rattle.std.specs.Option.{option_copied};
 ghost use Rattle.function.specs.Plans.{PlanFits, plan_of};
 ghost use Rattle.host_memory.specs.Pages.{page_of};
@@ -87,6 +87,7 @@ impl State {
     /// The packet in flight under this number.
     pub(crate) fn item(&self, number: u64) -> Option<(Parties, &[u8])>
         ensures well_made { IfSome result (λ item. IsWellMade item.0 item.1.now) }
+        ensures short { IfSome result (λ item. length item.1.now ≤ 272) }
         ensures value { MatchOption result (item_at self.now.flight number ≡ None)
             (λ item. item_at self.now.flight number ≡ Some (record { parties = item.0; bytes = item.1.now })) }
     {

@@ -38,6 +38,7 @@ begins_of-append (entry.Mmio x ∷ js) ks = ap (λ (bs : List Entry). entry.Mmio
 begins_of-append (entry.Refuse n ∷ js) ks = begins_of-append js ks
 begins_of-append (entry.Carry n ∷ js) ks = begins_of-append js ks
 begins_of-append (entry.Deliver n ∷ js) ks = begins_of-append js ks
+begins_of-append (entry.Alien place sender bytes ∷ js) ks = begins_of-append js ks
 
 abbrev some : {A : Type 0} → A → Option A
 some x = Some x

@@ -25,6 +25,7 @@ begins_of (entry.Mmio access ∷ journal) = entry.Mmio access ∷ begins_of jour
 begins_of (entry.Refuse n ∷ journal) = begins_of journal
 begins_of (entry.Carry n ∷ journal) = begins_of journal
 begins_of (entry.Deliver n ∷ journal) = begins_of journal
+begins_of (entry.Alien place sender bytes ∷ journal) = begins_of journal
 
 abbrev pub accepted_one : Event → Outcome → List Entry
 accepted_one (Submit f b) Moved = entry.Submit f b ∷ []

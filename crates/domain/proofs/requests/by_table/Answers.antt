@@ -3,7 +3,7 @@ use Rattle.layout.specs.Owners.{owner_of}
 use Rattle.domain.specs.Aliens.{or_discarded, unserved_by_host}
 use Rattle.domain.specs.Carries.{is_owner, serve}
 use Rattle.domain.proofs.AlienLemmas.{else_is}
-use Rattle.domain.proofs.strangers.by_table.Goals as goal
+use Rattle.domain.proofs.requests.by_table.Goals as goal
 
 pub returns-else-is_owner : goal.returns-else-is_owner
 returns-else-is_owner c =

@@ -1,4 +1,4 @@
-//! What the host and a function do with a request that is alien to them.
+//! What the host and a function do with an alien request.
 
 ghost use Rattle.std.specs.Prelude.{◌≡◌, ◌==◌, true};
 ghost use Rattle.std.specs.List.{find};
