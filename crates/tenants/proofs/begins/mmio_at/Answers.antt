@@ -1,0 +1,22 @@
+use Rattle.std.proofs.Common.{Option, sym, ap, ◌∙◌, get_or}
+use Rattle.std.proofs.lemmas.Option.{slice_get-get_or}
+use Rattle.domain.specs.declared.entry.Entry.TheVariants.{Mmio}
+use Rattle.domain.specs.Domains.{DomainView}
+use Rattle.tenants.specs.Tenants.{mmio_refusal_by}
+use Rattle.tenants.proofs.Making.{frame_made}
+use Rattle.tenants.proofs.begins.mmio_at.Goals as goal
+
+pub returns-clause-ok : goal.returns-clause-ok
+returns-clause-ok g c =
+    let ds = c.args.domains.now in let i = c.args.place in let read = c.index-domains-place.result in
+    frame_made ds i (get_or ds i read) c.mmio.new.self (Mmio c.args.access.now) c.mmio.result (slice_get-get_or ds i read c.requires) c.mmio.ensures.ok
+
+pub returns-clause-refused : goal.returns-clause-refused
+returns-clause-refused g c =
+    let at = slice_get-get_or c.args.domains.now c.args.place c.index-domains-place.result c.requires in
+    λ fault told. c.mmio.ensures.refused fault (sym (ap (λ (o : Option DomainView). mmio_refusal_by o c.args.access.now) at) ∙ told)
+
+pub returns-clause-accepted : goal.returns-clause-accepted
+returns-clause-accepted g c =
+    let at = slice_get-get_or c.args.domains.now c.args.place c.index-domains-place.result c.requires in
+    λ told. c.mmio.ensures.accepted (sym (ap (λ (o : Option DomainView). mmio_refusal_by o c.args.access.now) at) ∙ told)

@@ -1,0 +1,15 @@
+use Rattle.std.proofs.Common.{get_or}
+use Rattle.std.proofs.lemmas.Option.{slice_get-get_or}
+use Rattle.domain.specs.declared.entry.Entry.TheVariants.{Carry}
+use Rattle.tenants.proofs.Making.{end_made, given_back}
+use Rattle.tenants.proofs.ends.carry_at.Goals as goal
+
+pub returns-clause-ok : goal.returns-clause-ok
+returns-clause-ok g c =
+    let ds = c.args.domains.now in let i = c.args.place in let read = c.index-domains-place.result in
+    end_made ds i (get_or ds i read) c.carry.new.self (Carry c.args.frame.number) c.args.frame c.carry.result (slice_get-get_or ds i read c.requires.within) c.carry.ensures.ok
+
+pub returns-clause-fault : goal.returns-clause-fault
+returns-clause-fault g c =
+    let ds = c.args.domains.now in let i = c.args.place in let read = c.index-domains-place.result in
+    given_back ds i (get_or ds i read) (Carry c.args.frame.number) c.args.frame c.carry.result (slice_get-get_or ds i read c.requires.within) c.requires.home c.carry.ensures.fault

@@ -1,0 +1,1 @@
+//! The domains of a fabric at the desk of a port.

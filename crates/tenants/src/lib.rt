@@ -1,0 +1,10 @@
+//! The domains of a fabric: which of them a begin or a packet belongs to, and what the one call on it makes of all.
+#![tactic(auto)]
+
+mod begins;
+mod desk;
+mod ends;
+mod places;
+mod tenants;
+
+pub use tenants::Tenants;

@@ -1,0 +1,30 @@
+//! Which domain a begin or a packet belongs to.
+
+ghost use Rattle.std.specs.Prelude.{◌≡◌, ◌<◌, IfSome, length};
+ghost use Rattle.tenants.specs.Tenants.{IsHome, place_of, place_of_function};
+
+use domain::Domain;
+use fab_types::{Bdf, DomainId};
+
+/// The place of the domain with this number.
+#[tactic(auto, unfolding(crate::specs::Tenants::place_of))]
+pub(crate) fn place_of(domains: &[Domain], number: DomainId) -> Option<usize>
+    ensures value { result ≡ place_of domains.now number }
+    ensures within { IfSome result (λ place. place < length domains.now) }
+    ensures home { IfSome result (λ place. IsHome domains.now place number) }
+{
+    domains
+        .iter()
+        .position(|domain| domain.start().domain() == number)
+}
+
+/// The place of the domain that this function is of.
+#[tactic(auto, unfolding(crate::specs::Tenants::place_of_function))]
+pub(crate) fn place_of_function(domains: &[Domain], function: Bdf) -> Option<usize>
+    ensures value { result ≡ place_of_function domains.now function }
+    ensures within { IfSome result (λ place. place < length domains.now) }
+{
+    domains
+        .iter()
+        .position(|domain| domain.start().owns_function(function))
+}

@@ -1,0 +1,158 @@
+//! The domains of a fabric as one value.
+
+ghost use Rattle.std.specs.Prelude.{◌≡◌, IfOk, IfErr, None, OnErr, Some};
+ghost use Rattle.std.specs.Option.{option_copied};
+ghost use Rattle.std.specs.Result.{IsOkUnless};
+ghost use Rattle.fab_types.specs.declared.faults.begin.SubmitFault.{SubmitFault};
+ghost use Rattle.fab_types.specs.declared.faults.begin.TickFault.{TickFault};
+ghost use Rattle.fab_types.specs.declared.faults.begin.MmioFault.{MmioFault};
+ghost use Rattle.tenants.specs.Tenants.{Emits, IsGivenBack, IsStray, delivered, domain_at, made, made_at, mmio_refusal, place_of, place_of_function, submit_refusal, tenants_of, tick_refusal};
+
+use crate::begins::{mmio_at, submit_at, tick_at};
+use crate::ends::{carry_at, deliver_at, refuse_at};
+use crate::places::{place_of, place_of_function};
+use domain::{Domain, HostAccess, Record};
+use fab_types::{Bdf, DomainId, MmioFault, NoMemory, PortId, SubmitFault, TickFault};
+use frame_log::{Frame, FrameFault, Log};
+use layout::Layout;
+use std::alloc::Global;
+use std::marker::Model;
+use std::sync::{Arc, Wait};
+
+/// The domains of a fabric, each that owns a port, by rising number. A contract sees the list of them.
+#[derive(Drop)]
+pub struct Tenants {
+    domains: Vec<Domain>,
+}
+
+impl Model for Tenants {
+    ghost use Rattle.std.specs.Prelude.{List};
+    ghost use Rattle.domain.specs.Domains.{DomainView};
+
+    ghost Value = { List DomainView };
+
+    ghost use Rattle.tenants.specs.Kept.{domains_of};
+
+    ghost view = { domains_of };
+}
+
+impl Tenants {
+    ghost use Rattle.domain.specs.declared.entry.Entry.TheVariants.{Carry, Deliver, Mmio, Refuse, Submit, Tick};
+
+    /// The domain of this number, if there is one.
+    pub fn domain(&self, number: DomainId) -> Option<&Domain>
+        ensures { option_copied result ≡ domain_at self.now (place_of self.now number) }
+    {
+        let place = place_of(&self.domains, number)?;
+        Some(&self.domains[place])
+    }
+
+    /// All domains, by rising number.
+    pub fn domains(&self) -> &[Domain]
+        ensures { result.now ≡ self.now }
+    {
+        &self.domains
+    }
+
+    /// A function submits a packet, in its own domain.
+    pub fn submit<R: Wait>(
+        &mut self,
+        rt: &R,
+        function: Bdf,
+        bytes: &[u8],
+    ) -> Result<Frame, SubmitFault>
+        ensures ok { IfOk result (λ frame. made_at self.old (Submit function bytes.now) (place_of_function self.old function) ≡ Some (record { domains = self.new; sent = Some frame })) }
+
+        // Which refusal it is: the first that applies. Without one only memory may be refused.
+        ensures refused { (fault : SubmitFault) → submit_refusal self.old function bytes.now ≡ Some fault → result ≡ Err fault }
+        ensures accepted { submit_refusal self.old function bytes.now ≡ None → IsOkUnless result SubmitFault.NoMemory }
+        ensures err { OnErr result (self.new ≡ self.old) }
+    {
+        match place_of_function(&self.domains, function) {
+            Some(place) => submit_at(rt, &mut self.domains, place, function, bytes),
+            None => Err(SubmitFault::NoFunction),
+        }
+    }
+
+    /// The program of a function does its next line, in its own domain.
+    pub fn tick<R: Wait>(&mut self, rt: &R, function: Bdf) -> Result<Option<Frame>, TickFault>
+        ensures ok { IfOk result (λ sent. made_at self.old (Tick function) (place_of_function self.old function) ≡ Some (record { domains = self.new; sent = sent })) }
+
+        // Which refusal it is: the first that applies. Without one only memory may be refused.
+        ensures refused { (fault : TickFault) → tick_refusal self.old function ≡ Some fault → result ≡ Err fault }
+        ensures accepted { tick_refusal self.old function ≡ None → IsOkUnless result TickFault.NoMemory }
+        // Memory is refused only to a line that sends.
+        ensures memory { result ≡ Err TickFault.NoMemory → Emits (made_at self.old (Tick function) (place_of_function self.old function)) }
+        ensures err { OnErr result (self.new ≡ self.old) }
+    {
+        match place_of_function(&self.domains, function) {
+            Some(place) => tick_at(rt, &mut self.domains, place, function),
+            None => Err(TickFault::NoFunction),
+        }
+    }
+
+    /// The host of this domain reads or writes the register page of a function.
+    pub fn mmio<R: Wait>(
+        &mut self,
+        rt: &R,
+        domain: DomainId,
+        access: &HostAccess,
+    ) -> Result<Frame, MmioFault>
+        ensures ok { IfOk result (λ frame. made self.old domain (Mmio access.now) ≡ Some (record { domains = self.new; sent = Some frame })) }
+
+        // Which refusal it is: the first that applies. Without one only memory may be refused.
+        ensures refused { (fault : MmioFault) → mmio_refusal self.old domain access.now ≡ Some fault → result ≡ Err fault }
+        ensures accepted { mmio_refusal self.old domain access.now ≡ None → IsOkUnless result MmioFault.NoMemory }
+        ensures err { OnErr result (self.new ≡ self.old) }
+    {
+        match place_of(&self.domains, domain) {
+            Some(place) => mmio_at(rt, &mut self.domains, place, access),
+            None => Err(MmioFault::NotYours),
+        }
+    }
+
+    /// A packet is stopped by its sender's first port.
+    pub fn refuse<R: Wait>(
+        &mut self,
+        rt: &R,
+        frame: Frame,
+        port: PortId,
+    ) -> Result<Option<Frame>, FrameFault>
+        ensures ok { IfOk result (λ sent. made self.old frame.domain (Refuse frame.number) ≡ Some (record { domains = self.new; sent = sent })) }
+        ensures fault { IfErr result (λ fault. IsGivenBack (made self.old frame.domain (Refuse frame.number)) frame fault) }
+        ensures stray { made self.old frame.domain (Refuse frame.number) ≡ None → result ≡ Err (FrameFault.Stray frame) }
+        ensures err { OnErr result (self.new ≡ self.old) }
+    {
+        match place_of(&self.domains, frame.domain()) {
+            Some(place) => refuse_at(rt, &mut self.domains, place, frame, port),
+            None => Err(FrameFault::Stray(frame)),
+        }
+    }
+
+    /// A packet reached its completer.
+    pub fn carry<R: Wait>(&mut self, rt: &R, frame: Frame) -> Result<Option<Frame>, FrameFault>
+        ensures ok { IfOk result (λ sent. made self.old frame.domain (Carry frame.number) ≡ Some (record { domains = self.new; sent = sent })) }
+        ensures fault { IfErr result (λ fault. IsGivenBack (made self.old frame.domain (Carry frame.number)) frame fault) }
+        ensures stray { made self.old frame.domain (Carry frame.number) ≡ None → result ≡ Err (FrameFault.Stray frame) }
+        ensures err { OnErr result (self.new ≡ self.old) }
+    {
+        match place_of(&self.domains, frame.domain()) {
+            Some(place) => carry_at(rt, &mut self.domains, place, frame),
+            None => Err(FrameFault::Stray(frame)),
+        }
+    }
+
+    /// A completion reached whom it answers. It answers the record that it made, if it closed a Tag.
+    pub fn deliver(&mut self, frame: Frame) -> Result<Option<Record>, FrameFault>
+        ensures ok { IfOk result (λ given. made self.old frame.domain (Deliver frame.number) ≡ Some (record { domains = self.new; sent = None })) }
+        ensures delivery { IfOk result (λ given. given ≡ delivered self.old frame) }
+        ensures fault { IfErr result (λ fault. IsStray (made self.old frame.domain (Deliver frame.number)) frame fault) }
+        ensures stray { made self.old frame.domain (Deliver frame.number) ≡ None → result ≡ Err (FrameFault.Stray frame) }
+        ensures err { OnErr result (self.new ≡ self.old) }
+    {
+        match place_of(&self.domains, frame.domain()) {
+            Some(place) => deliver_at(&mut self.domains, place, frame),
+            None => Err(FrameFault::Stray(frame)),
+        }
+    }
+}
