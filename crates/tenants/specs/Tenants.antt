@@ -132,13 +132,10 @@ delivered domains frame = record_by (domain_at domains (place_of domains frame.d
 abbrev pub fresh : Share → DomainView
 fresh share = record { share = share; state = start_state share; journal = [] }
 
--- the numbers from 1 on of so many domains, but only those that own a port
-abbrev pub owners_among : Platform → ℕ → List ℕ
-owners_among platform count = filter (owns_port platform.ports) (range_with_len 1 count)
+-- of so many numbers from 1 on each domain that owns a port, at its start
+unfoldable pub tenants_among : Platform → ℕ → List DomainView
+tenants_among platform count = map (λ number. fresh (share_of_domain platform number)) (filter (owns_port platform.ports) (range_with_len 1 count))
 
-abbrev pub tenants_among : Platform → ℕ → List DomainView
-tenants_among platform count = map (λ number. fresh (share_of_domain platform number)) (owners_among platform count)
-
--- each domain, of the numbers 1 to 31, that owns a port
+-- each domain that owns a port, by rising number, at its start
 abbrev pub tenants_of : Platform → List DomainView
 tenants_of platform = tenants_among platform 31

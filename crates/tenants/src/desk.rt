@@ -1,1 +1,31 @@
 //! The domains of a fabric at the desk of a port.
+
+use crate::tenants::Tenants;
+use fab_types::PortId;
+use frame_log::{Frame, FrameFault};
+use port::Desk;
+use std::sync::Wait;
+
+impl Desk for Tenants {
+    ghost use Rattle.std.specs.Prelude.{◌≡◌, List, None, Some};
+    ghost use Rattle.domain.specs.declared.entry.Entry.TheVariants.{Refuse};
+    ghost use Rattle.domain.specs.Domains.{DomainView};
+    ghost use Rattle.tenants.specs.Tenants.{made};
+
+    ghost Known = { List DomainView };
+
+    ghost known = { λ tenants. tenants };
+
+    ghost refuses = { λ known frame port answer after. made known frame.domain (Refuse frame.number) ≡ Some (record { domains = after; sent = answer }) };
+
+    ghost unknown = { λ known frame port. made known frame.domain (Refuse frame.number) ≡ None };
+
+    fn refuse<W: Wait>(
+        &mut self,
+        rt: &W,
+        frame: Frame,
+        port: PortId,
+    ) -> Result<Option<Frame>, FrameFault> {
+        self.refuse(rt, frame, port)
+    }
+}

@@ -5,6 +5,10 @@ mod begins;
 mod desk;
 mod ends;
 mod places;
+mod starts;
 mod tenants;
 
 pub use tenants::Tenants;
+
+#[cfg(test)]
+mod tests;

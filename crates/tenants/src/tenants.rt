@@ -1,6 +1,6 @@
 //! The domains of a fabric as one value.
 
-ghost use Rattle.std.specs.Prelude.{◌≡◌, IfOk, IfErr, None, OnErr, Some};
+ghost use Rattle.std.specs.Prelude.{◌≡◌, IfOk, IfErr, IfSome, None, OnErr, Some};
 ghost use Rattle.std.specs.Option.{option_copied};
 ghost use Rattle.std.specs.Result.{IsOkUnless};
 ghost use Rattle.fab_types.specs.declared.faults.begin.SubmitFault.{SubmitFault};
@@ -11,13 +11,14 @@ ghost use Rattle.tenants.specs.Tenants.{Emits, IsGivenBack, IsStray, delivered, 
 use crate::begins::{mmio_at, submit_at, tick_at};
 use crate::ends::{carry_at, deliver_at, refuse_at};
 use crate::places::{place_of, place_of_function};
+use crate::starts::domains_of;
 use domain::{Domain, HostAccess, Record};
 use fab_types::{Bdf, DomainId, MmioFault, NoMemory, PortId, SubmitFault, TickFault};
-use frame_log::{Frame, FrameFault, Log};
+use frame_log::{Frame, FrameFault};
 use layout::Layout;
 use std::alloc::Global;
 use std::marker::Model;
-use std::sync::{Arc, Wait};
+use std::sync::Wait;
 
 /// The domains of a fabric, each that owns a port, by rising number. A contract sees the list of them.
 #[derive(Drop)]
@@ -39,9 +40,19 @@ impl Model for Tenants {
 impl Tenants {
     ghost use Rattle.domain.specs.declared.entry.Entry.TheVariants.{Carry, Deliver, Mmio, Refuse, Submit, Tick};
 
+    /// Each domain that owns a port in the layout, at its start. It answers `NoMemory` where memory was refused.
+    pub fn new(alloc: Global, layout: &Layout) -> Result<Tenants, NoMemory>
+        ensures { IfOk result (λ tenants. tenants ≡ tenants_of layout.now) }
+    {
+        Ok(Tenants {
+            domains: domains_of(alloc, layout)?,
+        })
+    }
+
     /// The domain of this number, if there is one.
     pub fn domain(&self, number: DomainId) -> Option<&Domain>
-        ensures { option_copied result ≡ domain_at self.now (place_of self.now number) }
+        ensures value { option_copied result ≡ domain_at self.now (place_of self.now number) }
+        ensures number { IfSome result (λ domain. domain.now.share.domain ≡ number) }
     {
         let place = place_of(&self.domains, number)?;
         Some(&self.domains[place])
