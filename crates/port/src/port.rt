@@ -3,12 +3,12 @@
 ghost use Rattle.std.specs.Prelude.{◌≡◌, ◌+◌, ◌≤◌, IfOk, option_map, None, [], length};
 ghost use Rattle.std.specs.List.{list_all};
 ghost use Rattle.layout.specs.Share.{is_guarded_port};
-ghost use Rattle.port.specs.Configs.{config_of};
+ghost use Rattle.port.specs.Configs.{config_of, downstream_config, upstream_config};
 
 use crate::config::{Exit, exits_of, own_lane, switch_at};
 use fab_types::{NoMemory, PortId, Violation};
 use frame_log::Frame;
-use layout::{Layout, PortLine, internal_bus, port_at};
+use layout::{Layout, PortLine, SwitchLine, internal_bus, port_at};
 use std::alloc::Global;
 use std::marker::Model;
 
@@ -48,15 +48,29 @@ impl Port {
         ensures { IfOk result (λ port. port ≡ option_map (λ config. record { config = config; held = None; kept = None; strays = [] }) (config_of layout.now id)) }
     {
         if let Some(line) = port_at(layout.ports(), id.id()) {
-            let exits = exits_of(alloc, layout, u16::from(line.id.id().bus()))?;
-            let own = own_lane(&exits, line.id);
-            return Ok(Some(Port::of(alloc, layout, line.id, Some(line), exits, own)));
+            return Ok(Some(Port::downstream(alloc, layout, &line)?));
         }
-        let Some(switch) = switch_at(layout.switches(), id) else {
-            return Ok(None);
-        };
+        match switch_at(layout.switches(), id) {
+            Some(switch) => Ok(Some(Port::upstream(alloc, layout, switch)?)),
+            None => Ok(None),
+        }
+    }
+
+    /// The upstream port of a switch of the layout. It answers `NoMemory` where memory was refused.
+    pub fn upstream(alloc: Global, layout: &Layout, switch: &SwitchLine) -> Result<Port, NoMemory>
+        ensures { IfOk result (λ port. port ≡ record { config = upstream_config layout.now switch.now; held = None; kept = None; strays = [] }) }
+    {
         let exits = exits_of(alloc, layout, internal_bus(switch))?;
-        Ok(Some(Port::of(alloc, layout, PortId::new(switch.id), None, exits, 0)))
+        Ok(Port::of(alloc, layout, PortId::new(switch.id), None, exits, 0))
+    }
+
+    /// A downstream port of the layout. It answers `NoMemory` where memory was refused.
+    pub fn downstream(alloc: Global, layout: &Layout, line: &PortLine) -> Result<Port, NoMemory>
+        ensures { IfOk result (λ port. port ≡ record { config = downstream_config layout.now line.now; held = None; kept = None; strays = [] }) }
+    {
+        let exits = exits_of(alloc, layout, u16::from(line.id.id().bus()))?;
+        let own = own_lane(&exits, line.id);
+        Ok(Port::of(alloc, layout, line.id, Some(*line), exits, own))
     }
 
     fn of(
