@@ -30,7 +30,7 @@ above_is_end platform None = root_is_end platform
 above_is_end platform (Some port) = downstream_is_end platform port
 
 -- an element that passes is found
-listed : {X : Type 0} (p : X → Bool) (xs : List X) (k : ℕ) (d : X) → k < length xs → p (get_or xs k d) ≡ true → position p xs ≡ Some (position_or_len p xs)
+pub listed : {X : Type 0} (p : X → Bool) (xs : List X) (k : ℕ) (d : X) → k < length xs → p (get_or xs k d) ≡ true → position p xs ≡ Some (position_or_len p xs)
 listed {X} p xs k d less passes = go (cases_lt k (position_or_len p xs))
   where
     go : (k < position_or_len p xs) ⊎ (position_or_len p xs ≤ k) → position p xs ≡ Some (position_or_len p xs)

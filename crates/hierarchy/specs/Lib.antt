@@ -1,0 +1,4 @@
+pub mod Views
+pub mod Moves
+pub mod Starts
+pub mod Kept

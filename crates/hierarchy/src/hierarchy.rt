@@ -1,0 +1,164 @@
+//! The links and switches of a layout.
+
+ghost use Rattle.std.specs.Prelude.{◌≡◌, IfOk, IfSome, IsSome, List, MatchBool, MatchOption, None, Some, false, option_map};
+ghost use Rattle.frame_log.specs.Descriptor.{Descriptor};
+ghost use Rattle.link.specs.Channels.{is_full, receive, send, tell};
+ghost use Rattle.link.specs.Simplexes.{simplex_restored};
+ghost use Rattle.port.specs.Lanes.{class_of, eligible};
+ghost use Rattle.topology.specs.Links.{sender_of};
+ghost use Rattle.topology.specs.Topologies.{IsEnd};
+ghost use Rattle.hierarchy.specs.Moves.{channel_at, left_at, on_channel, put_at};
+ghost use Rattle.hierarchy.specs.Starts.{start_of};
+ghost use Rattle.hierarchy.specs.Views.{IsSameRest, channels, simplex_at};
+
+use crate::lanes::{
+    head_at, is_full_at, put_at, put_back_at, receive_at, send_at, take_at, tell_at,
+};
+use crate::node::Node;
+use crate::start::{nodes_of, ports_of};
+use bridge::Bridge;
+use fab_types::{Class, Direction, Head, NoMemory};
+use frame_log::Frame;
+use layout::Layout;
+use port::Port;
+use std::alloc::Global;
+use std::marker::Model;
+use topology::{LinkEnd, Topology};
+
+/// The links and switches of a layout (PCIe 4.0, 1.3): what waits and travels on each direction of each
+/// link, and the ports of the switches. A contract sees a `HierarchyView`.
+#[derive(Drop)]
+pub struct Hierarchy {
+    topology: Topology,
+    bridge: Bridge,
+    nodes: Vec<Node>,
+    ports: Vec<Port>,
+}
+
+impl Model for Hierarchy {
+    ghost use Rattle.hierarchy.specs.Views.{HierarchyView};
+
+    ghost Value = { HierarchyView };
+
+    ghost use Rattle.hierarchy.specs.Kept.{IsKept, view_of};
+
+    ghost view = { view_of };
+
+    ghost invariant = { λ h. IsKept (view_of h) };
+}
+
+impl Hierarchy {
+    /// The hierarchy of a layout, in which nothing waits. It answers `NoMemory` where memory was refused.
+    pub fn new(alloc: Global, layout: &Layout) -> Result<Hierarchy, NoMemory>
+        ensures { IfOk result (λ hierarchy. hierarchy ≡ start_of layout.now) }
+    {
+        // It tells what holds of every platform.
+        let _ = layout.ports();
+        Ok(Hierarchy {
+            topology: Topology::new(alloc, layout)?,
+            bridge: Bridge::new(alloc, layout)?,
+            nodes: nodes_of(alloc, layout)?,
+            ports: ports_of(alloc, layout)?,
+        })
+    }
+
+    /// Where the packets of this direction are sent from, if there is such a link.
+    pub fn sender(&self, direction: Direction) -> Option<LinkEnd>
+        ensures value { result ≡ sender_of (self.now.tree).links direction }
+        ensures end { IfSome result (λ end. IsEnd (self.now.tree).lanes end) }
+    {
+        self.topology.sender(direction)
+    }
+
+    /// Puts the eligible packet of a class on the wire of a direction, and spends its credits (PCIe 4.0,
+    /// 2.6.1.2). It answers false, and changes nothing, where no packet is eligible, where there are too few
+    /// credits, and where there is no such link.
+    pub fn send(&mut self, direction: Direction, class: Class) -> bool
+        ensures moved { MatchBool result (on_channel (channels self.old) (sender_of (self.old.tree).links direction) (send class) ≡ Some (channels self.new))
+            ((on_channel (channels self.old) (sender_of (self.old.tree).links direction) (send class) ≡ None) × (channels self.new ≡ channels self.old)) }
+        ensures rest { IsSameRest self.old self.new }
+    {
+        match self.topology.sender(direction) {
+            Some(end) => send_at(&mut self.nodes, end, class),
+            None => false,
+        }
+    }
+
+    /// The oldest packet on the wire of a direction reaches the receiver. It answers false, and changes
+    /// nothing, where the wire is empty, and where there is no such link.
+    pub fn receive(&mut self, direction: Direction) -> bool
+        ensures moved { MatchBool result (on_channel (channels self.old) (sender_of (self.old.tree).links direction) receive ≡ Some (channels self.new))
+            ((on_channel (channels self.old) (sender_of (self.old.tree).links direction) receive ≡ None) × (channels self.new ≡ channels self.old)) }
+        ensures rest { IsSameRest self.old self.new }
+    {
+        match self.topology.sender(direction) {
+            Some(end) => receive_at(&mut self.nodes, end),
+            None => false,
+        }
+    }
+
+    /// The sender of a direction learns the receiver's present credits. It answers false, and changes
+    /// nothing, where it knows them, and where there is no such link.
+    pub fn tell(&mut self, direction: Direction) -> bool
+        ensures moved { MatchBool result (on_channel (channels self.old) (sender_of (self.old.tree).links direction) tell ≡ Some (channels self.new))
+            ((on_channel (channels self.old) (sender_of (self.old.tree).links direction) tell ≡ None) × (channels self.new ≡ channels self.old)) }
+        ensures rest { IsSameRest self.old self.new }
+    {
+        match self.topology.sender(direction) {
+            Some(end) => tell_at(&mut self.nodes, end),
+            None => false,
+        }
+    }
+
+    /// What ports read of the eligible packet of a class that waits at the receiver of the direction that
+    /// is sent from this end.
+    pub fn head_at(&mut self, end: LinkEnd, class: Class) -> Option<Head>
+        requires { IsEnd (self.old.tree).lanes end }
+        ensures found { result ≡ option_map (λ taken. taken.0.head) (eligible class (channel_at (channels self.old) end).ingress) }
+        ensures same { channels self.new ≡ channels self.old }
+        ensures rest { IsSameRest self.old self.new }
+    {
+        head_at(&mut self.nodes, end, class)
+    }
+
+    /// Takes that packet, and frees its credits.
+    pub fn take_at(&mut self, end: LinkEnd, class: Class) -> Option<Frame>
+        requires { IsEnd (self.old.tree).lanes end }
+        ensures taken { MatchOption result ((eligible class (channel_at (channels self.old) end).ingress ≡ None) × (channels self.new ≡ channels self.old))
+            (λ frame. (waiting : List Descriptor) × (eligible class (channel_at (channels self.old) end).ingress ≡ Some (frame, waiting)) × (channels self.new ≡ left_at (channels self.old) end waiting)) }
+        ensures restores { IfSome result (λ frame. simplex_restored (simplex_at self.new.nodes end) frame ≡ Some (channel_at (channels self.old) end).ingress) }
+        ensures rest { IsSameRest self.old self.new }
+    {
+        take_at(&mut self.nodes, end, class)
+    }
+
+    /// Puts the packet back that `take_at` took, right after it.
+    pub fn put_back_at(&mut self, end: LinkEnd, frame: Frame)
+        requires end { IsEnd (self.old.tree).lanes end }
+        requires taken { IsSome (simplex_restored (simplex_at self.old.nodes end) frame) }
+        ensures waiting { (waiting : List Descriptor) → simplex_restored (simplex_at self.old.nodes end) frame ≡ Some waiting → channels self.new ≡ left_at (channels self.old) end waiting }
+        ensures rest { IsSameRest self.old self.new }
+    {
+        put_back_at(&mut self.nodes, end, frame);
+    }
+
+    /// Has the sender at this end no place for a packet of the class?
+    pub fn is_full_at(&mut self, end: LinkEnd, class: Class) -> bool
+        requires { IsEnd (self.old.tree).lanes end }
+        ensures full { result ≡ is_full class (channel_at (channels self.old) end) }
+        ensures same { channels self.new ≡ channels self.old }
+        ensures rest { IsSameRest self.old self.new }
+    {
+        is_full_at(&mut self.nodes, end, class)
+    }
+
+    /// Puts a packet behind the others of the sender at this end, which has a place for it.
+    pub fn put_at(&mut self, end: LinkEnd, frame: Frame)
+        requires end { IsEnd (self.old.tree).lanes end }
+        requires place { is_full (class_of frame) (channel_at (channels self.old) end) ≡ false }
+        ensures put { channels self.new ≡ put_at (channels self.old) end frame }
+        ensures rest { IsSameRest self.old self.new }
+    {
+        put_at(&mut self.nodes, end, frame);
+    }
+}

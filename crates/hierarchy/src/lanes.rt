@@ -1,0 +1,99 @@
+//! What happens to one direction of a link, among all.
+
+ghost use Rattle.std.specs.Prelude.{◌≡◌, IfSome, IsSome, IsTrue, List, MatchBool, MatchOption, None, Some, false, length, map, option_map};
+ghost use Rattle.frame_log.specs.Descriptor.{Descriptor};
+ghost use Rattle.link.specs.Channels.{is_full, receive, send, tell};
+ghost use Rattle.link.specs.Simplexes.{simplex_restored};
+ghost use Rattle.port.specs.Lanes.{class_of, eligible};
+ghost use Rattle.topology.specs.Topologies.{IsEnd};
+ghost use Rattle.hierarchy.specs.Moves.{channel_at, left_at, on_channel, put_at};
+ghost use Rattle.hierarchy.specs.Views.{channels_of, simplex_at};
+
+use crate::node::Node;
+use fab_types::{Class, Head};
+use frame_log::Frame;
+use port::{LaneIn, LaneOut};
+use topology::LinkEnd;
+
+pub(crate) fn send_at(nodes: &mut [Node], end: LinkEnd, class: Class) -> bool
+    requires { IsEnd (map length nodes.old) end }
+    ensures moved { MatchBool result (on_channel (channels_of nodes.old) (Some end) (send class) ≡ Some (channels_of nodes.new))
+        ((on_channel (channels_of nodes.old) (Some end) (send class) ≡ None) × (channels_of nodes.new ≡ channels_of nodes.old)) }
+    ensures lanes { map length nodes.new ≡ map length nodes.old }
+{
+    let node = &mut nodes[end.node];
+    node.lanes[end.lane].send(class)
+}
+
+pub(crate) fn receive_at(nodes: &mut [Node], end: LinkEnd) -> bool
+    requires { IsEnd (map length nodes.old) end }
+    ensures moved { MatchBool result (on_channel (channels_of nodes.old) (Some end) receive ≡ Some (channels_of nodes.new))
+        ((on_channel (channels_of nodes.old) (Some end) receive ≡ None) × (channels_of nodes.new ≡ channels_of nodes.old)) }
+    ensures lanes { map length nodes.new ≡ map length nodes.old }
+{
+    let node = &mut nodes[end.node];
+    node.lanes[end.lane].receive()
+}
+
+pub(crate) fn tell_at(nodes: &mut [Node], end: LinkEnd) -> bool
+    requires { IsEnd (map length nodes.old) end }
+    ensures moved { MatchBool result (on_channel (channels_of nodes.old) (Some end) tell ≡ Some (channels_of nodes.new))
+        ((on_channel (channels_of nodes.old) (Some end) tell ≡ None) × (channels_of nodes.new ≡ channels_of nodes.old)) }
+    ensures lanes { map length nodes.new ≡ map length nodes.old }
+{
+    let node = &mut nodes[end.node];
+    node.lanes[end.lane].tell()
+}
+
+pub(crate) fn head_at(nodes: &mut [Node], end: LinkEnd, class: Class) -> Option<Head>
+    requires { IsEnd (map length nodes.old) end }
+    ensures found { result ≡ option_map (λ taken. taken.0.head) (eligible class (channel_at (channels_of nodes.old) end).ingress) }
+    ensures same { channels_of nodes.new ≡ channels_of nodes.old }
+    ensures lanes { map length nodes.new ≡ map length nodes.old }
+{
+    let node = &mut nodes[end.node];
+    node.lanes[end.lane].head(class)
+}
+
+pub(crate) fn take_at(nodes: &mut [Node], end: LinkEnd, class: Class) -> Option<Frame>
+    requires { IsEnd (map length nodes.old) end }
+    ensures taken { MatchOption result ((eligible class (channel_at (channels_of nodes.old) end).ingress ≡ None) × (channels_of nodes.new ≡ channels_of nodes.old))
+        (λ frame. (waiting : List Descriptor) × (eligible class (channel_at (channels_of nodes.old) end).ingress ≡ Some (frame, waiting)) × (channels_of nodes.new ≡ left_at (channels_of nodes.old) end waiting)) }
+    ensures restores { IfSome result (λ frame. simplex_restored (simplex_at nodes.new end) frame ≡ Some (channel_at (channels_of nodes.old) end).ingress) }
+    ensures lanes { map length nodes.new ≡ map length nodes.old }
+{
+    let node = &mut nodes[end.node];
+    node.lanes[end.lane].take(class)
+}
+
+pub(crate) fn put_back_at(nodes: &mut [Node], end: LinkEnd, frame: Frame)
+    requires end { IsEnd (map length nodes.old) end }
+    requires taken { IsSome (simplex_restored (simplex_at nodes.old end) frame) }
+    ensures waiting { (waiting : List Descriptor) → simplex_restored (simplex_at nodes.old end) frame ≡ Some waiting → channels_of nodes.new ≡ left_at (channels_of nodes.old) end waiting }
+    ensures lanes { map length nodes.new ≡ map length nodes.old }
+{
+    let node = &mut nodes[end.node];
+    node.lanes[end.lane].put_back(frame);
+}
+
+pub(crate) fn is_full_at(nodes: &mut [Node], end: LinkEnd, class: Class) -> bool
+    requires { IsEnd (map length nodes.old) end }
+    ensures full { result ≡ is_full class (channel_at (channels_of nodes.old) end) }
+    ensures same { channels_of nodes.new ≡ channels_of nodes.old }
+    ensures lanes { map length nodes.new ≡ map length nodes.old }
+{
+    let node = &mut nodes[end.node];
+    node.lanes[end.lane].is_full(class)
+}
+
+pub(crate) fn put_at(nodes: &mut [Node], end: LinkEnd, frame: Frame)
+    requires end { IsEnd (map length nodes.old) end }
+    requires place { is_full (class_of frame) (channel_at (channels_of nodes.old) end) ≡ false }
+    ensures put { channels_of nodes.new ≡ put_at (channels_of nodes.old) end frame }
+    ensures lanes { map length nodes.new ≡ map length nodes.old }
+{
+    let node = &mut nodes[end.node];
+    if node.lanes[end.lane].push(frame).is_err() {
+        unreachable!();
+    }
+}

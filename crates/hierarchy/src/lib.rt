@@ -1,0 +1,9 @@
+//! All that packets move through: the links and switches of a layout, without the domains at its edges.
+#![tactic(auto)]
+
+mod hierarchy;
+mod lanes;
+mod node;
+mod start;
+
+pub use hierarchy::Hierarchy;
