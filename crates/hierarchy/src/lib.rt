@@ -7,3 +7,6 @@ mod node;
 mod start;
 
 pub use hierarchy::Hierarchy;
+
+#[cfg(test)]
+mod tests;

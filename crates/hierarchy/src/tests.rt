@@ -1,0 +1,90 @@
+use crate::*;
+use fab_types::Class::Posted;
+use fab_types::{Bdf, Cost, Direction, DomainId, Head, Header, Parties, Way};
+use frame_log::{Frame, Log};
+use layout::Layout;
+use std::sync::Wait;
+use std::test::Fail;
+
+const PLATFORM: &str = "pciefab 1
+switch 01:00.0 root
+port 02:00.0 03 03 90000000 900fffff 1f 1
+port 02:01.0 04 07 90100000 902fffff 1f 2
+switch 04:00.0 02:01.0
+port 05:00.0 06 06 90100000 901fffff 1f 2
+port 05:01.0 07 07 90200000 902fffff 1f 2
+function 03:00.0 90000000
+function 06:00.0 90100000
+";
+
+const FUNCTION: u16 = 0x0600;
+
+fn head() -> Head {
+    let function = Bdf::from_bits(FUNCTION);
+    Head {
+        parties: Parties::Upward(function),
+        cost: Cost {
+            class: Posted,
+            data: 1,
+        },
+        header: Header::OtherRequest {
+            requester: function,
+        },
+    }
+}
+
+fn frame<R: Wait>(rt: &R, log: &Log) -> Result<Frame, Fail> {
+    let domain = DomainId::new(2).ok_or("a domain")?;
+    let (frame, _) = log.emit(rt, domain, 7, head(), &[])?;
+    Ok(frame)
+}
+
+fn from(lower: u16, way: Way) -> Direction {
+    Direction {
+        lower: Bdf::from_bits(lower),
+        way,
+    }
+}
+
+#[test]
+fn a_packet_of_a_function_is_sent_received_and_taken(rt: HostRuntime) -> Result<(), Fail> {
+    let log = Log::new(rt.alloc())?;
+    let layout = Layout::read(rt.alloc(), PLATFORM).map_err(|_| "a layout")?;
+    let mut hierarchy = Hierarchy::new(rt.alloc(), &layout)?;
+    let up = from(FUNCTION, Way::Up);
+    let Some(end) = hierarchy.sender(up) else {
+        return Err("a sender")?;
+    };
+    let frame = frame(&rt, &log)?;
+    let class = frame.head().cost.class;
+    assert!(rt; !hierarchy.is_full_at(end, class));
+    hierarchy.put_at(end, frame);
+    assert!(rt; hierarchy.head_at(end, class).is_none());
+    assert!(rt; hierarchy.send(up, class) && !hierarchy.send(up, class));
+    assert!(rt; hierarchy.receive(up) && !hierarchy.receive(up));
+    assert_eq!(rt; hierarchy.head_at(end, class), Some(head()));
+    assert!(rt; !hierarchy.tell(up));
+    match hierarchy.take_at(end, class) {
+        Some(frame) => hierarchy.put_back_at(end, frame),
+        None => assert!(rt; false),
+    }
+    assert!(rt; !hierarchy.tell(up));
+    assert_eq!(rt;
+        hierarchy.take_at(end, class).map(|frame| frame.number()),
+        Some(7)
+    );
+    assert!(rt; hierarchy.tell(up) && !hierarchy.tell(up));
+    Ok(())
+}
+
+#[test]
+fn below_an_empty_port_there_is_no_link(rt: HostRuntime) -> Result<(), Fail> {
+    let layout = Layout::read(rt.alloc(), PLATFORM).map_err(|_| "a layout")?;
+    let mut hierarchy = Hierarchy::new(rt.alloc(), &layout)?;
+    let nowhere = from(0x0700, Way::Down);
+    assert!(rt; hierarchy.sender(nowhere).is_none());
+    assert!(rt;
+        !hierarchy.send(nowhere, Posted) && !hierarchy.receive(nowhere) && !hierarchy.tell(nowhere)
+    );
+    Ok(())
+}
