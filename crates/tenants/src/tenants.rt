@@ -58,7 +58,7 @@ impl Tenants {
         Some(&self.domains[place])
     }
 
-    /// All domains, by rising number.
+    /// All domains.
     pub fn domains(&self) -> &[Domain]
         ensures { result.now ≡ self.now }
     {
