@@ -1,9 +1,10 @@
 -- What every hierarchy keeps holds at the start, and of each end that a direction has.
-use Rattle.std.proofs.Common.{◌≡◌, ℕ, suc, zero, ◌+◌, ◌<◌, Bool, true, false, cond, List, [], ◌∷◌, ◌++◌, length, map, get_or, Option, Some, None, refl, sym, ap, ◌∙◌, arith, subst, eqb-true, eq-eqb}
+use Rattle.std.proofs.Common.{◌≡◌, ◌≢◌, ◌⊎◌, inl, inr, set, ℕ, suc, zero, ◌+◌, ◌<◌, Bool, true, false, cond, List, [], ◌∷◌, ◌++◌, length, map, get_or, Option, Some, None, refl, sym, ap, ◌∙◌, arith, subst, eqb-true, eq-eqb}
 use Rattle.std.specs.Prelude.{◌==◌, count_by, option_map}
 use Rattle.std.specs.List.{filter, find, position, position_or_len}
 use Rattle.std.specs.Option.{IfSome}
-use Rattle.std.proofs.lemmas.List.{length-append, length-map, map-append}
+use Rattle.std.proofs.lemmas.List.{get_or-set_other, get_or-set_same, length-append, length-set, length-map, map-append}
+use Rattle.std.proofs.lemmas.Bool.{cases_eq}
 use Rattle.std.proofs.lemmas.List.Quantifiers.{position-Some}
 use Rattle.std.proofs.lemmas.List.Sums.{AllPass-from_list_all, length-filter}
 use Rattle.fab_types.specs.Id.{bus_of}
@@ -18,7 +19,7 @@ use Rattle.layout.specs.declared.lines.FunctionLine.{FunctionLine}
 use Rattle.layout.specs.declared.lines.PortLine.{PortLine}
 use Rattle.layout.specs.declared.lines.SwitchLine.{SwitchLine}
 use Rattle.link.specs.Simplexes.{SimplexView}
-use Rattle.port.specs.Configs.{downstream_config, exit_of, exits_of, upstream_config}
+use Rattle.port.specs.Configs.{Config, downstream_config, exit_of, exits_of, upstream_config}
 use Rattle.port.specs.Turns.{PortView}
 use Rattle.topology.proofs.Ends.{lanes_at_switch, no_switch, switch_found}
 use Rattle.topology.proofs.Soundness.{listed, sound}
@@ -121,8 +122,6 @@ upstream_fits platform switch k d less is =
     record {
       id = refl;
       ways = ways_at platform (upstream_end platform switch.id).node place (internal_bus switch) node facts.0 (ap (λ (id : ℕ). bus_of id + 1) (eqb-true _ _ facts.1));
-      held = refl;
-      kept = refl;
     }
 
 nested_on : (ports : List PortLine) (found : Option SwitchLine) (port : PortLine) → is_nested_on ports found port ≡ true → (switch : SwitchLine) × (found ≡ Some switch)
@@ -138,7 +137,7 @@ downstream_fits platform port nested =
     let found : position p platform.switches ≡ Some place = listed p platform.switches there.at on.0 there.within (ap p there.is ∙ there.passes) in
     let facts = switch_found platform port place found in
     let node : (downstream_end platform port).node ≡ 1 + place = ap (λ (o : Option ℕ). (end_of_port platform.ports port o).node) found in
-    record { id = refl; ways = ways_at platform (downstream_end platform port).node place (bus_of port.id) node facts.0 facts.1; held = refl; kept = refl }
+    record { id = refl; ways = ways_at platform (downstream_end platform port).node place (bus_of port.id) node facts.0 facts.1 }
 
 -- two lists of images, element by element
 both_last : {X P Q : Type 0} (f : X → P) (g : X → Q) (R : P → Q → Type 0) (xs : List X) → ((k : ℕ) (d : X) → k < length xs → R (f (get_or xs k d)) (g (get_or xs k d)))
@@ -173,3 +172,27 @@ ports_many platform =
 
 pub kept_at_start : (platform : Platform) → IsPlatform platform → IsKept (start_of platform)
 kept_at_start platform laws = record { sound = sound platform laws; lanes = lanes_at_start platform; many = ports_many platform; fit = fits_at_start platform laws }
+
+-- ---- the turn of a port
+
+fits_again : (lanes : List ℕ) (place : PortPlace) (port port' : PortView) → port'.config ≡ port.config → Fits lanes place port → Fits lanes place port'
+fits_again lanes place port port' e fits = record { id = ap (λ (c : Config). c.id) e ∙ fits.id; ways = fits.ways ∙ ap (λ (c : Config). length c.exits + 1) (sym e) }
+
+fit_at : (lanes : List ℕ) (places : List PortPlace) (ports : List PortView) (i j : ℕ) (d port' port : PortView) (place : PortPlace) → port'.config ≡ (get_or ports i d).config → i < length ports → j < length ports
+    → ((j : ℕ) (place : PortPlace) (port : PortView) → j < length ports → Fits lanes (get_or places j place) (get_or ports j port)) → (j ≡ i) ⊎ (j ≢ i) → Fits lanes (get_or places j place) (get_or (set ports i port') j port)
+fit_at lanes places ports i j d port' port place e within less fit (inl same) =
+    let now : get_or (set ports i port') j port ≡ port' = ap (λ (n : ℕ). get_or (set ports i port') n port) same ∙ get_or-set_same ports i port' port within in
+    subst (Fits lanes (get_or places j place)) (sym now)
+    (subst (λ (n : ℕ). Fits lanes (get_or places n place) port') (sym same) (fits_again lanes (get_or places i place) (get_or ports i d) port' e (fit i place d within)))
+fit_at lanes places ports i j d port' port place e within less fit (inr other) =
+    subst (Fits lanes (get_or places j place)) (sym (get_or-set_other ports i j port' port other)) (fit j place port less)
+
+-- the turn of a port keeps what every hierarchy keeps
+pub kept_passed : (h : HierarchyView) (nodes : List (List SimplexView)) (i : ℕ) (d port : PortView) → IsKept h → map (length {A = SimplexView}) nodes ≡ map (length {A = SimplexView}) h.nodes → i < length h.ports
+    → port.config ≡ (get_or h.ports i d).config → IsKept (record { tree = h.tree; routes = h.routes; nodes = nodes; ports = set h.ports i port })
+kept_passed h nodes i d port kept lengths within e = record {
+  sound = kept.sound;
+  lanes = lengths ∙ kept.lanes;
+  many = length-set h.ports i port ∙ kept.many;
+  fit = λ j place other less. fit_at h.tree.lanes h.tree.places h.ports i j d port other place e within (let long = length-set h.ports i port in omega arith) kept.fit (cases_eq j i);
+}

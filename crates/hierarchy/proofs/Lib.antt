@@ -1,3 +1,5 @@
 pub mod Reaching
 pub mod Starting
 pub mod Keeping
+pub mod Passing
+pub mod Turning

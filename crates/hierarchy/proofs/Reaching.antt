@@ -13,6 +13,7 @@ use Rattle.port.specs.Queues.{frames_of}
 use Rattle.topology.specs.declared.nodes.LinkEnd.{LinkEnd}
 use Rattle.topology.specs.Topologies.{IsEnd}
 use Rattle.hierarchy.specs.Moves.{channel_at, left_at, no_channel, on_channel, put_at, with_channel, with_egress, with_ingress}
+use Rattle.hierarchy.specs.Passes.{before, behind}
 use Rattle.hierarchy.specs.Views.{channels_of, simplex_at, unused}
 
 abbrev pub many : List SimplexView → ℕ
@@ -38,12 +39,6 @@ reached nodes end node read lane there viewed lent =
     record { node_there = node_there; lane_there = lane_there; node_is = is; lane_is = get_or_read node end.lane lane lane_there lent never }
 
 -- ---- what the ends of a direction leave
-
-abbrev behind : SimplexView → Behind
-behind s = record { start = s.start; left = s.left; egress = frames_of s.egress.queue.waiting; wire = s.wire }
-
-abbrev before : SimplexView → Before
-before s = record { start = s.start; left = s.left; wire = s.wire; ingress = frames_of s.ingress.queue.waiting }
 
 abbrev received_behind : Behind → List Descriptor → Channel
 received_behind b waiting = record { start = b.start; left = b.left; egress = b.egress; wire = b.wire; ingress = waiting }

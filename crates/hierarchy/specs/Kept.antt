@@ -1,6 +1,6 @@
 -- What every hierarchy keeps: each node has the lanes that its tree says, and each port a lane for each way out of its
 -- switch.
-use Rattle.std.specs.Prelude.{◌≡◌, ℕ, ◌+◌, ◌<◌, List, length, map, slice_index_or, None}
+use Rattle.std.specs.Prelude.{◌≡◌, ℕ, ◌+◌, ◌<◌, List, length, map, slice_index_or}
 use Rattle.port.specs.Turns.{PortView}
 use Rattle.topology.specs.declared.places.PortPlace.{PortPlace}
 use Rattle.topology.specs.Topologies.{IsSound}
@@ -14,8 +14,6 @@ view_of h = record { tree = h.topology; routes = h.bridge; nodes = h.nodes.items
 pub record Fits (lanes : List ℕ) (place : PortPlace) (port : PortView) : Type 0 where
   pub id : port.config.id ≡ place.id
   pub ways : slice_index_or lanes place.node 0 ≡ length port.config.exits + 1
-  pub held : port.held ≡ None
-  pub kept : port.kept ≡ None
 
 pub record IsKept (h : HierarchyView) : Type 0 where
   pub sound : IsSound h.tree

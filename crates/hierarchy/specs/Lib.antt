@@ -2,3 +2,4 @@ pub mod Views
 pub mod Moves
 pub mod Starts
 pub mod Kept
+pub mod Passes

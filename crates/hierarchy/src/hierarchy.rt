@@ -8,6 +8,7 @@ ghost use Rattle.port.specs.Lanes.{class_of, eligible};
 ghost use Rattle.topology.specs.Links.{sender_of};
 ghost use Rattle.topology.specs.Topologies.{IsEnd};
 ghost use Rattle.hierarchy.specs.Moves.{channel_at, left_at, on_channel, put_at};
+ghost use Rattle.hierarchy.specs.Passes.{Passes, index_of};
 ghost use Rattle.hierarchy.specs.Starts.{start_of};
 ghost use Rattle.hierarchy.specs.Views.{IsSameRest, channels, simplex_at};
 
@@ -15,14 +16,16 @@ use crate::lanes::{
     head_at, is_full_at, put_at, put_back_at, receive_at, send_at, take_at, tell_at,
 };
 use crate::node::Node;
+use crate::pass::{index_of, turn_at};
 use crate::start::{nodes_of, ports_of};
 use bridge::Bridge;
-use fab_types::{Class, Direction, Head, NoMemory};
+use fab_types::{Class, Direction, Head, NoMemory, Outcome, PortId};
 use frame_log::Frame;
 use layout::Layout;
-use port::Port;
+use port::{Desk, Port, Reporter};
 use std::alloc::Global;
 use std::marker::Model;
+use std::sync::Wait;
 use topology::{LinkEnd, Topology};
 
 /// The links and switches of a layout (PCIe 4.0, 1.3): what waits and travels on each direction of each
@@ -160,5 +163,38 @@ impl Hierarchy {
         ensures rest { IsSameRest self.old self.new }
     {
         put_at(&mut self.nodes, end, frame);
+    }
+
+    /// The turn of the port of this ID, as `Port::turn` does it: packets come into it from the receiver of
+    /// the direction that leads there, and go into the senders of its switch. `Idle` where there is no such
+    /// port, and where nothing stands at the other end of its link.
+    pub fn pass<W: Wait, D: Desk, R: Reporter>(
+        &mut self,
+        rt: &W,
+        id: PortId,
+        class: Class,
+        desk: &mut D,
+        reporter: &mut R,
+    ) -> Outcome
+        ensures { Passes D.refuses D.unknown R.is_sure class result (D.known desk.old) (D.known desk.new) (R.reported reporter.old) (R.reported reporter.new) self.old self.new (index_of self.old.tree.places id) }
+    {
+        let Some(index) = index_of(self.topology.places(), id) else {
+            return Outcome::Idle;
+        };
+        let place = self.topology.places()[index];
+        let Some(input) = place.input else {
+            return Outcome::Idle;
+        };
+        turn_at(
+            &mut self.ports[index],
+            rt,
+            class,
+            &self.bridge,
+            &mut self.nodes,
+            place.node,
+            input,
+            desk,
+            reporter,
+        )
     }
 }

@@ -4,6 +4,7 @@
 mod hierarchy;
 mod lanes;
 mod node;
+mod pass;
 mod start;
 
 pub use hierarchy::Hierarchy;

@@ -1,8 +1,13 @@
+ghost use Rattle.std.specs.Prelude.{⊤};
+
 use crate::*;
 use fab_types::Class::Posted;
-use fab_types::{Bdf, Cost, Direction, DomainId, Head, Header, Parties, Way};
-use frame_log::{Frame, Log};
+use fab_types::{
+    AddressType, Bdf, Cost, Direction, DomainId, Head, Header, Outcome, Parties, PortId, Way,
+};
+use frame_log::{Frame, FrameFault, Log};
 use layout::Layout;
+use port::{Desk, Reports};
 use std::sync::Wait;
 use std::test::Fail;
 
@@ -27,8 +32,10 @@ fn head() -> Head {
             class: Posted,
             data: 1,
         },
-        header: Header::OtherRequest {
+        header: Header::Memory {
             requester: function,
+            address_type: AddressType::Untranslated,
+            address: 0x1000,
         },
     }
 }
@@ -86,5 +93,71 @@ fn below_an_empty_port_there_is_no_link(rt: HostRuntime) -> Result<(), Fail> {
     assert!(rt;
         !hierarchy.send(nowhere, Posted) && !hierarchy.receive(nowhere) && !hierarchy.tell(nowhere)
     );
+    Ok(())
+}
+
+/// A desk that knows no packet.
+#[derive(Drop)]
+struct Nobody {
+    refused: u64,
+}
+
+impl Desk for Nobody {
+    ghost Known = { ⊤ };
+
+    ghost known = { λ _. tt };
+
+    ghost refuses = { λ known frame port answer after. ⊤ };
+
+    ghost unknown = { λ known frame port. ⊤ };
+
+    fn refuse<W: Wait>(
+        &mut self,
+        _rt: &W,
+        frame: Frame,
+        _port: PortId,
+    ) -> Result<Option<Frame>, FrameFault> {
+        self.refused = self.refused.wrapping_add(1);
+        Err(FrameFault::Stray(frame))
+    }
+}
+
+fn port(id: u16) -> PortId {
+    PortId::new(Bdf::from_bits(id))
+}
+
+#[test]
+fn a_packet_goes_up_through_two_switches(rt: HostRuntime) -> Result<(), Fail> {
+    let log = Log::new(rt.alloc())?;
+    let layout = Layout::read(rt.alloc(), PLATFORM).map_err(|_| "a layout")?;
+    let mut hierarchy = Hierarchy::new(rt.alloc(), &layout)?;
+    let mut reports = Reports::new(rt.alloc());
+    let mut desk = Nobody { refused: 0 };
+    let Some(end) = hierarchy.sender(from(FUNCTION, Way::Up)) else {
+        return Err("a sender")?;
+    };
+    let frame = frame(&rt, &log)?;
+    assert!(rt; !hierarchy.is_full_at(end, frame.head().cost.class));
+    hierarchy.put_at(end, frame);
+    for (lower, into) in [(0x0600, 0x0500), (0x0400, 0x0208)] {
+        let up = from(lower, Way::Up);
+        assert!(rt; hierarchy.send(up, Posted));
+        assert_eq!(rt;
+            hierarchy.pass(&rt, port(into), Posted, &mut desk, &mut reports),
+            Outcome::Idle
+        );
+        assert!(rt; hierarchy.receive(up));
+        assert_eq!(rt;
+            hierarchy.pass(&rt, port(into), Posted, &mut desk, &mut reports),
+            Outcome::Moved
+        );
+    }
+    assert!(rt; hierarchy.send(from(0x0100, Way::Up), Posted));
+    for nowhere in [0x0508, 0x0700] {
+        assert_eq!(rt;
+            hierarchy.pass(&rt, port(nowhere), Posted, &mut desk, &mut reports),
+            Outcome::Idle
+        );
+    }
     Ok(())
 }
