@@ -126,6 +126,32 @@ fn port(id: u16) -> PortId {
     PortId::new(Bdf::from_bits(id))
 }
 
+/// Is the turn of the port of this ID idle?
+fn is_idle<W: Wait>(
+    rt: &W,
+    hierarchy: &mut Hierarchy,
+    id: u16,
+    desk: &mut Nobody,
+    reports: &mut Reports,
+) -> bool {
+    hierarchy.pass(rt, port(id), Posted, desk, reports) == Outcome::Idle
+}
+
+/// A packet goes on the link with this lower end, and through the port above it.
+fn goes_up<W: Wait>(
+    rt: &W,
+    hierarchy: &mut Hierarchy,
+    lower: u16,
+    above: u16,
+    desk: &mut Nobody,
+    reports: &mut Reports,
+) -> bool {
+    let was_sent = hierarchy.send(from(lower, Way::Up), Posted);
+    let was_idle = is_idle(rt, hierarchy, above, desk, reports);
+    let arrived = hierarchy.receive(from(lower, Way::Up));
+    was_sent && was_idle && arrived && !is_idle(rt, hierarchy, above, desk, reports)
+}
+
 #[test]
 fn a_packet_goes_up_through_two_switches(rt: HostRuntime) -> Result<(), Fail> {
     let log = Log::new(rt.alloc())?;
@@ -139,25 +165,10 @@ fn a_packet_goes_up_through_two_switches(rt: HostRuntime) -> Result<(), Fail> {
     let frame = frame(&rt, &log)?;
     assert!(rt; !hierarchy.is_full_at(end, frame.head().cost.class));
     hierarchy.put_at(end, frame);
-    for (lower, into) in [(0x0600, 0x0500), (0x0400, 0x0208)] {
-        let up = from(lower, Way::Up);
-        assert!(rt; hierarchy.send(up, Posted));
-        assert_eq!(rt;
-            hierarchy.pass(&rt, port(into), Posted, &mut desk, &mut reports),
-            Outcome::Idle
-        );
-        assert!(rt; hierarchy.receive(up));
-        assert_eq!(rt;
-            hierarchy.pass(&rt, port(into), Posted, &mut desk, &mut reports),
-            Outcome::Moved
-        );
-    }
+    assert!(rt; goes_up(&rt, &mut hierarchy, 0x0600, 0x0500, &mut desk, &mut reports));
+    assert!(rt; goes_up(&rt, &mut hierarchy, 0x0400, 0x0208, &mut desk, &mut reports));
     assert!(rt; hierarchy.send(from(0x0100, Way::Up), Posted));
-    for nowhere in [0x0508, 0x0700] {
-        assert_eq!(rt;
-            hierarchy.pass(&rt, port(nowhere), Posted, &mut desk, &mut reports),
-            Outcome::Idle
-        );
-    }
+    assert!(rt; is_idle(&rt, &mut hierarchy, 0x0508, &mut desk, &mut reports));
+    assert!(rt; is_idle(&rt, &mut hierarchy, 0x0700, &mut desk, &mut reports));
     Ok(())
 }

@@ -43,7 +43,7 @@ fn domain(tenants: &Tenants, number: u8) -> Option<&Domain> {
 }
 
 /// The begins and the blocked requests of a domain.
-fn counts(tenants: &Tenants, number: u8) -> Option<(u64, u64)> {
+fn counts(tenants: &Tenants, number: u8) -> Option<(u32, u64)> {
     let counts = domain(tenants, number)?.counts();
     Some((counts.begins, counts.blocked))
 }
