@@ -18,6 +18,10 @@ holds_address port address = nat_le port.base address && nat_le address port.lim
 abbrev pub first_port : List PortLine → ℕ → Option PortLine
 first_port ports function = find (λ port. port.secondary == bus_of function) ports
 
+-- the domain of a function: the owner of the port directly above it
+abbrev pub domain_above : List PortLine → ℕ → Option ℕ
+domain_above ports function = option_map (λ port. port.owner) (first_port ports function)
+
 abbrev pub owns_port : List PortLine → ℕ → Bool
 owns_port ports domain = list_any (λ port. port.owner == domain) ports
 

@@ -5,12 +5,12 @@ ghost use Rattle.std.specs.List.{find, list_all};
 ghost use Rattle.std.specs.List.Sorted.{IsStrictlyIncreasing};
 ghost use Rattle.std.specs.Option.{option_copied};
 ghost use Rattle.layout.specs.Share.{is_guarded_port};
-ghost use Rattle.layout.specs.Owners.{owner_of};
+ghost use Rattle.layout.specs.Owners.{domain_above, owner_of};
 ghost use Rattle.layout.specs.Laws.{is_good_budget};
 ghost use Rattle.layout.specs.Views.{usual_limits, limits_or_usual, credits_of, begins_or_usual, budget_of, is_map_of, maps_of, is_frame_of, frames_of, share_of_owner};
 
 use crate::lines::{BudgetLine, CreditLimits, CreditLine, MapLine, PortLine};
-use crate::owners::owner_of;
+use crate::owners::{owner_of, port_above};
 use crate::platform::Layout;
 use crate::rules::links::owns_port;
 use crate::rules::mappings::is_mapping_of;
@@ -127,6 +127,13 @@ impl Layout {
         owner_of(self.ports(), id)
     }
 
+    /// The domain of a function: the owner of the port directly above it.
+    pub fn domain_above(&self, function: Bdf) -> Option<DomainId>
+        ensures { result ≡ domain_above self.now.ports function }
+    {
+        port_above(self.ports(), function.bus()).map(|port| port.owner)
+    }
+
     /// What each receiver of a link advertises at the start, by the link's lower end: a function or
     /// the upstream port of a switch. None where there is no such link.
     pub fn credits(&self, id: Bdf) -> Option<CreditLimits>
@@ -166,7 +173,8 @@ impl Layout {
         Ok(Some(Start::of(alloc, self, domain, budget, frames, maps)?))
     }
 
-    fn budget(&self, domain: DomainId) -> u32
+    /// How many begins a domain has: what its `budget` line says, or 256 without one.
+    pub fn budget(&self, domain: DomainId) -> u32
         ensures value { result ≡ budget_of self.now.budgets domain }
         ensures least { 1 ≤ result }
         ensures most { result ≤ 16384 }

@@ -1,0 +1,13 @@
+//! What functions and domains' hosts have emitted and no link has taken yet: an outbox of each, in which the packets
+//! of each class wait.
+#![tactic(auto)]
+
+mod changes;
+mod origin_box;
+mod outboxes;
+mod starts;
+
+pub use outboxes::Outboxes;
+
+#[cfg(test)]
+mod tests;

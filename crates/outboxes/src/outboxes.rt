@@ -1,0 +1,107 @@
+//! The outboxes of all functions and hosts as one value.
+
+ghost use Rattle.std.specs.Prelude.{◌≡◌, IfOk, IfSome, IsSome, IsTrue, MatchOption, None, OnErr, OnOk, Some, option_map};
+ghost use Rattle.port.specs.Lanes.{class_of, eligible};
+ghost use Rattle.outboxes.specs.Outboxes.{boxes_of, changed, has_place, queue_of, restored_of, waiting_of, with_more, with_put, with_queue};
+
+use crate::changes::{box_place, more_at, put_at, put_back_at, take_at};
+use crate::origin_box::OriginBox;
+use crate::starts::boxes_of;
+use fab_types::{Class, Head, NoMemory, Origin};
+use frame_log::Frame;
+use layout::Layout;
+use std::alloc::Global;
+use std::marker::Model;
+
+/// What functions and hosts have emitted and no link has taken yet. A contract sees the list of their boxes.
+#[derive(Drop)]
+pub struct Outboxes {
+    boxes: Vec<OriginBox>,
+}
+
+impl Model for Outboxes {
+    ghost use Rattle.std.specs.Prelude.{List};
+    ghost use Rattle.outboxes.specs.Outboxes.{BoxView};
+
+    ghost Value = { List BoxView };
+
+    ghost view = { λ o. o.boxes.items };
+}
+
+impl Outboxes {
+    /// An empty box for each function of a layout, and for the host of each domain that owns a port. In all each
+    /// takes three times its domain's budget of each class. It answers `NoMemory` where memory was refused.
+    pub fn new(alloc: Global, layout: &Layout) -> Result<Outboxes, NoMemory>
+        ensures { IfOk result (λ outboxes. outboxes ≡ boxes_of layout.now) }
+    {
+        Ok(Outboxes {
+            boxes: boxes_of(alloc, layout)?,
+        })
+    }
+
+    /// What ports read of the eligible packet of a class (PCIe 4.0, 2.4.1): the oldest that this origin has waiting,
+    /// unless an older posted one waits that it may not pass.
+    pub fn head(&self, origin: Origin, class: Class) -> Option<Head>
+        ensures { result ≡ option_map (λ taken. taken.0.head) (eligible class (waiting_of self.now origin)) }
+    {
+        let place = box_place(&self.boxes, origin)?;
+        self.boxes[place].head(class)
+    }
+
+    /// Takes the eligible packet of a class.
+    pub fn take(&mut self, origin: Origin, class: Class) -> Option<Frame>
+        ensures taken { MatchOption result ((eligible class (waiting_of self.old origin) ≡ None) × (self.new ≡ self.old))
+            (λ frame. eligible class (waiting_of self.old origin) ≡ Some (frame, waiting_of self.new origin)) }
+        ensures restores { IfSome result (λ frame. restored_of self.new origin frame ≡ Some (waiting_of self.old origin)) }
+        // All but what waits of this origin is as it was.
+        ensures kept { self.new ≡ changed (with_queue (queue_of self.new origin)) self.old origin }
+    {
+        let place = box_place(&self.boxes, origin)?;
+        take_at(&mut self.boxes, place, class)
+    }
+
+    /// Puts the packet back that the last call took from this origin, to where it stood. It is not counted again.
+    pub fn put_back(&mut self, origin: Origin, frame: Frame)
+        requires { IsSome (restored_of self.old origin frame) }
+        ensures waiting { restored_of self.old origin frame ≡ Some (waiting_of self.new origin) }
+        // All but what waits of this origin is as it was.
+        ensures kept { self.new ≡ changed (with_queue (queue_of self.new origin)) self.old origin }
+    {
+        let Some(place) = box_place(&self.boxes, origin) else {
+            unreachable!();
+        };
+        put_back_at(&mut self.boxes, place, frame);
+    }
+
+    /// Is there a box of this origin, and were fewer than its places put of the class?
+    pub fn has_place(&self, origin: Origin, class: Class) -> bool
+        ensures { result ≡ has_place self.now origin class }
+    {
+        match box_place(&self.boxes, origin) {
+            Some(place) => self.boxes[place].has_place(class),
+            None => false,
+        }
+    }
+
+    /// Puts a packet behind the others of this origin, under its own class.
+    pub fn put(&mut self, origin: Origin, frame: Frame)
+        requires { IsTrue (has_place self.old origin (class_of frame)) }
+        ensures { self.new ≡ changed (with_put frame) self.old origin }
+    {
+        let Some(place) = box_place(&self.boxes, origin) else {
+            unreachable!();
+        };
+        put_at(&mut self.boxes, place, frame);
+    }
+
+    /// Takes so many packets more of each class from this origin. Where there is no such origin, nothing changes.
+    pub fn more(&mut self, origin: Origin, places: usize) -> Result<(), NoMemory>
+        ensures ok { OnOk result (self.new ≡ changed (with_more places) self.old origin) }
+        ensures err { OnErr result (self.new ≡ self.old) }
+    {
+        match box_place(&self.boxes, origin) {
+            Some(place) => more_at(&mut self.boxes, place, places),
+            None => Ok(()),
+        }
+    }
+}
