@@ -1,10 +1,10 @@
 -- What an outbox says of a take, said of what waits in it as packets alone.
-use Rattle.std.proofs.Common.{◌≡◌, List, Option, Some, None, ap}
-use Rattle.std.specs.Option.{IfSome, MatchOption}
+use Rattle.std.proofs.Common.{◌≡◌, Option, Some, None, ap}
+use Rattle.std.specs.Option.{MatchOption}
 use Rattle.fab_types.specs.declared.place.Origin.{Origin}
 use Rattle.frame_log.specs.Descriptor.{Descriptor}
 use Rattle.port_queue.specs.Outgoing.{Outgoing}
-use Rattle.port_queue.specs.Queue.{Queue, taken_of}
+use Rattle.port_queue.specs.Queue.{taken_of}
 use Rattle.port.proofs.Sorting.{none_taken, some_taken}
 use Rattle.port.specs.Lanes.{Class}
 use Rattle.port.specs.Queues.{IsSorted}
