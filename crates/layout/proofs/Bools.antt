@@ -132,3 +132,20 @@ pair-weaker g r s (x ∷ xs) w k h =
     and-both (list_all (s x) xs) (each_pair s xs)
     (all-weaker-among g (r x) (s x) xs (λ y. w x y (and-first (g x) (list_all g xs) k)) (and-second (g x) (list_all g xs) k) (and-first (list_all (r x) xs) (each_pair r xs) h))
     (pair-weaker g r s xs w (and-second (g x) (list_all g xs) k) (and-second (list_all (r x) xs) (each_pair r xs) h))
+
+pub or-weaker : (a b c d : Bool) → (a ≡ true → c ≡ true) → (b ≡ true → d ≡ true) → (a || b) ≡ true → (c || d) ≡ true
+or-weaker true b c d f g h = let e : c ≡ true = f refl in rw e refl
+or-weaker false b true d f g h = refl
+or-weaker false b false d f g h = g h
+
+pub or-last : (b rest : Bool) → rest ≡ true → (b || rest) ≡ true
+or-last true rest h = refl
+or-last false rest h = h
+
+pub any-last : {X : Type 0} (p : X → Bool) (xs : List X) (y : X) → p y ≡ true → list_any p (xs ++ y ∷ []) ≡ true
+any-last p [] y h = rw h refl
+any-last p (x ∷ xs) y h = or-last (p x) (list_any p (xs ++ y ∷ [])) (any-last p xs y h)
+
+pub or-here : (b rest : Bool) → b ≡ true → (b || rest) ≡ true
+or-here true rest h = refl
+or-here false rest h = absurd cc

@@ -17,9 +17,10 @@ use Rattle.layout.specs.Platform.{Platform}
 use Rattle.layout.specs.Tree.{port_at, port_over, domain_of, switch_on, port_above, is_third_level, is_taken, id_below}
 use Rattle.layout.specs.Rules.{is_within, frames_fault, root_fault, switch_fault, switch_fault_below, port_fault, port_fault_on, port_fault_below, is_past_port_limits, is_on_bus, function_fault, function_fault_below, map_fault, has_full_table, is_of_requester, budget_fault, has_good_credits, credit_fault, is_known_target, is_past_frames, is_foreign, is_mapped}
 use Rattle.layout.specs.Additions.{root_line, switch_line, port_line, map_line, budget_line, credit_line}
-use Rattle.layout.specs.Laws.{IsPlatform, is_good_budget, is_good_credit, are_apart, is_nested, is_hung, is_hung_below, is_level, is_level_below, is_placed, is_placed_below, is_known_map, is_home_map, share_no_frame}
+use Rattle.layout.specs.Laws.{IsPlatform, is_good_budget, is_good_credit, are_apart, is_nested, is_hung, is_hung_below, is_level, is_level_below, is_placed, is_placed_below, AreAlone, is_known_map, is_home_map, share_no_frame}
 use Rattle.layout.proofs.Nesting.{nested-stays, nested-among, nested-new, hung-stays, placed-stays, apart-new}
 use Rattle.layout.proofs.Levels.{level-stays, level-among, level-new}
+use Rattle.layout.proofs.Alone.{few-functions, alone-port, alone-function, alone-switch, alone-root}
 use Rattle.layout.proofs.Sharing.{home-stays, unshared-stays, known-new, home-new, unshared-new, known-stays}
 use Rattle.layout.proofs.NoFault.{none-first, none-rest, three-none, four-none}
 use Rattle.layout.proofs.Bools.{and-second, and-both, or-first, or-second, not-false, all-more, all-weaker, all-weaker-among, all-found, all-none, pair-more, pair-weaker, count-kept}
@@ -44,6 +45,7 @@ keeps-budget p budget h none = record {
     frames = h.limits.frames;
     switches = h.limits.switches;
     ports = h.limits.ports;
+    functions = h.limits.functions;
     maps = h.limits.maps;
     budgets = all-more is_good_budget p.budgets (budget_line budget) h.limits.budgets (not-false (is_within 1 16384 budget.begins) (none-first _ _ _ (none-rest _ _ _ none)));
     credits = h.limits.credits;
@@ -53,6 +55,7 @@ keeps-budget p budget h none = record {
   hung = h.hung;
   levels = h.levels;
   placed = h.placed;
+  alone = h.alone;
   known = h.known;
   home = h.home;
   unshared = h.unshared;
@@ -66,6 +69,7 @@ keeps-credit p credit h none = record {
     frames = h.limits.frames;
     switches = h.limits.switches;
     ports = h.limits.ports;
+    functions = h.limits.functions;
     maps = h.limits.maps;
     budgets = h.limits.budgets;
     credits = all-more is_good_credit p.credits (credit_line credit) h.limits.credits (not-false (has_good_credits credit) (none-first _ _ _ (none-rest _ _ _ none)));
@@ -75,6 +79,7 @@ keeps-credit p credit h none = record {
   hung = h.hung;
   levels = h.levels;
   placed = h.placed;
+  alone = h.alone;
   known = h.known;
   home = h.home;
   unshared = h.unshared;
@@ -91,6 +96,7 @@ keeps-map p map h none =
         frames = h.limits.frames;
         switches = h.limits.switches;
         ports = h.limits.ports;
+        functions = h.limits.functions;
         maps = λ requester. count-kept (is_of_requester requester) p.maps (map_line map) 64 (h.limits.maps requester) (room requester p.maps map (or-second _ _ rules.1));
         budgets = h.limits.budgets;
         credits = h.limits.credits;
@@ -100,6 +106,7 @@ keeps-map p map h none =
       hung = h.hung;
       levels = h.levels;
       placed = h.placed;
+      alone = h.alone;
       known = all-more (is_known_map p.functions p.frames) p.maps (map_line map) h.known (and-both _ _ (not-false (is_function p.functions map.requester) (or-first _ _ rules.0)) (known-new p.functions p.frames map.target (not-false (is_known_target p.functions map.target) (or-second _ _ rules.0)) (or-first _ _ rules.1)));
       home = all-more (is_home_map p.ports) p.maps (map_line map) h.home (home-new p.ports p.maps (domain_of p.ports map.requester) map.target rules.2);
       unshared = pair-more (share_no_frame p.ports) p.maps (map_line map) h.unshared (unshared-new p.ports p.maps (domain_of p.ports map.requester) map.target rules.2);
@@ -123,6 +130,7 @@ keeps-port p port h none =
         frames = h.limits.frames;
         switches = h.limits.switches;
         ports = λ bus. count-kept (is_on_bus bus) p.ports (port_line port) 8 (h.limits.ports bus) (place bus p.ports port (limits-kept p.ports (port_above p.ports on.0) port on.2));
+        functions = h.limits.functions;
         maps = h.limits.maps;
         budgets = h.limits.budgets;
         credits = h.limits.credits;
@@ -134,6 +142,7 @@ keeps-port p port h none =
       hung = all-weaker (is_hung p.ports) (is_hung (p.ports ++ port_line port ∷ [])) p.switches (λ switch. hung-stays p.ports (port_line port ∷ []) switch.above switch) h.hung;
       levels = all-weaker-among (is_hung p.ports) (is_level p.switches p.ports) (is_level p.switches (p.ports ++ port_line port ∷ [])) p.switches (λ switch. level-stays p.switches p.ports (port_line port ∷ []) switch h.hung) h.hung h.levels;
       placed = all-weaker (is_placed p.ports) (is_placed (p.ports ++ port_line port ∷ [])) p.functions (placed-stays p.ports (port_line port ∷ [])) h.placed;
+      alone = alone-port p.switches p.ports p.functions (port_line port) h.alone;
       known = h.known;
       home = all-weaker-among (is_known_map p.functions p.frames) (is_home_map p.ports) (is_home_map (p.ports ++ port_line port ∷ [])) p.maps (λ line. home-stays p.ports (port_line port ∷ []) p.functions p.frames line h.placed) h.known h.home;
       unshared = pair-weaker (is_known_map p.functions p.frames) (share_no_frame p.ports) (share_no_frame (p.ports ++ port_line port ∷ [])) p.maps (λ one other. unshared-stays p.ports (port_line port ∷ []) p.functions p.frames one other h.placed) h.known h.unshared;
@@ -146,26 +155,34 @@ placed-new p function (Some port) none =
     and-both _ _ (not-false (function.bar % 4096 == 0) (or-first _ _ fits)) (not-false (nat_le port.base function.bar && nat_le (function.bar + 4095) port.limit) (or-second _ _ fits))
 
 -- a function
+alone-below : (p : Platform) (function : FunctionLine) (above : Option PortLine) → port_over p.ports function.id ≡ above → AreAlone p.switches p.ports p.functions → None ≡ function_fault_below p function above → AreAlone p.switches p.ports (p.functions ++ function ∷ [])
+alone-below p function None over h none = absurd cc
+alone-below p function (Some port) over h none = alone-function p.switches p.ports p.functions function port over (none-first _ _ _ none) h
+
 pub keeps-function : (p : Platform) (function : FunctionLine) → IsPlatform p → None ≡ function_fault p function → IsPlatform (record p { functions = p.functions ++ function ∷ [] })
 unfolding function_fault
-keeps-function p function h none = record {
-  limits = record {
-    frames = h.limits.frames;
-    switches = h.limits.switches;
-    ports = h.limits.ports;
-    maps = h.limits.maps;
-    budgets = h.limits.budgets;
-    credits = h.limits.credits;
-  };
-  apart = h.apart;
-  nested = h.nested;
-  hung = h.hung;
-  levels = h.levels;
-  placed = all-more (is_placed p.ports) p.functions function h.placed (placed-new p function (port_over p.ports function.id) none);
-  known = all-weaker (is_known_map p.functions p.frames) (is_known_map (p.functions ++ function ∷ []) p.frames) p.maps (known-stays p.functions (function ∷ []) p.frames) h.known;
-  home = h.home;
-  unshared = h.unshared;
-}
+keeps-function p function h none =
+    let alone = alone-below p function (port_over p.ports function.id) refl h.alone none in
+    record {
+      limits = record {
+        frames = h.limits.frames;
+        switches = h.limits.switches;
+        ports = h.limits.ports;
+        functions = few-functions p.switches p.ports (p.functions ++ function ∷ []) h.limits.switches h.limits.ports h.nested alone;
+        maps = h.limits.maps;
+        budgets = h.limits.budgets;
+        credits = h.limits.credits;
+      };
+      apart = h.apart;
+      nested = h.nested;
+      hung = h.hung;
+      levels = h.levels;
+      placed = all-more (is_placed p.ports) p.functions function h.placed (placed-new p function (port_over p.ports function.id) none);
+      alone = alone;
+      known = all-weaker (is_known_map p.functions p.frames) (is_known_map (p.functions ++ function ∷ []) p.frames) p.maps (known-stays p.functions (function ∷ []) p.frames) h.known;
+      home = h.home;
+      unshared = h.unshared;
+    }
 
 -- a switch
 few-switches : (p : Platform) (id : ℕ) (above : Option PortLine) → None ≡ switch_fault_below p id above → nat_le 8 (length p.switches) ≡ false
@@ -187,6 +204,12 @@ level-hung p switch (Some port) h nested none =
     cause.Line cause.Limit cause.BusOutside none in
     level-new p.switches (switch_line switch ∷ []) p.ports port h.nested (nested port refl) (or-second (nat_le 8 (length p.switches)) (is_third_level p.switches p.ports (bus_of port.id)) rules.1)
 
+alone-hung : (p : Platform) (switch : SwitchText) (above : Option PortLine) → port_at p.ports switch.above ≡ above → AreAlone p.switches p.ports p.functions → None ≡ switch_fault_below p switch.id above → AreAlone (p.switches ++ switch_line switch ∷ []) p.ports p.functions
+alone-hung p switch None at_port h none = absurd cc
+alone-hung p switch (Some port) at_port h none =
+    let rule = none-first (not (switch.id == id_below port) || is_taken p.switches p.functions switch.id) _ _ none in
+    alone-switch p.switches p.ports p.functions (switch_line switch) (λ (other : PortLine). other.id == switch.above) port at_port (eqb-true switch.id (id_below port) (not-false _ (or-first _ _ rule))) (or-second _ _ rule) h
+
 pub keeps-switch : (p : Platform) (switch : SwitchText) → IsPlatform p → None ≡ switch_fault p switch → IsPlatform (record p { switches = p.switches ++ switch_line switch ∷ [] })
 unfolding switch_fault
 keeps-switch p switch h none = record {
@@ -194,6 +217,7 @@ keeps-switch p switch h none = record {
     frames = h.limits.frames;
     switches = let few : length p.switches < 8 = leb-false _ _ (few-switches p switch.id (port_at p.ports switch.above) none) in simp length-append (omega arith);
     ports = h.limits.ports;
+    functions = h.limits.functions;
     maps = h.limits.maps;
     budgets = h.limits.budgets;
     credits = h.limits.credits;
@@ -205,6 +229,7 @@ keeps-switch p switch h none = record {
       (all-weaker (is_level p.switches p.ports) (is_level (p.switches ++ switch_line switch ∷ []) p.ports) p.switches (λ other. level-among p.switches (switch_line switch ∷ []) p.ports other h.nested) h.levels)
       (level-hung p switch (port_at p.ports switch.above) h (λ port e. all-found (λ (other : PortLine). other.id == switch.above) (is_nested p.switches p.ports) p.ports port e h.nested) none);
   placed = h.placed;
+  alone = alone-hung p switch (port_at p.ports switch.above) refl h.alone none;
   known = h.known;
   home = h.home;
   unshared = h.unshared;
@@ -217,6 +242,7 @@ keeps-frames p count h none = record {
     frames = leb-true _ _ (and-second _ _ (not-false (is_within 1 1024 count) (none-first _ _ _ (none-rest _ _ _ none))));
     switches = h.limits.switches;
     ports = h.limits.ports;
+    functions = h.limits.functions;
     maps = h.limits.maps;
     budgets = h.limits.budgets;
     credits = h.limits.credits;
@@ -226,18 +252,24 @@ keeps-frames p count h none = record {
   hung = h.hung;
   levels = h.levels;
   placed = h.placed;
+  alone = h.alone;
   known = all-none (is_known_map p.functions count) p.maps (eqb-true (length p.maps) 0 (not-false (length p.maps == 0) (or-second _ _ (none-first _ _ _ none))));
   home = h.home;
   unshared = h.unshared;
 }
+
+no-switches : (p : Platform) (id : ℕ) → None ≡ root_fault p id → length p.switches ≡ 0
+unfolding root_fault
+no-switches p id none = eqb-true (length p.switches) 0 (not-false (length p.switches == 0) (or-second (not (id == id_of 1 0 0)) (not (length p.switches == 0)) (none-first _ _ _ none)))
 
 pub keeps-root : (p : Platform) (id : ℕ) → IsPlatform p → None ≡ root_fault p id → IsPlatform (record p { switches = p.switches ++ root_line id ∷ [] })
 unfolding root_fault
 keeps-root p id h none = record {
   limits = record {
     frames = h.limits.frames;
-    switches = let few : length p.switches ≡ 0 = eqb-true (length p.switches) 0 (not-false (length p.switches == 0) (or-second (not (id == id_of 1 0 0)) (not (length p.switches == 0)) (none-first _ _ _ none))) in simp length-append (omega arith);
+    switches = let none_yet = no-switches p id none in simp length-append (omega arith);
     ports = h.limits.ports;
+    functions = h.limits.functions;
     maps = h.limits.maps;
     budgets = h.limits.budgets;
     credits = h.limits.credits;
@@ -248,6 +280,7 @@ keeps-root p id h none = record {
   levels = all-more (is_level (p.switches ++ root_line id ∷ []) p.ports) p.switches (root_line id)
       (all-weaker (is_level p.switches p.ports) (is_level (p.switches ++ root_line id ∷ []) p.ports) p.switches (λ other. level-among p.switches (root_line id ∷ []) p.ports other h.nested) h.levels) refl;
   placed = h.placed;
+  alone = alone-root p.switches p.ports p.functions (root_line id) (no-switches p id none) h.alone;
   known = h.known;
   home = h.home;
   unshared = h.unshared;

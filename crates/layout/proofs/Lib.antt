@@ -1,11 +1,13 @@
 pub mod OwnerLemmas
 pub mod Pieces
 pub mod Bools
+pub mod Counts
 pub mod NoFault
 pub mod Nesting
 pub mod Levels
 pub mod Sharing
 pub mod FrameOwners
+pub mod Alone
 pub mod Keeping
 pub mod Ranges
 pub mod Reached

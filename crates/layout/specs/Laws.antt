@@ -1,5 +1,5 @@
 -- What holds of every platform that was read.
-use Rattle.std.specs.Prelude.{◌≡◌, ℕ, ◌+◌, ◌%◌, ◌==◌, ◌≤◌, Bool, true, false, ◌&&◌, not, nat_le, nat_lt, List, [], ◌∷◌, length, count_by, Option, Some, None}
+use Rattle.std.specs.Prelude.{◌≡◌, ℕ, ◌+◌, ◌-◌, ◌%◌, ◌==◌, ◌≤◌, Bool, true, false, ◌&&◌, not, nat_le, nat_lt, List, [], ◌∷◌, length, count_by, Option, Some, None}
 use Rattle.std.specs.List.{list_all}
 use Rattle.fab_types.specs.Id.{bus_of, id_of}
 use Rattle.layout.specs.declared.lines.SwitchLine.{SwitchLine}
@@ -12,7 +12,7 @@ use Rattle.layout.specs.declared.lines.BudgetLine.{BudgetLine}
 use Rattle.layout.specs.declared.lines.CreditLine.{CreditLine}
 use Rattle.layout.specs.Platform.{Platform}
 use Rattle.layout.specs.Owners.{is_function}
-use Rattle.layout.specs.Tree.{port_at, port_over, port_above, switch_on, id_below, is_third_level, domain_of}
+use Rattle.layout.specs.Tree.{port_at, port_over, port_above, switch_on, id_below, is_third_level, is_taken, domain_of}
 use Rattle.layout.specs.Rules.{is_within, is_on_bus, is_of_requester, is_mapping_of}
 
 abbrev pub is_good_budget : BudgetLine → Bool
@@ -29,6 +29,7 @@ pub record HasLimits (platform : Platform) : Type 0 where
   pub frames : platform.frames ≤ 1024
   pub switches : length platform.switches ≤ 8
   pub ports : (bus : ℕ) → count_by (is_on_bus bus) platform.ports ≤ 8
+  pub functions : length platform.functions ≤ 57
   pub maps : (requester : ℕ) → count_by (is_of_requester requester) platform.maps ≤ 64
   pub budgets : list_all is_good_budget platform.budgets ≡ true
   pub credits : list_all is_good_credit platform.credits ≡ true
@@ -90,6 +91,15 @@ is_placed_below (Some port) function = (function.bar % 4096 == 0) && (nat_le por
 abbrev pub is_placed : List PortLine → FunctionLine → Bool
 is_placed ports function = is_placed_below (port_over ports function.id) function
 
+-- does something stand directly below the port?
+abbrev pub is_used : List SwitchLine → List FunctionLine → PortLine → Bool
+is_used switches functions port = is_taken switches functions (id_below port)
+
+-- functions, and switches but the top one, stand alone below ports: there are no more of them than ports
+-- with something below
+abbrev pub AreAlone : List SwitchLine → List PortLine → List FunctionLine → Type 0
+AreAlone switches ports functions = length functions + (length switches - 1) ≤ count_by (is_used switches functions) ports
+
 abbrev pub is_known : List FunctionLine → ℕ → MapTarget → Bool
 is_known functions frames (mapped.Frame frame) = nat_lt frame frames
 is_known functions frames (mapped.Peer peer) = is_function functions peer
@@ -122,6 +132,7 @@ pub record IsPlatform (platform : Platform) : Type 0 where
   pub hung : list_all (is_hung platform.ports) platform.switches ≡ true
   pub levels : list_all (is_level platform.switches platform.ports) platform.switches ≡ true
   pub placed : list_all (is_placed platform.ports) platform.functions ≡ true
+  pub alone : AreAlone platform.switches platform.ports platform.functions
   pub known : list_all (is_known_map platform.functions platform.frames) platform.maps ≡ true
   pub home : list_all (is_home_map platform.ports) platform.maps ≡ true
   pub unshared : each_pair (share_no_frame platform.ports) platform.maps ≡ true

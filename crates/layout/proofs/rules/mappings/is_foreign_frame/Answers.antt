@@ -1,9 +1,9 @@
-use Rattle.std.proofs.Common.{◌≡◌, ℕ, ◌==◌, Option, Some, None, sym, ap, ◌∙◌}
+use Rattle.std.proofs.Common.{◌≡◌, ℕ, ◌==◌, Some, None, sym, ap, ◌∙◌}
 use Rattle.std.specs.Prelude.{not}
 use Rattle.std.specs.List.{find}
 use Rattle.std.specs.Option.{option_copied}
 use Rattle.layout.specs.declared.lines.MapLine.{MapLine}
-use Rattle.layout.specs.Rules.{is_foreign_frame, is_mapping_of}
+use Rattle.layout.specs.Rules.{is_mapping_of}
 use Rattle.layout.proofs.FrameOwners.{first_tells, is_foreign_line}
 use Rattle.layout.proofs.rules.mappings.is_foreign_frame.Goals as goal
 
