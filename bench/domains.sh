@@ -10,13 +10,13 @@ here=$(cd "$(dirname "$0")/.." && pwd)
 work=$(mktemp -d)
 trap 'rm -rf "$work"' EXIT
 mkdir -p "$work/crates/domains/src" "$work/texts"
-for crate in fab_types tlp_view function frame_log layout host_memory host_table domain; do
+for crate in fab_types tlp_view function frame_log text statement layout host_memory host_table domain; do
     cp -r "$here/crates/$crate" "$work/crates/$crate"
     rm -rf "$work/crates/$crate/must-fail"
 done
 cp "$here/HANDLES" "$work"
 {
-    grep -E '^(fab_types|tlp_view|function|frame_log|layout|host_memory|host_table|domain):' "$here/crates.txt"
+    grep -E '^(fab_types|tlp_view|function|frame_log|text|statement|layout|host_memory|host_table|domain):' "$here/crates.txt"
     echo 'domains: fab_types frame_log layout domain'
 } > "$work/crates.txt"
 

@@ -77,12 +77,12 @@ fi
 work=$(mktemp -d)
 trap 'rm -rf "$work"' EXIT
 mkdir -p "$work/crates/layouts/src" "$work/texts"
-for crate in fab_types layout; do
+for crate in fab_types text statement layout; do
     cp -r "$here/crates/$crate" "$work/crates/$crate"
     rm -rf "$work/crates/$crate/must-fail"
 done
 {
-    grep -E '^(fab_types|layout):' "$here/crates.txt"
+    grep -E '^(fab_types|text|statement|layout):' "$here/crates.txt"
     echo 'layouts: fab_types layout'
 } > "$work/crates.txt"
 

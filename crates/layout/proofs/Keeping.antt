@@ -7,11 +7,11 @@ use Rattle.layout.specs.declared.lines.SwitchLine.{SwitchLine}
 use Rattle.layout.specs.declared.lines.PortLine.{PortLine}
 use Rattle.layout.specs.declared.lines.FunctionLine.{FunctionLine}
 use Rattle.layout.specs.declared.lines.MapLine.{MapLine}
-use Rattle.layout.specs.declared.statement.SwitchText.{SwitchText}
-use Rattle.layout.specs.declared.statement.PortText.{PortText}
-use Rattle.layout.specs.declared.statement.MapText.{MapText}
-use Rattle.layout.specs.declared.statement.BudgetText.{BudgetText}
-use Rattle.layout.specs.declared.statement.CreditText.{CreditText}
+use Rattle.statement.specs.declared.lines.SwitchText.{SwitchText}
+use Rattle.statement.specs.declared.lines.PortText.{PortText}
+use Rattle.statement.specs.declared.lines.MapText.{MapText}
+use Rattle.statement.specs.declared.lines.BudgetText.{BudgetText}
+use Rattle.statement.specs.declared.lines.CreditText.{CreditText}
 use Rattle.layout.specs.Owners.{is_function}
 use Rattle.layout.specs.Platform.{Platform}
 use Rattle.layout.specs.Tree.{port_at, port_over, domain_of, switch_on, port_above, is_third_level, is_taken, id_below}

@@ -6,7 +6,7 @@ use Rattle.fab_types.specs.Id.{bus_of}
 use Rattle.layout.specs.declared.lines.SwitchLine.{SwitchLine}
 use Rattle.layout.specs.declared.lines.PortLine.{PortLine}
 use Rattle.layout.specs.declared.lines.FunctionLine.{FunctionLine}
-use Rattle.layout.specs.declared.statement.PortText.{PortText}
+use Rattle.statement.specs.declared.lines.PortText.{PortText}
 use Rattle.layout.specs.Owners.{is_function}
 use Rattle.layout.specs.Tree.{port_at, port_over, port_above, switch_on, id_below, domain_of, owner_or_none}
 use Rattle.layout.specs.Rules.{port_fault_below, has_bad_fields, buses_meet, windows_meet, buses_are_outside, window_is_outside, owner_differs, is_on_bus}

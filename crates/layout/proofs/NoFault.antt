@@ -4,7 +4,7 @@ use Rattle.std.specs.Prelude.{nat_lt}
 use Rattle.fab_types.specs.declared.faults.layout.LayoutCause.{LayoutCause}
 use Rattle.fab_types.specs.declared.faults.layout.LayoutCause.TheVariants as cause
 use Rattle.layout.specs.declared.lines.PortLine.{PortLine}
-use Rattle.layout.specs.declared.statement.PortText.{PortText}
+use Rattle.statement.specs.declared.lines.PortText.{PortText}
 use Rattle.layout.specs.Rules.{port_fault_below, has_bad_fields, is_past_port_limits, buses_meet, buses_are_outside, windows_meet, window_is_outside, owner_differs}
 
 pub none-first : (b : Bool) (refusal : LayoutCause) (rest : Option LayoutCause) → None ≡ cond b (Some refusal) rest → b ≡ false

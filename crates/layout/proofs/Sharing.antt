@@ -7,8 +7,8 @@ use Rattle.layout.specs.declared.lines.FunctionLine.{FunctionLine}
 use Rattle.layout.specs.declared.lines.MapTarget.{MapTarget}
 use Rattle.layout.specs.declared.lines.MapTarget.TheVariants as mapped
 use Rattle.layout.specs.declared.lines.MapLine.{MapLine}
-use Rattle.layout.specs.declared.statement.TargetText.{TargetText}
-use Rattle.layout.specs.declared.statement.TargetText.TheVariants as target
+use Rattle.statement.specs.declared.lines.TargetText.{TargetText}
+use Rattle.statement.specs.declared.lines.TargetText.TheVariants as target
 use Rattle.layout.specs.Tree.{domain_of}
 use Rattle.layout.specs.Rules.{is_mapping_of, is_foreign, is_foreign_frame, is_known_target, is_past_frames}
 use Rattle.layout.specs.Additions.{target_of_text}

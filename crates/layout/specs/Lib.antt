@@ -1,4 +1,3 @@
-pub mod Statements
 pub mod Platform
 pub mod Tree
 pub mod Rules
@@ -13,3 +12,4 @@ pub mod Reach
 pub mod Tables
 pub mod Starts
 pub mod First
+pub use Rattle.statement.specs.Statements

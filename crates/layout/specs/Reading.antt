@@ -4,9 +4,9 @@ use Rattle.std.specs.Str.{bytes_eq}
 use Rattle.fab_types.specs.declared.faults.layout.LayoutCause.{LayoutCause}
 use Rattle.fab_types.specs.declared.faults.layout.LayoutCause.TheVariants as cause
 use Rattle.fab_types.specs.declared.faults.layout.LayoutFault.{LayoutFault}
-use Rattle.layout.specs.declared.statement.Statement.{Statement}
+use Rattle.statement.specs.declared.lines.Statement.{Statement}
 use Rattle.text.specs.Text.{pieces, is_last, is_comment}
-use Rattle.layout.specs.Statements.{statement_of}
+use Rattle.statement.specs.Statements.{statement_of}
 use Rattle.layout.specs.Platform.{Platform, no_lines}
 use Rattle.layout.specs.Tree.{has_root}
 use Rattle.layout.specs.Rules.{fault_of}

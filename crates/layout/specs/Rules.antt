@@ -10,18 +10,19 @@ use Rattle.layout.specs.declared.lines.FunctionLine.{FunctionLine}
 use Rattle.layout.specs.declared.lines.MapTarget.{MapTarget}
 use Rattle.layout.specs.declared.lines.MapTarget.TheVariants as mapped
 use Rattle.layout.specs.declared.lines.MapLine.{MapLine}
-use Rattle.layout.specs.declared.statement.SwitchText.{SwitchText}
-use Rattle.layout.specs.declared.statement.PortText.{PortText}
-use Rattle.layout.specs.declared.statement.MapText.{MapText}
-use Rattle.layout.specs.declared.statement.TargetText.{TargetText}
-use Rattle.layout.specs.declared.statement.TargetText.TheVariants as target
-use Rattle.layout.specs.declared.statement.BudgetText.{BudgetText}
-use Rattle.layout.specs.declared.statement.CreditText.{CreditText}
-use Rattle.layout.specs.declared.statement.Statement.{Statement}
-use Rattle.layout.specs.declared.statement.Statement.TheVariants.{Frames, Root, Switch, Port, Function, Map, Budget, Credit}
+use Rattle.statement.specs.declared.lines.SwitchText.{SwitchText}
+use Rattle.statement.specs.declared.lines.PortText.{PortText}
+use Rattle.statement.specs.declared.lines.MapText.{MapText}
+use Rattle.statement.specs.declared.lines.TargetText.{TargetText}
+use Rattle.statement.specs.declared.lines.TargetText.TheVariants as target
+use Rattle.statement.specs.declared.lines.BudgetText.{BudgetText}
+use Rattle.statement.specs.declared.lines.CreditText.{CreditText}
+use Rattle.statement.specs.declared.lines.Statement.{Statement}
+use Rattle.statement.specs.declared.lines.Statement.TheVariants.{Frames, Root, Switch, Port, Function, Map, Budget, Credit}
 use Rattle.layout.specs.Owners.{is_function, owns_port}
 use Rattle.layout.specs.Tree.{port_at, port_over, id_below, switch_on, port_above, is_third_level, is_taken, domain_of}
 use Rattle.layout.specs.Platform.{Platform}
+use Rattle.layout.specs.Additions.{function_line}
 
 -- the first cause whose condition holds
 abbrev pub first_of : List (Bool × LayoutCause) → Option LayoutCause
@@ -184,7 +185,7 @@ fault_of platform (Frames count) = frames_fault platform count
 fault_of platform (Root id) = root_fault platform id
 fault_of platform (Switch switch) = switch_fault platform switch
 fault_of platform (Port port) = port_fault platform port
-fault_of platform (Function function) = function_fault platform function
+fault_of platform (Function function) = function_fault platform (function_line function)
 fault_of platform (Map map) = map_fault platform map
 fault_of platform (Budget budget) = budget_fault platform budget
 fault_of platform (Credit credit) = credit_fault platform credit

@@ -4,17 +4,19 @@ ghost use Rattle.std.specs.Prelude.{◌≡◌, ◌≤◌, ◌<◌, ◌==◌, tru
 ghost use Rattle.std.specs.List.{find};
 ghost use Rattle.layout.specs.Rules.{has_good_credits, is_past_frames};
 ghost use Rattle.layout.specs.Owners.{owns_port};
-ghost use Rattle.layout.specs.Additions.{port_line, target_of_text, limits_of_text};
+ghost use Rattle.layout.specs.Additions.{port_line, function_line, target_of_text, rights_of_text, limits_of_text};
 ghost use Rattle.layout.specs.Reading.{with_statement, with_form, with_line, IsStep};
 
 use crate::lines::{
-    BudgetLine, CreditLimits, CreditLine, FunctionLine, MapLine, MapTarget, PortLine, SwitchLine,
+    BudgetLine, CreditLimits, CreditLine, FunctionLine, MapLine, MapTarget, PortLine, Rights,
+    SwitchLine,
 };
 use crate::platform::Layout;
-use crate::statement::{
-    BudgetText, CreditText, MapText, PortText, Statement, SwitchText, TargetText, statement_of,
-};
 use fab_types::{AcsControl, Bdf, DomainId, LayoutCause, PortId};
+use statement::{
+    BudgetText, CreditText, FunctionText, MapText, PortText, RightsText, Statement, SwitchText,
+    TargetText, statement_of,
+};
 use text::is_comment;
 
 fn port_line(port: &PortText) -> PortLine
@@ -55,6 +57,24 @@ fn target_of_text(target: &TargetText) -> MapTarget
     match target {
         TargetText::Frame(frame) => MapTarget::Frame(*frame as u16),
         TargetText::Peer(peer) => MapTarget::Peer(*peer),
+    }
+}
+
+fn function_line(function: &FunctionText) -> FunctionLine
+    ensures { result ≡ function_line function.now }
+{
+    FunctionLine {
+        id: function.id,
+        bar: function.bar,
+    }
+}
+
+fn rights_of_text(rights: &RightsText) -> Rights
+    ensures { result ≡ rights_of_text rights.now }
+{
+    Rights {
+        read: rights.read,
+        write: rights.write,
     }
 }
 
@@ -132,13 +152,14 @@ impl Layout {
     }
 
     #[tactic(auto, unfolding(crate::specs::Reading::with_statement))]
-    fn take_function(&mut self, function: &FunctionLine) -> Result<(), LayoutCause>
+    fn take_function(&mut self, function: &FunctionText) -> Result<(), LayoutCause>
         ensures { IsStep (with_statement self.old (Statement.Function function.now)) result self.new }
     {
-        if let Some(cause) = self.function_fault(function) {
+        let line = function_line(function);
+        if let Some(cause) = self.function_fault(&line) {
             return Err(cause);
         }
-        match self.functions.push(*function) {
+        match self.functions.push(line) {
             Ok(()) => Ok(()),
             Err(_) => Err(LayoutCause::NoMemory),
         }
@@ -155,7 +176,7 @@ impl Layout {
             requester: map.requester,
             page: map.page,
             target: target_of_text(&map.target),
-            rights: map.rights,
+            rights: rights_of_text(&map.rights),
         };
         match self.maps.push(line) {
             Ok(()) => Ok(()),

@@ -9,7 +9,6 @@ mod reach;
 mod read;
 mod rules;
 mod start;
-mod statement;
 mod views;
 
 pub use lines::{

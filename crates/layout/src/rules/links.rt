@@ -8,8 +8,8 @@ ghost use Rattle.layout.specs.Rules.{is_within, frames_fault, root_fault, switch
 use crate::lines::{BudgetLine, CreditLine, FunctionLine, PortLine};
 use crate::platform::Layout;
 use crate::rules::tree::{id_below, is_taken, is_third_level, port_at, port_over};
-use crate::statement::{BudgetText, CreditText, SwitchText};
 use fab_types::{Bdf, LayoutCause};
+use statement::{BudgetText, CreditText, SwitchText};
 
 pub(crate) fn is_within(least: u32, most: u32, number: u32) -> bool
     ensures { result ≡ is_within least most number }

@@ -10,8 +10,8 @@ use crate::lines::{FunctionLine, MapLine, MapTarget, PortLine};
 use crate::owners::is_function;
 use crate::platform::Layout;
 use crate::rules::tree::domain_of;
-use crate::statement::{MapText, TargetText};
 use fab_types::{Bdf, LayoutCause};
+use statement::{MapText, TargetText};
 
 fn is_known_target(functions: &[FunctionLine], target: &TargetText) -> bool
     ensures { result ≡ is_known_target functions.now target.now }

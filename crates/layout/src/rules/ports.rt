@@ -8,8 +8,8 @@ use crate::lines::{PortLine, SwitchLine};
 use crate::platform::Layout;
 use crate::rules::links::is_within;
 use crate::rules::tree::{port_above, port_at, switch_on};
-use crate::statement::PortText;
 use fab_types::LayoutCause;
+use statement::PortText;
 
 #[tactic(auto, unfolding(crate::specs::Rules::has_bad_fields))]
 fn has_bad_fields(ports: &[PortLine], port: &PortText) -> bool

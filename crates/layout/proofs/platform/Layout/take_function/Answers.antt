@@ -4,12 +4,14 @@ use Rattle.layout.specs.declared.lines.FunctionLine.{FunctionLine}
 use Rattle.layout.specs.Platform.{Platform}
 use Rattle.layout.specs.Layouts.{platform_of}
 use Rattle.layout.specs.Rules.{function_fault}
+use Rattle.layout.specs.Additions.{function_line}
 use Rattle.layout.proofs.Keeping.{keeps-function, kept-either}
 use Rattle.layout.proofs.platform.Layout.take_function.Goals as goal
 
 pub invariant_of-self : goal.invariant_of-self
 invariant_of-self c =
     let p : Platform = platform_of c.self.inside in
-    let good : None ≡ function_fault p c.args.function.now = cc (c.self.view_is, c.in_default.ensures) in
-    let items : c.push.new.self.items ≡ cond (is_ok c.push.result) (p.functions ++ c.args.function.now ∷ []) p.functions = c.push.ensures.items in
-    record { platform = kept-either (is_ok c.push.result) p.functions (p.functions ++ c.args.function.now ∷ []) c.push.new.self.items (λ (xs : List FunctionLine). record p { functions = xs }) items c.self.invariant.platform (keeps-function p c.args.function.now c.self.invariant.platform good) }
+    let line : FunctionLine = function_line c.args.function.now in
+    let good : None ≡ function_fault p line = cc (c.self.view_is, c.in_default.ensures, c.function_line-line.ensures) in
+    let items : c.push.new.self.items ≡ cond (is_ok c.push.result) (p.functions ++ line ∷ []) p.functions = rw c.function_line-line.ensures at c.push.ensures.items in
+    record { platform = kept-either (is_ok c.push.result) p.functions (p.functions ++ line ∷ []) c.push.new.self.items (λ (xs : List FunctionLine). record p { functions = xs }) items c.self.invariant.platform (keeps-function p line c.self.invariant.platform good) }

@@ -1,78 +1,14 @@
 //! What a line says, before any rule is tested.
 
 ghost use Rattle.std.specs.Prelude.{◌≡◌};
-ghost use Rattle.layout.specs.Statements.{frames_text, switch_below, switch_text, port_fields, port_text, function_text, rights_text, target_text, map_fields, map_text, budget_text, credit_fields, credit_text, statement_of_word, statement_of};
+ghost use Rattle.statement.specs.Statements.{frames_text, switch_below, switch_text, port_fields, port_text, function_text, rights_text, target_text, map_fields, map_text, budget_text, credit_fields, credit_text, statement_of_word, statement_of};
 
-use crate::lines::{FunctionLine, Rights};
+use crate::lines::{
+    BudgetText, CreditText, FunctionText, MapText, PortText, RightsText, Statement, SwitchText,
+    TargetText,
+};
 use fab_types::Bdf;
 use text::{at_blank, decimal, hex_byte, hex_word, hexadecimal, id, is_word};
-
-/// What a `switch` line says that isn't the root's.
-#[derive(Clone, Copy, Debug)]
-pub(crate) struct SwitchText {
-    pub id: Bdf,
-    pub above: Bdf,
-}
-
-/// What a `port` line says.
-#[derive(Clone, Copy, Debug)]
-pub(crate) struct PortText {
-    pub id: Bdf,
-    pub secondary: u8,
-    pub subordinate: u8,
-    pub base: u32,
-    pub limit: u32,
-    pub controls: u8,
-    pub owner: u32,
-}
-
-/// What a `map` line maps to.
-#[derive(Clone, Copy, Debug)]
-pub(crate) enum TargetText {
-    Frame(u32),
-    Peer(Bdf),
-}
-
-/// What a `map` line says.
-#[derive(Clone, Copy, Debug)]
-pub(crate) struct MapText {
-    pub requester: Bdf,
-    pub page: u64,
-    pub target: TargetText,
-    pub rights: Rights,
-}
-
-/// What a `budget` line says.
-#[derive(Clone, Copy, Debug)]
-pub(crate) struct BudgetText {
-    pub domain: u32,
-    pub begins: u32,
-}
-
-/// What a `credit` line says.
-#[derive(Clone, Copy, Debug)]
-pub(crate) struct CreditText {
-    pub id: Bdf,
-    pub posted_headers: u32,
-    pub posted_data: u32,
-    pub non_posted_headers: u32,
-    pub non_posted_data: u32,
-    pub completion_headers: u32,
-    pub completion_data: u32,
-}
-
-/// What a line says: a variant for each form.
-#[derive(Clone, Copy, Debug)]
-pub(crate) enum Statement {
-    Frames(u32),
-    Root(Bdf),
-    Switch(SwitchText),
-    Port(PortText),
-    Function(FunctionLine),
-    Map(MapText),
-    Budget(BudgetText),
-    Credit(CreditText),
-}
 
 fn frames_text(rest: &[u8]) -> Option<Statement>
     ensures { result ≡ frames_text rest.now }
@@ -149,10 +85,10 @@ fn function_text(rest: &[u8]) -> Option<Statement>
     let first = at_blank(rest)?;
     let id = id(first.before)?;
     let bar = hex_word(first.after)?;
-    Some(Statement::Function(FunctionLine { id, bar }))
+    Some(Statement::Function(FunctionText { id, bar }))
 }
 
-fn rights_text(field: &[u8]) -> Option<Rights>
+fn rights_text(field: &[u8]) -> Option<RightsText>
     ensures { result ≡ rights_text field.now }
 {
     let (read, write) = if is_word(field, "r") {
@@ -164,7 +100,7 @@ fn rights_text(field: &[u8]) -> Option<Rights>
     } else {
         return None;
     };
-    Some(Rights { read, write })
+    Some(RightsText { read, write })
 }
 
 fn target_text(word: &[u8], field: &[u8]) -> Option<TargetText>
@@ -294,7 +230,7 @@ fn statement_of_word(word: &[u8], rest: &[u8]) -> Option<Statement>
 }
 
 /// What a line says, if it has one of the forms.
-pub(crate) fn statement_of(line: &[u8]) -> Option<Statement>
+pub fn statement_of(line: &[u8]) -> Option<Statement>
     ensures { result ≡ statement_of line.now }
 {
     let first = at_blank(line)?;

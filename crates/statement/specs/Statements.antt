@@ -3,11 +3,11 @@
 use Rattle.std.specs.Prelude.{ℕ, true, false, List, codes, Option, Some, None, option_map, if◌then◌else◌}
 use Rattle.std.specs.Str.{bytes_eq}
 use Rattle.text.specs.Text.{◌>>=◌, at_blank, decimal, hexadecimal, id_at}
-use Rattle.layout.specs.declared.lines.Rights.{Rights}
-use Rattle.layout.specs.declared.statement.TargetText.{TargetText}
-use Rattle.layout.specs.declared.statement.TargetText.TheVariants as target
-use Rattle.layout.specs.declared.statement.Statement.{Statement}
-use Rattle.layout.specs.declared.statement.Statement.TheVariants.{Frames, Root, Switch, Port, Function, Map, Budget, Credit}
+use Rattle.statement.specs.declared.lines.RightsText.{RightsText}
+use Rattle.statement.specs.declared.lines.TargetText.{TargetText}
+use Rattle.statement.specs.declared.lines.TargetText.TheVariants as target
+use Rattle.statement.specs.declared.lines.Statement.{Statement}
+use Rattle.statement.specs.declared.lines.Statement.TheVariants.{Frames, Root, Switch, Port, Function, Map, Budget, Credit}
 
 -- `frames N`
 abbrev pub frames_text : List ℕ → Option Statement
@@ -56,7 +56,7 @@ function_text rest = do
   Some (Function (record { id = id; bar = bar }))
 
 -- `r`, `w` or `rw`
-abbrev pub rights_text : List ℕ → Option Rights
+abbrev pub rights_text : List ℕ → Option RightsText
 rights_text field =
     if bytes_eq field (codes "r") then Some (record { read = true; write = false })
     else (if bytes_eq field (codes "w") then Some (record { read = false; write = true })
