@@ -23,20 +23,13 @@ use Rattle.topology.specs.Nodes.{lanes_of, downstream_end, upstream_end, upstrea
 use Rattle.topology.specs.Links.{end_above, link_of_switch, link_of_function}
 use Rattle.topology.specs.Places.{upstream_place, downstream_place}
 use Rattle.topology.specs.Topologies.{IsEnd, IsFromElsewhere, IsLink, IsPlace, IsSound, tree_of}
+use Rattle.topology.proofs.Members.{any_found}
+pub use Rattle.topology.proofs.Members.{listed}
 use Rattle.topology.proofs.Ends.{no_switch, no_function, root_is_end, upstream_is_end, downstream_is_end, switch_found}
 
 above_is_end : (platform : Platform) (port : Option PortLine) → IsEnd (lanes_of platform) (end_above platform port)
 above_is_end platform None = root_is_end platform
 above_is_end platform (Some port) = downstream_is_end platform port
-
--- an element that passes is found
-pub listed : {X : Type 0} (p : X → Bool) (xs : List X) (k : ℕ) (d : X) → k < length xs → p (get_or xs k d) ≡ true → position p xs ≡ Some (position_or_len p xs)
-listed {X} p xs k d less passes = go (cases_lt k (position_or_len p xs))
-  where
-    go : (k < position_or_len p xs) ⊎ (position_or_len p xs ≤ k) → position p xs ≡ Some (position_or_len p xs)
-    go (inl before) = let fails : p (get_or xs k d) ≡ false = fails_before_first p xs k d before in absurd cc
-    go (inr after) = let within : nat_lt (position_or_len p xs) (length xs) ≡ true = lt-ltb (position_or_len p xs) (length xs) (omega arith) in
-        ap (λ (b : Bool). cond {A = Option ℕ} b (Some (position_or_len p xs)) None) within
 
 -- a port's buses come after its own
 inside_after : (above : Option PortLine) (port : PortLine) → is_inside above port ≡ true → bus_of port.id < port.secondary
@@ -104,14 +97,6 @@ upstream_apart platform switch k d nested hung less is same =
     upstream_apart_at platform switch place (port_above platform.ports switch) facts.0 (eqb-true _ _ facts.1) (λ port e. hung_below platform switch switch.above port nested hung e) (same ∙ node)
 
 -- ---- a downstream port
-
--- what stands somewhere is found
-any_found : {X : Type 0} (p : X → Bool) (xs : List X) → list_any p xs ≡ true → position p xs ≡ None → ⊥
-any_found {X} p xs h none =
-    let any = Any-from_list_any p xs h in
-    let found = listed p xs any.0 any.1 any.2 (ap p any.3 ∙ any.4) in
-    let clash : ◌≡◌ {A = Option ℕ} (Some (position_or_len p xs)) None = sym found ∙ none in
-    cc
 
 taken_none : (switch function : Bool) → (switch || function) ≡ true → (switch ≡ true → ⊥) → (function ≡ true → ⊥) → ⊥
 taken_none true function h s f = s refl

@@ -1,11 +1,13 @@
 //! Where links and the ports of switches stand in the tree of a layout.
 #![tactic(auto)]
 
+mod laws;
 mod links;
 mod nodes;
 mod places;
 mod topology;
 
+pub use laws::links_have_ends_of_their_own;
 pub use links::Link;
 pub use nodes::LinkEnd;
 pub use places::PortPlace;
