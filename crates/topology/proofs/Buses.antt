@@ -1,8 +1,7 @@
 -- The buses below the ports of a platform: the ports below which a bus stands are each above the next, and so a
 -- port is known by the first bus below it.
-use Rattle.std.proofs.Common.{◌≡◌, ℕ, zero, suc, ◌+◌, ◌*◌, ◌/◌, ◌<◌, ◌≤◌, ◌==◌, ◌⊎◌, inl, inr, Bool, true, false, cond, List, Option, Some, None, refl, sym, ap, ◌∙◌, arith, subst, eqb-true, eq-eqb, le-leb}
-use Rattle.std.specs.Prelude.{◌&&◌, not, nat_le, nat_lt, Contains, option_and_then}
-use Rattle.std.specs.List.{list_all}
+use Rattle.std.proofs.Common.{◌≡◌, ℕ, zero, suc, ◌+◌, ◌*◌, ◌/◌, ◌<◌, ◌≤◌, ◌==◌, ◌⊎◌, inl, inr, Bool, true, false, List, Option, Some, None, refl, sym, ap, ◌∙◌, arith, subst, eqb-true, eq-eqb, le-leb}
+use Rattle.std.specs.Prelude.{◌&&◌, not, nat_le, Contains, option_and_then}
 use Rattle.std.proofs.lemmas.Bool.{cases_lt, leb-true, ltb-true}
 use Rattle.fab_types.specs.Id.{bus_of}
 use Rattle.layout.specs.declared.lines.SwitchLine.{SwitchLine}

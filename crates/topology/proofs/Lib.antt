@@ -1,6 +1,10 @@
+pub mod Brought
 pub mod Buses
 pub mod Ends
+pub mod Found
+pub mod Lanes
 pub mod Members
 pub mod OwnEnds
+pub mod Rooted
 pub mod Soundness
 pub mod Standing

@@ -1,11 +1,11 @@
 -- Elements of lists: how tests find them.
-use Rattle.std.proofs.Common.{◌≡◌, ℕ, zero, suc, ◌+◌, ◌<◌, ◌≤◌, ◌⊎◌, inl, inr, Bool, true, false, cond, List, [], ◌∷◌, length, map, get_or, Option, Some, None, refl, sym, ap, ◌∙◌, arith, subst, lt-ltb}
-use Rattle.std.specs.Prelude.{◌&&◌, not, nat_lt, All, Contains, filter}
-use Rattle.std.specs.List.{find, list_all, list_any, position, position_or_len, prefix_len}
+use Rattle.std.proofs.Common.{◌≡◌, ℕ, zero, suc, ◌+◌, ◌<◌, ◌≤◌, ◌⊎◌, inl, inr, Bool, true, false, cond, List, [], ◌∷◌, ◌++◌, length, map, get_or, Option, Some, None, refl, sym, ap, ◌∙◌, arith, subst, lt-ltb}
+use Rattle.std.specs.Prelude.{not, nat_lt, Contains, filter}
+use Rattle.std.specs.List.{find, list_all, list_any, position, position_or_len}
 use Rattle.std.proofs.lemmas.Bool.{cases_lt}
 use Rattle.std.proofs.lemmas.Option.{same_Some}
 use Rattle.std.proofs.lemmas.List.{get_or_default, get_or-map, length-map}
-use Rattle.std.proofs.lemmas.List.Elements.{All-contains, All-contains_itself, All-filter, Contains-get_or, filter_passes}
+use Rattle.std.proofs.lemmas.List.Elements.{All-append, All-contains, All-contains_itself, All-filter, All-map, Contains-get_or, filter_passes}
 use Rattle.std.proofs.lemmas.List.Folds.{Any-from_list_any, list_any_at}
 use Rattle.std.proofs.lemmas.List.Sums.{AllPass-from_list_all, list_all-from_AllPass, fails_before_first, position_or_len_is}
 use Rattle.layout.specs.Laws.{each_pair}
@@ -130,6 +130,20 @@ pairs_kept {X} p r (x ∷ xs) h = go (pairs_kept p r xs (and-second (list_all (r
     go : each_pair r (filter p xs) ≡ true → (b : Bool) → each_pair r (cond b (x ∷ filter p xs) (filter p xs)) ≡ true
     go rest true = and-both (list_all (r x) (filter p xs)) (each_pair r (filter p xs)) (all_kept p (r x) xs (and-first (list_all (r x) xs) (each_pair r xs) h)) rest
     go rest false = rest
+
+pub pairs_appended : {X : Type 0} (r : X → X → Bool) (xs ys : List X) → each_pair r xs ≡ true → each_pair r ys ≡ true → ((x y : X) → Contains xs x → Contains ys y → r x y ≡ true) → each_pair r (xs ++ ys) ≡ true
+pairs_appended r [] ys h k across = k
+pairs_appended r (x ∷ xs) ys h k across =
+    and-both (list_all (r x) (xs ++ ys)) (each_pair r (xs ++ ys))
+    (list_all-from_AllPass (r x) (xs ++ ys) (All-append (λ y. r x y ≡ true) xs ys (AllPass-from_list_all (r x) xs (and-first (list_all (r x) xs) (each_pair r xs) h)) (λ n d less. across x (get_or ys n d) (here x xs) (Contains-get_or ys n d less))))
+    (pairs_appended r xs ys (and-second (list_all (r x) xs) (each_pair r xs) h) k (λ y z within listed. across y z (later x y xs within) listed))
+
+pub pairs_mapped : {X Y : Type 0} (f : X → Y) (r : X → X → Bool) (s : Y → Y → Bool) (xs : List X) → ((x y : X) → r x y ≡ true → s (f x) (f y) ≡ true) → each_pair r xs ≡ true → each_pair s (map f xs) ≡ true
+pairs_mapped f r s [] fits h = refl
+pairs_mapped f r s (x ∷ xs) fits h =
+    and-both (list_all (s (f x)) (map f xs)) (each_pair s (map f xs))
+    (list_all-from_AllPass (s (f x)) (map f xs) (All-map (λ y. s (f x) y ≡ true) f xs (λ n d less. fits x (get_or xs n d) (AllPass-from_list_all (r x) xs (and-first (list_all (r x) xs) (each_pair r xs) h) n d less))))
+    (pairs_mapped f r s xs fits (and-second (list_all (r x) xs) (each_pair r xs) h))
 
 -- ---- positions
 

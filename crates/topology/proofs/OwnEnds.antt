@@ -1,5 +1,5 @@
 -- No two directions of a platform's links are sent from one end.
-use Rattle.std.proofs.Common.{◌≡◌, ℕ, zero, suc, ◌+◌, ◌<◌, ◌≤◌, ◌==◌, ◌⊎◌, inl, inr, Bool, true, false, List, length, get_or, Option, Some, None, refl, sym, ap, ◌∙◌, arith, subst, eqb-true, eq-eqb}
+use Rattle.std.proofs.Common.{◌≡◌, ℕ, suc, ◌+◌, ◌<◌, ◌==◌, ◌⊎◌, inl, inr, Bool, true, false, length, get_or, Option, Some, None, refl, sym, ap, ◌∙◌, arith, subst, eqb-true, eq-eqb}
 use Rattle.std.specs.Prelude.{◌||◌, not, Contains}
 use Rattle.std.specs.List.{position}
 use Rattle.std.specs.Option.{option_map, option_map_or}
@@ -19,11 +19,11 @@ use Rattle.layout.proofs.Bools.{and-first}
 use Rattle.topology.specs.declared.links.Link.{Link}
 use Rattle.topology.specs.declared.nodes.LinkEnd.{LinkEnd}
 use Rattle.topology.specs.Links.{link_at, links_of, sender_of, sending_end}
-use Rattle.topology.specs.Nodes.{downstream_end, end_of_port, function_end, lane_of, ports_on, root_end, upstream_end, upstream_end_at}
-use Rattle.topology.proofs.Buses.{StandsOn, port_stands}
+use Rattle.topology.specs.Nodes.{downstream_end, end_of_port, function_end, ports_on, root_end, upstream_end, upstream_end_at}
+use Rattle.topology.proofs.Buses.{port_stands}
 use Rattle.topology.proofs.Ends.{no_function, no_switch, switch_found}
 use Rattle.topology.proofs.Members.{any_found, found, kept, paired, some_passes}
-use Rattle.topology.proofs.Standing.{IsLinkOf, IsSentDown, link_is, one_link}
+use Rattle.topology.proofs.Standing.{IsLinkOf, IsSentDown, link_is}
 
 -- ---- up
 
@@ -199,13 +199,25 @@ module _ (platform : Platform) (laws : IsPlatform platform) where
           let is = found (λ l. l.lower == direction.lower) (links_of platform) link (sym at) in
           (link, is.0, eqb-true _ _ is.1, same_Some _ _ e)
 
+  same_direction : (one other : Direction) → one.lower ≡ other.lower → one.way ≡ other.way → one ≡ other
+  same_direction one other lower way =
+      ap (λ (n : ℕ). record { lower = n; way = one.way }) lower ∙ ap (λ (w : Way). record { lower = other.lower; way = w }) way
+
   pub directions_apart : (one other : Direction) (end : LinkEnd) → sender_of (links_of platform) one ≡ Some end → sender_of (links_of platform) other ≡ Some end → one ≡ other
   directions_apart one other end e h =
       let from = sender_link one end e in
       let again = sender_link other end h in
       let same = ends_apart from.0 again.0 one.way other.way from.1 again.1 (from.3 ∙ sym again.3) in
       same_direction one other (sym from.2 ∙ same.0 ∙ again.2) same.1
+
+  -- from the lane of a port, packets are sent down to what stands below it
+  pub down_alone : (port : PortLine) (direction : Direction) → Contains platform.ports port → sender_of (links_of platform) direction ≡ Some (downstream_end platform port) → direction ≡ record { lower = id_below port; way = Down }
+  down_alone port direction listed e =
+      let from = sender_link direction (downstream_end platform port) e in
+      let is = link_is platform laws from.0 from.1 in
+      let at = go from.0 direction.way is from.3 in
+      same_direction direction (record { lower = id_below port; way = Down }) (sym from.2 ∙ at.0) at.1
     where
-      same_direction : (one other : Direction) → one.lower ≡ other.lower → one.way ≡ other.way → one ≡ other
-      same_direction one other lower way =
-          ap (λ (n : ℕ). record { lower = n; way = one.way }) lower ∙ ap (λ (w : Way). record { lower = other.lower; way = w }) way
+      go : (link : Link) (way : Way) → IsLinkOf platform link → sending_end way link ≡ downstream_end platform port → (link.lower ≡ id_below port) × (way ≡ Down)
+      go link Up is at = absurd (up_down link.lower port link.below (subst (λ (end : LinkEnd). IsSentUp platform link.lower end) (sym is.below) (sent_up platform link.lower is.taken)) listed at)
+      go link Down is at = (both_down link.lower (id_below port) link.above is.above (inr (port, listed, refl, at)), refl)

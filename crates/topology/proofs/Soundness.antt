@@ -1,12 +1,11 @@
 -- The tree of a platform: each end is a lane that there is, and what comes into a port comes from another node.
-use Rattle.std.proofs.Common.{◌≡◌, ◌≢◌, ℕ, suc, ◌+◌, ◌*◌, ◌/◌, ◌<◌, ◌≤◌, ◌==◌, ◌⊎◌, inl, inr, Bool, true, false, cond, List, [], ◌∷◌, ◌++◌, length, map, get_or, Option, Some, None, refl, sym, ap, ◌∙◌, arith, subst, eqb-true, eq-eqb, nat_lt}
-use Rattle.std.specs.Prelude.{◌&&◌, ◌||◌, All, option_and_then}
-use Rattle.std.specs.List.{find, list_all, list_any, position, position_or_len}
-use Rattle.std.proofs.lemmas.Bool.{cases_lt, lt-ltb, ltb-true}
+use Rattle.std.proofs.Common.{◌≡◌, ◌≢◌, ℕ, ◌+◌, ◌*◌, ◌<◌, ◌≤◌, ◌==◌, Bool, true, false, cond, List, length, get_or, Option, Some, None, refl, sym, ap, ◌∙◌, arith, subst, eqb-true, eq-eqb}
+use Rattle.std.specs.Prelude.{◌||◌, All, option_and_then}
+use Rattle.std.specs.List.{list_all, position, position_or_len}
+use Rattle.std.proofs.lemmas.Bool.{ltb-true}
 use Rattle.std.proofs.lemmas.List.Elements.{All-append, All-map}
 use Rattle.std.proofs.lemmas.List.Quantifiers.{position-Some}
-use Rattle.std.proofs.lemmas.List.Folds.{Any-from_list_any}
-use Rattle.std.proofs.lemmas.List.Sums.{AllPass-from_list_all, fails_before_first}
+use Rattle.std.proofs.lemmas.List.Sums.{AllPass-from_list_all}
 use Rattle.fab_types.specs.Id.{bus_of}
 use Rattle.layout.specs.declared.lines.SwitchLine.{SwitchLine}
 use Rattle.layout.specs.declared.lines.PortLine.{PortLine}
@@ -16,16 +15,13 @@ use Rattle.layout.specs.Owners.{is_function}
 use Rattle.layout.specs.Platform.{Platform}
 use Rattle.layout.specs.Tree.{id_below, internal_bus, is_switch, is_taken, port_above, port_at, port_over, switch_on}
 use Rattle.layout.proofs.Bools.{all-found, and-first, and-second}
-use Rattle.topology.specs.declared.nodes.LinkEnd.{LinkEnd}
-use Rattle.topology.specs.declared.links.Link.{Link}
-use Rattle.topology.specs.declared.places.PortPlace.{PortPlace}
 use Rattle.topology.specs.Nodes.{lanes_of, downstream_end, upstream_end, upstream_end_at, end_of_port, function_end}
 use Rattle.topology.specs.Links.{end_above, link_of_switch, link_of_function}
 use Rattle.topology.specs.Places.{upstream_place, downstream_place}
 use Rattle.topology.specs.Topologies.{IsEnd, IsFromElsewhere, IsLink, IsPlace, IsSound, tree_of}
 use Rattle.topology.proofs.Members.{any_found}
 pub use Rattle.topology.proofs.Members.{listed}
-use Rattle.topology.proofs.Ends.{no_switch, no_function, root_is_end, upstream_is_end, downstream_is_end, switch_found}
+use Rattle.topology.proofs.Ends.{no_switch, root_is_end, upstream_is_end, downstream_is_end, switch_found}
 
 above_is_end : (platform : Platform) (port : Option PortLine) → IsEnd (lanes_of platform) (end_above platform port)
 above_is_end platform None = root_is_end platform

@@ -1,7 +1,6 @@
 -- What stands below the ports of a platform: an ID tells the port directly above it, and so its link.
-use Rattle.std.proofs.Common.{◌≡◌, ℕ, zero, suc, ◌+◌, ◌*◌, ◌/◌, ◌<◌, ◌≤◌, ◌==◌, ◌⊎◌, inl, inr, Bool, true, false, cond, List, ◌++◌, map, Option, Some, None, refl, sym, ap, ◌∙◌, arith, subst, eqb-true, eq-eqb}
-use Rattle.std.specs.Prelude.{◌&&◌, ◌||◌, Contains}
-use Rattle.std.specs.List.{find, list_any}
+use Rattle.std.proofs.Common.{◌≡◌, ℕ, ◌+◌, ◌*◌, ◌/◌, ◌<◌, ◌==◌, ◌⊎◌, inl, inr, Bool, true, false, List, map, Option, Some, None, refl, sym, ap, ◌∙◌, arith, subst, eqb-true, eq-eqb}
+use Rattle.std.specs.Prelude.{◌||◌, Contains}
 use Rattle.std.proofs.lemmas.List.Elements.{Contains-append_cases, Contains-append_left, Contains-append_right}
 use Rattle.fab_types.specs.Id.{bus_of}
 use Rattle.layout.specs.declared.lines.SwitchLine.{SwitchLine}
@@ -15,7 +14,7 @@ use Rattle.topology.specs.declared.links.Link.{Link}
 use Rattle.topology.specs.declared.nodes.LinkEnd.{LinkEnd}
 use Rattle.topology.specs.Links.{end_above, link_at, link_of_function, link_of_switch, links_of}
 use Rattle.topology.specs.Nodes.{downstream_end, root_end, upstream_end}
-use Rattle.topology.proofs.Buses.{AreNested, Holds, IsAbove, IsTop, IsWithin, above_bus, buses, nested_ports, one_below, port_stands, switch_above}
+use Rattle.topology.proofs.Buses.{AreNested, IsAbove, IsTop, IsWithin, above_bus, buses, nested_ports, one_below, switch_above}
 use Rattle.topology.proofs.Members.{found, found_alone, mapped, mapped_from, passes, passing, some_passes}
 
 -- ---- IDs of switches
@@ -36,7 +35,7 @@ module _ (platform : Platform) (laws : IsPlatform platform) where
       go (inr (port, is)) = below_bus switch.id port.secondary is.below
 
   -- nothing stands on bus 1 but the top switch
-  not_top : (port : PortLine) → Contains platform.ports port → 256 ≡ id_below port → ⊥
+  pub not_top : (port : PortLine) → Contains platform.ports port → 256 ≡ id_below port → ⊥
   not_top port within e = let has = buses platform laws port within in let own = has.own in let after = has.after in omega (arith, own, after, e)
 
   -- no upstream port has the ID of a downstream port
@@ -86,11 +85,11 @@ pub record IsLinkOf (platform : Platform) (link : Link) : Type 0 where
   pub below : link.below ≡ upstream_end platform link.lower
   pub above : IsSentDown platform link.lower link.above
 
-or_left : (a b : Bool) → a ≡ true → (a || b) ≡ true
+pub or_left : (a b : Bool) → a ≡ true → (a || b) ≡ true
 or_left true b h = refl
 or_left false b h = absurd cc
 
-or_right : (a b : Bool) → b ≡ true → (a || b) ≡ true
+pub or_right : (a b : Bool) → b ≡ true → (a || b) ≡ true
 or_right true b h = refl
 or_right false b h = h
 
@@ -168,10 +167,14 @@ module _ (platform : Platform) (laws : IsPlatform platform) where
 
 -- ---- and back
 
+pub link_of_listed : (platform : Platform) (switch : SwitchLine) → Contains platform.switches switch → Contains (links_of platform) (link_of_switch platform switch)
+link_of_listed platform switch within =
+    Contains-append_left (map (link_of_switch platform) platform.switches) (map (link_of_function platform) platform.functions) (link_of_switch platform switch) (mapped (link_of_switch platform) platform.switches switch within)
+
 link_of_any_switch : (platform : Platform) (id : ℕ) → is_switch platform.switches id ≡ true → (link : Link) × Contains (links_of platform) link × (link.lower ≡ id)
 link_of_any_switch platform id h =
     let switch = passing (λ s. s.id == id) platform.switches h in
-    (link_of_switch platform switch.0, Contains-append_left (map (link_of_switch platform) platform.switches) (map (link_of_function platform) platform.functions) (link_of_switch platform switch.0) (mapped (link_of_switch platform) platform.switches switch.0 switch.1), eqb-true _ _ switch.2)
+    (link_of_switch platform switch.0, link_of_listed platform switch.0 switch.1, eqb-true _ _ switch.2)
 
 link_of_any_function : (platform : Platform) (id : ℕ) → is_function platform.functions id ≡ true → (link : Link) × Contains (links_of platform) link × (link.lower ≡ id)
 link_of_any_function platform id h =

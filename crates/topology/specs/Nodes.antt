@@ -1,7 +1,7 @@
 -- The nodes of a tree are the root complex, its switches and its functions, in this order, the last two as the layout
 -- lists them (PCIe 4.0, 1.3). Out of a node lead links, each from a lane: the root complex and a function have lane 0
 -- alone; of a switch lane 0 leads up, and the lanes from 1 on lead out of its downstream ports.
-use Rattle.std.specs.Prelude.{ℕ, suc, ◌+◌, ◌==◌, List, [], ◌∷◌, ◌++◌, length, count_by, map, Option, Some, None}
+use Rattle.std.specs.Prelude.{ℕ, suc, ◌+◌, ◌==◌, List, ◌∷◌, ◌++◌, length, count_by, map, Option, Some, None}
 use Rattle.std.specs.List.{filter, position}
 use Rattle.std.specs.Option.{option_map_or}
 use Rattle.fab_types.specs.Id.{bus_of}

@@ -5,7 +5,6 @@ use Rattle.layout.specs.declared.lines.SwitchLine.{SwitchLine}
 use Rattle.layout.specs.declared.lines.PortLine.{PortLine}
 use Rattle.layout.specs.Platform.{Platform}
 use Rattle.layout.specs.Tree.{id_below, is_taken, port_above}
-use Rattle.topology.specs.declared.nodes.LinkEnd.{LinkEnd}
 use Rattle.topology.specs.declared.places.PortPlace.{PortPlace}
 use Rattle.topology.specs.Links.{end_above}
 use Rattle.topology.specs.Nodes.{downstream_end, upstream_end}

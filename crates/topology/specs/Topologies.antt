@@ -1,5 +1,5 @@
 -- What a contract sees of a topology.
-use Rattle.std.specs.Prelude.{◌≡◌, ◌≢◌, ℕ, ◌<◌, ⊤, List, All, length, slice_index_or, Option, Some, None}
+use Rattle.std.specs.Prelude.{◌≢◌, ℕ, ◌<◌, ⊤, List, All, length, slice_index_or, Option, Some, None}
 use Rattle.layout.specs.Platform.{Platform}
 use Rattle.topology.specs.declared.links.Link.{Link}
 use Rattle.topology.specs.declared.nodes.LinkEnd.{LinkEnd}

@@ -7,7 +7,10 @@ mod nodes;
 mod places;
 mod topology;
 
-pub use laws::links_have_ends_of_their_own;
+pub use laws::{
+    lanes_lead_to_links, links_have_ends_of_their_own, places_are_found,
+    ports_take_what_links_bring, root_sends_down,
+};
 pub use links::Link;
 pub use nodes::LinkEnd;
 pub use places::PortPlace;

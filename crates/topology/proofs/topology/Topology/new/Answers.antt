@@ -3,7 +3,6 @@ use Rattle.topology.specs.declared.links.Link.{Link}
 use Rattle.topology.specs.declared.places.PortPlace.{PortPlace}
 use Rattle.topology.specs.Links.{links_of}
 use Rattle.topology.specs.Nodes.{lanes_of}
-use Rattle.topology.specs.Places.{places_of}
 use Rattle.topology.specs.Topologies.{IsSound}
 use Rattle.topology.proofs.Soundness.{sound}
 use Rattle.topology.proofs.topology.Topology.new.Goals as goal
