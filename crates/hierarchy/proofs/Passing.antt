@@ -112,9 +112,9 @@ refused_lanes (x ∷ xs) = ap (λ (l : List (Class → Bool)). may_refuse_of x �
 
 -- ---- both nodes among all
 
-module _ {K : Type 0} (refuses : K → Descriptor → ℕ → Option Descriptor → K → Type 0) (unknown : K → Descriptor → ℕ → Type 0) (is_sure : Bool) (routes : Routes) (class : Class) (outcome : Outcome) (known known' : K) (reported reported' : List Violation)
+module _ {K : Type 0} (refuses : K → Descriptor → ℕ → Option Descriptor → K → Type 0) (unknown wants : K → Descriptor → ℕ → Type 0) (is_sure : Bool) (routes : Routes) (class : Class) (outcome : Outcome) (known known' : K) (reported reported' : List Violation)
     (port port' : PortView) (nodes nodes' : List (List SimplexView)) (node : ℕ) (input : LinkEnd) (from from' to to' : List SimplexView) (b : Between nodes nodes' node input from from' to to')
-    (n : NodesTurned refuses unknown is_sure routes class outcome input.lane known known' reported reported' port port' from from' to to') where
+    (n : NodesTurned refuses unknown wants is_sure routes class outcome input.lane known known' reported reported' port port' from from' to to') where
   abbrev others : List (List SimplexView)
   others = set nodes node to'
 
@@ -169,13 +169,13 @@ module _ {K : Type 0} (refuses : K → Descriptor → ℕ → Option Descriptor 
   refused_was : map refused_by (get_or (channels_of nodes) node []) ≡ map may_refuse_of to
   refused_was = ap (map refused_by) lanes_were ∙ refused_lanes to
 
-  pub turned_among : Turned refuses unknown is_sure routes class outcome port port' (map refused_by (get_or (channels_of nodes) node [])) (sight_at (channels_of nodes) node input known reported port) (sight_at (channels_of nodes') node input known' reported' port')
+  pub turned_among : Turned refuses unknown wants is_sure routes class outcome port port' (map refused_by (get_or (channels_of nodes) node [])) (sight_at (channels_of nodes) node input known reported port) (sight_at (channels_of nodes') node input known' reported' port')
   turned_among =
-      subst (λ (r : List (Class → Bool)). Turned refuses unknown is_sure routes class outcome port port' r (sight_at (channels_of nodes) node input known reported port) (sight_at (channels_of nodes') node input known' reported' port')) (sym refused_was)
-      (subst (λ (w : List Descriptor). Turned refuses unknown is_sure routes class outcome port port' (map may_refuse_of to) (sight_with w (map egress_of (get_or (channels_of nodes) node [])) known reported port) (sight_at (channels_of nodes') node input known' reported' port')) (sym received_was)
-      (subst (λ (o : List (List Descriptor)). Turned refuses unknown is_sure routes class outcome port port' (map may_refuse_of to) (sight_with (received_by n.input) o known reported port) (sight_at (channels_of nodes') node input known' reported' port')) (sym sent_was)
-      (subst (λ (w : List Descriptor). Turned refuses unknown is_sure routes class outcome port port' (map may_refuse_of to) (sight_with (received_by n.input) (map sent_by to) known reported port) (sight_with w (map egress_of (get_or (channels_of nodes') node [])) known' reported' port')) (sym received_is)
-      (subst (λ (o : List (List Descriptor)). Turned refuses unknown is_sure routes class outcome port port' (map may_refuse_of to) (sight_with (received_by n.input) (map sent_by to) known reported port) (sight_with (received_by n.input') o known' reported' port')) (sym sent_is)
+      subst (λ (r : List (Class → Bool)). Turned refuses unknown wants is_sure routes class outcome port port' r (sight_at (channels_of nodes) node input known reported port) (sight_at (channels_of nodes') node input known' reported' port')) (sym refused_was)
+      (subst (λ (w : List Descriptor). Turned refuses unknown wants is_sure routes class outcome port port' (map may_refuse_of to) (sight_with w (map egress_of (get_or (channels_of nodes) node [])) known reported port) (sight_at (channels_of nodes') node input known' reported' port')) (sym received_was)
+      (subst (λ (o : List (List Descriptor)). Turned refuses unknown wants is_sure routes class outcome port port' (map may_refuse_of to) (sight_with (received_by n.input) o known reported port) (sight_at (channels_of nodes') node input known' reported' port')) (sym sent_was)
+      (subst (λ (w : List Descriptor). Turned refuses unknown wants is_sure routes class outcome port port' (map may_refuse_of to) (sight_with (received_by n.input) (map sent_by to) known reported port) (sight_with w (map egress_of (get_or (channels_of nodes') node [])) known' reported' port')) (sym received_is)
+      (subst (λ (o : List (List Descriptor)). Turned refuses unknown wants is_sure routes class outcome port port' (map may_refuse_of to) (sight_with (received_by n.input) (map sent_by to) known reported port) (sight_with (received_by n.input') o known' reported' port')) (sym sent_is)
       n.turned))))
 
   pub channels_among : channels_of nodes' ≡ passed_over (channels_of nodes) node input (channel_at (channels_of nodes') input).ingress (map egress_of (get_or (channels_of nodes') node []))

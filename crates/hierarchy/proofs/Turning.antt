@@ -36,17 +36,17 @@ kept_with_port h now nodes i port port' kept whole lengths within is config =
     let less : i < length h.ports = (let same = kept.many in omega arith) in
     subst (λ (ns : List (List SimplexView)). IsKept (with_port h ns i port')) (sym whole) (kept_passed h nodes i port port' kept lengths less (config ∙ ap (λ (p : PortView). p.config) is))
 
-module _ {K : Type 0} (refuses : K → Descriptor → ℕ → Option Descriptor → K → Type 0) (unknown : K → Descriptor → ℕ → Type 0) (is_sure : Bool) (class : Class) (outcome : Outcome) (known known' : K) (reported reported' : List Violation)
+module _ {K : Type 0} (refuses : K → Descriptor → ℕ → Option Descriptor → K → Type 0) (unknown wants : K → Descriptor → ℕ → Type 0) (is_sure : Bool) (class : Class) (outcome : Outcome) (known known' : K) (reported reported' : List Violation)
     (h : HierarchyView) (was now nodes : List (List SimplexView)) (i : ℕ) (port port' : PortView) where
   abbrev pub TurnedIn : List (List SimplexView) → List (List SimplexView) → PortView → PortView → ℕ → LinkEnd → Type 0
   TurnedIn ns ns' p p' node input =
-      Turned refuses unknown is_sure h.routes class outcome p p' (map refused_by (get_or (channels_of ns) node [])) (sight_at (channels_of ns) node input known reported p) (sight_at (channels_of ns') node input known' reported' p')
+      Turned refuses unknown wants is_sure h.routes class outcome p p' (map refused_by (get_or (channels_of ns) node [])) (sight_at (channels_of ns) node input known reported p) (sight_at (channels_of ns') node input known' reported' p')
 
   abbrev pub PassedIn : List (List SimplexView) → List (List SimplexView) → ℕ → LinkEnd → Type 0
   PassedIn ns ns' node input = channels_of ns' ≡ passed_over (channels_of ns) node input (channel_at (channels_of ns') input).ingress (map egress_of (get_or (channels_of ns') node []))
 
   pub has_turn : (node : ℕ) (input : LinkEnd) → was ≡ h.nodes → now ≡ nodes → i < length h.ports → port ≡ get_or h.ports i port → TurnedIn was nodes port port' node input → PassedIn was nodes node input
-      → HasTurn refuses unknown is_sure class outcome known known' reported reported' h (with_port h now i port') i node input
+      → HasTurn refuses unknown wants is_sure class outcome known known' reported reported' h (with_port h now i port') i node input
   has_turn node input before after within is turned passed =
       let old : port ≡ get_or h.ports i no_port = get_or_read h.ports i port within is no_port in
       let new : port' ≡ get_or (set h.ports i port') i no_port = sym (get_or-set_same h.ports i port' no_port within) in
@@ -67,11 +67,11 @@ module _ {K : Type 0} (refuses : K → Descriptor → ℕ → Option Descriptor 
   -- the port of the ID is the one that had its turn
   pub passes : (id : ℕ) (place : PortPlace) (input : LinkEnd) → IsKept h → Some i ≡ index_of h.tree.places id → i < length h.tree.places → place ≡ get_or h.tree.places i place → place.input ≡ Some input
       → was ≡ h.nodes → now ≡ nodes → port ≡ get_or h.ports i port → TurnedIn was nodes port port' place.node input → PassedIn was nodes place.node input
-      → Passes refuses unknown is_sure class outcome known known' reported reported' h (with_port h now i port') (index_of h.tree.places id)
+      → Passes refuses unknown wants is_sure class outcome known known' reported reported' h (with_port h now i port') (index_of h.tree.places id)
   passes id place input kept found within here comes before after is turned passed =
       let less : i < length h.ports = (let same = kept.many in omega arith) in
       let at : place ≡ get_or h.tree.places i no_place = get_or_read h.tree.places i place within here no_place in
-      let From : ℕ → Option LinkEnd → Type 0 = PassesFrom refuses unknown is_sure class outcome known known' reported reported' h (with_port h now i port') i in
-      subst (λ (o : Option ℕ). Passes refuses unknown is_sure class outcome known known' reported reported' h (with_port h now i port') o) found
+      let From : ℕ → Option LinkEnd → Type 0 = PassesFrom refuses unknown wants is_sure class outcome known known' reported reported' h (with_port h now i port') i in
+      subst (λ (o : Option ℕ). Passes refuses unknown wants is_sure class outcome known known' reported reported' h (with_port h now i port') o) found
       (subst (λ (q : PortPlace). From q.node q.input) at
       (subst (λ (o : Option LinkEnd). From place.node o) (sym comes) (has_turn place.node input before after less is turned passed)))

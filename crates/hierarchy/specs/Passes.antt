@@ -3,7 +3,7 @@ use Rattle.std.specs.List.{position}
 use Rattle.std.specs.Prelude.{◌≡◌, ◌≢◌, ◌==◌, ℕ, Bool, true, false, List, [], ◌∷◌, map, slice_index_or, slice_set, Option, Some, None}
 use Rattle.std.specs.Option.{IfSome}
 use Rattle.fab_types.specs.declared.outcome.Outcome.{Outcome}
-use Rattle.fab_types.specs.declared.outcome.Outcome.TheVariants.{Idle, Moved}
+use Rattle.fab_types.specs.declared.outcome.Outcome.TheVariants.{Idle, Moved, NoMemory}
 use Rattle.fab_types.specs.declared.violation.Violation.{Violation}
 use Rattle.frame_log.specs.Descriptor.{Descriptor}
 use Rattle.bridge.specs.Bridges.{Tree as Routes}
@@ -14,6 +14,7 @@ use Rattle.port.specs.Lanes.{Class, class_of}
 use Rattle.port.specs.Queues.{frames_of}
 use Rattle.port.specs.Steps.{IsOfTurn}
 use Rattle.port.specs.Turns.{Moves, PortView, Rests, Sight, sight_with}
+use Rattle.port.specs.Wants.{WantsMemory}
 use Rattle.topology.specs.declared.nodes.LinkEnd.{LinkEnd}
 use Rattle.topology.specs.declared.places.PortPlace.{PortPlace}
 use Rattle.hierarchy.specs.Views.{HierarchyView, IsSameRest, channels}
@@ -39,20 +40,21 @@ may_refuse_of s class = is_full class (channel s)
 
 -- What a turn of a port does, where its lanes are those of links: it moves one packet, or rests. It is idle exactly where
 -- it is blocked, if it began with nothing held and nothing kept.
-pub record Turned {K : Type 0} (refuses : K → Descriptor → ℕ → Option Descriptor → K → Type 0) (unknown : K → Descriptor → ℕ → Type 0) (is_sure : Bool) (routes : Routes) (class : Class) (outcome : Outcome) (port port' : PortView)
+pub record Turned {K : Type 0} (refuses : K → Descriptor → ℕ → Option Descriptor → K → Type 0) (unknown wants : K → Descriptor → ℕ → Type 0) (is_sure : Bool) (routes : Routes) (class : Class) (outcome : Outcome) (port port' : PortView)
     (refusing : List (Class → Bool)) (s t : Sight K) : Type 0 where
   pub moved : outcome ≡ Moved → Moves refuses unknown routes port.config class s t
   pub rests : outcome ≢ Moved → Rests port.config.own s t
   pub waits : (v : Violation) → port.held ≡ Some v → (t.waiting ≡ s.waiting) × (t.outs ≡ s.outs)
   pub blocked : port.held ≡ None → port.kept ≡ None → outcome ≡ Idle → is_blocked routes port.config refusing class s.waiting ≡ true
   pub free : port.held ≡ None → port.kept ≡ None → outcome ≢ Idle → is_blocked routes port.config refusing class s.waiting ≡ false
+  pub memory : outcome ≡ NoMemory → WantsMemory wants unknown routes port.config s.known class s.waiting
   pub kept : port.kept ≡ None → IfSome port'.kept (λ answer. may_refuse_at refusing port.config.own (class_of answer) ≡ true)
   pub held : is_sure ≡ true → port.held ≡ None → port'.held ≡ None
   pub answer : IsOfTurn outcome
   pub config : port'.config ≡ port.config
 
 -- the same between two nodes: one lane of the first is another, and what waits at the senders of the second
-pub record NodesTurned {K : Type 0} (refuses : K → Descriptor → ℕ → Option Descriptor → K → Type 0) (unknown : K → Descriptor → ℕ → Type 0) (is_sure : Bool) (routes : Routes) (class : Class) (outcome : Outcome) (lane : ℕ)
+pub record NodesTurned {K : Type 0} (refuses : K → Descriptor → ℕ → Option Descriptor → K → Type 0) (unknown wants : K → Descriptor → ℕ → Type 0) (is_sure : Bool) (routes : Routes) (class : Class) (outcome : Outcome) (lane : ℕ)
     (known known' : K) (reported reported' : List Violation) (port port' : PortView) (from from' to to' : List SimplexView) : Type 0 where
   pub input : SimplexView
   pub input' : SimplexView
@@ -60,7 +62,7 @@ pub record NodesTurned {K : Type 0} (refuses : K → Descriptor → ℕ → Opti
   pub left : from' ≡ slice_set from lane input'
   pub behind_it : behind input' ≡ behind input
   pub before_them : map before to' ≡ map before to
-  pub turned : Turned refuses unknown is_sure routes class outcome port port' (map may_refuse_of to) (sight_with (received_by input) (map sent_by to) known reported port) (sight_with (received_by input') (map sent_by to') known' reported' port')
+  pub turned : Turned refuses unknown wants is_sure routes class outcome port port' (map may_refuse_of to) (sight_with (received_by input) (map sent_by to) known reported port) (sight_with (received_by input') (map sent_by to') known' reported' port')
 
 -- ---- among all directions
 
@@ -103,10 +105,10 @@ place_number h i = slice_index_or h.tree.places i no_place
 abbrev pub index_of : List PortPlace → ℕ → Option ℕ
 index_of places id = position (λ place. place.id == id) places
 
-module _ {K : Type 0} (refuses : K → Descriptor → ℕ → Option Descriptor → K → Type 0) (unknown : K → Descriptor → ℕ → Type 0) (is_sure : Bool) (class : Class) (outcome : Outcome) (known known' : K) (reported reported' : List Violation) (old new : HierarchyView) where
+module _ {K : Type 0} (refuses : K → Descriptor → ℕ → Option Descriptor → K → Type 0) (unknown wants : K → Descriptor → ℕ → Type 0) (is_sure : Bool) (class : Class) (outcome : Outcome) (known known' : K) (reported reported' : List Violation) (old new : HierarchyView) where
   -- the port of this number had its turn, at this node and with packets that are sent from this end; all else stays
   pub record HasTurn (i : ℕ) (node : ℕ) (input : LinkEnd) : Type 0 where
-    pub turned : Turned refuses unknown is_sure old.routes class outcome (port_at old i) (port_at new i) (map refused_by (slice_index_or (channels old) node []))
+    pub turned : Turned refuses unknown wants is_sure old.routes class outcome (port_at old i) (port_at new i) (map refused_by (slice_index_or (channels old) node []))
         (sight_at (channels old) node input known reported (port_at old i)) (sight_at (channels new) node input known' reported' (port_at new i))
     pub passed : channels new ≡ passed_over (channels old) node input (channel_at (channels new) input).ingress (map egress_of (slice_index_or (channels new) node []))
     pub others : new.ports ≡ slice_set old.ports i (port_at new i)

@@ -176,7 +176,7 @@ impl Hierarchy {
         desk: &mut D,
         reporter: &mut R,
     ) -> Outcome
-        ensures { Passes D.refuses D.unknown R.is_sure class result (D.known desk.old) (D.known desk.new) (R.reported reporter.old) (R.reported reporter.new) self.old self.new (index_of self.old.tree.places id) }
+        ensures { Passes D.refuses D.unknown D.wants R.is_sure class result (D.known desk.old) (D.known desk.new) (R.reported reporter.old) (R.reported reporter.new) self.old self.new (index_of self.old.tree.places id) }
     {
         let Some(index) = index_of(self.topology.places(), id) else {
             return Outcome::Idle;

@@ -35,7 +35,7 @@ fn turn_between<'a, W: Wait, D: Desk, R: Reporter>(
     reporter: &'a mut R,
 ) -> Outcome
     requires { length outs.old ≡ length port.old.config.exits + 1 }
-    ensures turned { Turned D.refuses D.unknown R.is_sure bridge.now class result port.old port.new (map may_refuse_of outs.old)
+    ensures turned { Turned D.refuses D.unknown D.wants R.is_sure bridge.now class result port.old port.new (map may_refuse_of outs.old)
         (sight_with (received_by input.old) (map sent_by outs.old) (D.known desk.old) (R.reported reporter.old) port.old)
         (sight_with (received_by input.new) (map sent_by outs.new) (D.known desk.new) (R.reported reporter.new) port.new) }
     ensures input { behind input.new ≡ behind input.old }
@@ -65,7 +65,7 @@ fn turn_nodes<'a, W: Wait, D: Desk, R: Reporter>(
 ) -> Outcome
     requires lane { lane < length from.old }
     requires lanes { length to.old ≡ length port.old.config.exits + 1 }
-    ensures turned { NodesTurned D.refuses D.unknown R.is_sure bridge.now class result lane (D.known desk.old) (D.known desk.new) (R.reported reporter.old) (R.reported reporter.new) port.old port.new from.old from.new to.old to.new }
+    ensures turned { NodesTurned D.refuses D.unknown D.wants R.is_sure bridge.now class result lane (D.known desk.old) (D.known desk.new) (R.reported reporter.old) (R.reported reporter.new) port.old port.new from.old from.new to.old to.new }
 {
     turn_between(
         port,
@@ -95,7 +95,7 @@ pub(crate) fn turn_at<'a, W: Wait, D: Desk, R: Reporter>(
     requires node { node < length nodes.old }
     requires apart { input.node ≢ node }
     requires lanes { length (slice_index_or nodes.old node []) ≡ length port.old.config.exits + 1 }
-    ensures turned { Turned D.refuses D.unknown R.is_sure bridge.now class result port.old port.new (map refused_by (slice_index_or (channels_of nodes.old) node []))
+    ensures turned { Turned D.refuses D.unknown D.wants R.is_sure bridge.now class result port.old port.new (map refused_by (slice_index_or (channels_of nodes.old) node []))
         (sight_at (channels_of nodes.old) node input (D.known desk.old) (R.reported reporter.old) port.old)
         (sight_at (channels_of nodes.new) node input (D.known desk.new) (R.reported reporter.new) port.new) }
     ensures channels { channels_of nodes.new ≡ passed_over (channels_of nodes.old) node input (channel_at (channels_of nodes.new) input).ingress (map egress_of (slice_index_or (channels_of nodes.new) node [])) }

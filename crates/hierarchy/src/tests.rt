@@ -111,6 +111,8 @@ impl Desk for Nobody {
 
     ghost unknown = { λ known frame port. ⊤ };
 
+    ghost wants = { λ known frame port. ⊥ };
+
     fn refuse<W: Wait>(
         &mut self,
         _rt: &W,

@@ -6,3 +6,4 @@ pub mod Steps
 pub mod Queues
 pub mod Turns
 pub mod Blocked
+pub mod Wants

@@ -23,6 +23,9 @@ pub trait Desk {
     /// No domain has the packet in flight, or it isn't one that this port refuses.
     ghost unknown: { Known → Descriptor → ℕ → Type 0 };
 
+    /// To refuse this packet by this port, memory is needed.
+    ghost wants: { Known → Descriptor → ℕ → Type 0 };
+
     /// Has the domain that made the packet refuse it. A non-posted request is answered by the port with
     /// a completion for its sender, whose frame is the result. `Stray`: the domain doesn't know the
     /// packet. `NoMemory`: memory was refused. Then nothing changes, and the frame is given back.
@@ -34,5 +37,6 @@ pub trait Desk {
     ) -> Result<Option<Frame>, FrameFault>
         ensures refused { MatchResult result (λ answer. refuses (known self.old) frame port answer (known self.new)) (λ fault. fault_frame fault ≡ frame) }
         ensures stray { IfErr result (λ f. f ≡ fault.Stray frame → unknown (known self.old) frame port) }
+        ensures memory { IfErr result (λ f. f ≡ fault.NoMemory frame → wants (known self.old) frame port) }
         ensures err { OnErr result (known self.new ≡ known self.old) };
 }

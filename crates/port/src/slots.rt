@@ -5,6 +5,7 @@ ghost use Rattle.port.specs.Blocked.{may_refuse_answer, may_refuse_at};
 ghost use Rattle.port.specs.Lanes.{Class, class_of, eligible};
 ghost use Rattle.port.specs.Steps.{ForwardsAt, IsOfTurn, RefusesAt, Strays, with_put};
 ghost use Rattle.port.specs.Vetted.{may_go_on};
+ghost use Rattle.port.specs.Wants.{Awaits};
 
 use crate::desk::Desk;
 use crate::lanes::{LaneIn, LaneOut};
@@ -43,6 +44,7 @@ pub(crate) fn forward_at<I: LaneIn, O: LaneOut>(
     ensures cause { result ≡ Outcome.Idle → (I.misses input.new ≢ I.misses input.old) ⊎ (map O.refusals outs.new ≢ map O.refusals outs.old) }
     ensures blocked { result ≡ Outcome.Idle → (eligible class (I.waiting input.old) ≡ None) ⊎ (may_refuse_at (map O.may_refuse outs.old) lane class ≡ true) }
     ensures free { O.is_sure ≡ true → result ≢ Outcome.Idle → may_refuse_at (map O.may_refuse outs.old) lane class ≡ false }
+    ensures memory { result ≡ Outcome.NoMemory → Awaits class (I.waiting input.old) (λ f. may_go_on is_guarded owner f ≡ false) }
     ensures answer { IsOfTurn result }
     ensures input_lane { I.lane input.new ≡ I.lane input.old }
     ensures lanes { map O.lane outs.new ≡ map O.lane outs.old }
@@ -82,6 +84,7 @@ pub(crate) fn refuse_at<W: Wait, I: LaneIn, O: LaneOut, D: Desk>(
     ensures strayed { result ≡ Refusal.Strayed → (Strays class (λ f. D.unknown (D.known desk.old) f port) (I.waiting input.old) strays.old.items (I.waiting input.new) strays.new.items) × (map O.sent outs.new ≡ map O.sent outs.old) × (D.known desk.new ≡ D.known desk.old) × (kept.new ≡ None) }
     ensures idle { result ≡ Refusal.Idle → (I.waiting input.new ≡ I.waiting input.old) × (map O.sent outs.new ≡ map O.sent outs.old) × (D.known desk.new ≡ D.known desk.old) × (kept.new ≡ None) × (strays.new.items ≡ strays.old.items) }
     ensures memory { result ≡ Refusal.NoMemory → (I.waiting input.new ≡ I.waiting input.old) × (map O.sent outs.new ≡ map O.sent outs.old) × (D.known desk.new ≡ D.known desk.old) × (kept.new ≡ None) × (strays.new.items ≡ strays.old.items) }
+    ensures wants { result ≡ Refusal.NoMemory → Awaits class (I.waiting input.old) (λ f. D.wants (D.known desk.old) f port ⊎ D.unknown (D.known desk.old) f port) }
     ensures cause { result ≡ Refusal.Idle → I.misses input.new ≢ I.misses input.old }
     ensures blocked { result ≡ Refusal.Idle → eligible class (I.waiting input.old) ≡ None }
     ensures kept { IfSome kept.new (λ answer. may_refuse_at (map O.may_refuse outs.old) own (class_of answer) ≡ true) }

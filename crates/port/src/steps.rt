@@ -1,10 +1,11 @@
 //! The steps of a turn, each over the parts that it changes.
 
-ghost use Rattle.std.specs.Prelude.{◌≡◌, ◌≢◌, ◌⊎◌, ◌++◌, ◌∷◌, [], Some, None, IsSome, IfSome, OnOk, true, false, ⊤, option_to_list};
+ghost use Rattle.std.specs.Prelude.{◌≡◌, ◌≢◌, ◌⊎◌, ◌++◌, ◌∷◌, [], Some, None, IsSome, IfSome, OnErr, OnOk, true, false, ⊤, option_to_list};
 ghost use Rattle.port.specs.Blocked.{may_refuse_answer};
 ghost use Rattle.port.specs.Lanes.{Class, class_of, eligible};
 ghost use Rattle.port.specs.Steps.{Forwards, IsOfTurn, Refuses, Strays};
 ghost use Rattle.port.specs.Vetted.{may_go_on};
+ghost use Rattle.port.specs.Wants.{Awaits};
 
 use crate::desk::Desk;
 use crate::lanes::{LaneIn, LaneOut};
@@ -42,6 +43,7 @@ pub(crate) fn prepare<R: Reporter>(
     ensures reported { R.reported reporter.new ≡ R.reported reporter.old }
     ensures counted { R.refusals reporter.new ≡ R.refusals reporter.old }
     ensures room { R.is_sure ≡ true → OnOk result (IfSome report.now (λ _. R.has_room reporter.new ≡ true)) }
+    ensures memory { OnErr result (IsSome report.now) }
 {
     match report {
         Some(_) => reporter.prepare_report(),
@@ -121,6 +123,7 @@ pub(crate) fn forward<I: LaneIn, O: LaneOut>(
     ensures cause { result ≡ Outcome.Idle → (I.misses input.new ≢ I.misses input.old) ⊎ (O.refusals out.new ≢ O.refusals out.old) }
     ensures blocked { result ≡ Outcome.Idle → (eligible class (I.waiting input.old) ≡ None) ⊎ (O.may_refuse out.old class ≡ true) }
     ensures free { O.is_sure ≡ true → result ≢ Outcome.Idle → O.may_refuse out.old class ≡ false }
+    ensures memory { result ≡ Outcome.NoMemory → Awaits class (I.waiting input.old) (λ f. may_go_on is_guarded owner f ≡ false) }
     ensures answer { IsOfTurn result }
     ensures input_lane { I.lane input.new ≡ I.lane input.old }
     ensures lane { O.lane out.new ≡ O.lane out.old }
@@ -150,6 +153,7 @@ pub(crate) fn stray<I: LaneIn>(input: &mut I, strays: &mut Vec<Frame>, class: Cl
     ensures rests { result ≢ Outcome.Moved → (I.waiting input.new ≡ I.waiting input.old) × (strays.new.items ≡ strays.old.items) }
     ensures cause { result ≡ Outcome.Idle → I.misses input.new ≢ I.misses input.old }
     ensures blocked { result ≡ Outcome.Idle → eligible class (I.waiting input.old) ≡ None }
+    ensures memory { result ≡ Outcome.NoMemory → Awaits class (I.waiting input.old) (λ _. ⊤) }
     ensures answer { IsOfTurn result }
     ensures input_lane { I.lane input.new ≡ I.lane input.old }
 {
@@ -200,6 +204,7 @@ pub(crate) fn refuse<W: Wait, I: LaneIn, O: LaneOut, D: Desk>(
     ensures strayed { result ≡ Refusal.Strayed → (Strays class (λ f. D.unknown (D.known desk.old) f port) (I.waiting input.old) strays.old.items (I.waiting input.new) strays.new.items) × (O.sent back.new ≡ O.sent back.old) × (D.known desk.new ≡ D.known desk.old) × (kept.new ≡ None) }
     ensures idle { result ≡ Refusal.Idle → (I.waiting input.new ≡ I.waiting input.old) × (O.sent back.new ≡ O.sent back.old) × (D.known desk.new ≡ D.known desk.old) × (kept.new ≡ None) × (strays.new.items ≡ strays.old.items) }
     ensures memory { result ≡ Refusal.NoMemory → (I.waiting input.new ≡ I.waiting input.old) × (O.sent back.new ≡ O.sent back.old) × (D.known desk.new ≡ D.known desk.old) × (kept.new ≡ None) × (strays.new.items ≡ strays.old.items) }
+    ensures wants { result ≡ Refusal.NoMemory → Awaits class (I.waiting input.old) (λ f. D.wants (D.known desk.old) f port ⊎ D.unknown (D.known desk.old) f port) }
     ensures cause { result ≡ Refusal.Idle → I.misses input.new ≢ I.misses input.old }
     ensures blocked { result ≡ Refusal.Idle → eligible class (I.waiting input.old) ≡ None }
     ensures kept { IfSome kept.new (λ answer. O.may_refuse back.old (class_of answer) ≡ true) }

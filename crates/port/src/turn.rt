@@ -1,11 +1,12 @@
 //! One turn of a port, over lanes of any kind.
 
-ghost use Rattle.std.specs.Prelude.{◌≡◌, ◌≢◌, ◌⊎◌, ◌+◌, ◌≤◌, Some, None, IfSome, true, false, length, map};
+ghost use Rattle.std.specs.Prelude.{◌≡◌, ◌≢◌, ◌⊎◌, ◌+◌, ◌≤◌, Some, None, IfSome, IsSome, true, false, length, map};
 ghost use Rattle.fab_types.specs.declared.violation.Violation.{Violation};
 ghost use Rattle.port.specs.Vetted.{requester_owner};
 ghost use Rattle.port.specs.Lanes.{class_of, eligible};
 ghost use Rattle.port.specs.Steps.{IsOfTurn};
 ghost use Rattle.port.specs.Blocked.{course_is_blocked, is_blocked, may_refuse_at};
+ghost use Rattle.port.specs.Wants.{Awaits, WantsMemory};
 ghost use Rattle.port.specs.Turns.{Advanced, Moves, Rests, Stops, sight_of, sight_with, counts_of};
 
 use crate::course::Course;
@@ -58,6 +59,7 @@ fn stop<W: Wait, I: LaneIn, O: LaneOut, D: Desk, R: Reporter>(
     ensures cause { result ≡ Outcome.Idle → (I.misses input.new ≢ I.misses input.old) ⊎ (map O.refusals outs.new ≢ map O.refusals outs.old) }
     ensures blocked { result ≡ Outcome.Idle → (eligible class (I.waiting input.old) ≡ None) ⊎ (course_is_blocked (map O.may_refuse outs.old) port.old.config.own class (Course.Stop report) ≡ true) }
     ensures free { O.is_sure ≡ true → result ≢ Outcome.Idle → course_is_blocked (map O.may_refuse outs.old) port.old.config.own class (Course.Stop report) ≡ false }
+    ensures memory { result ≡ Outcome.NoMemory → IsSome report ⊎ Awaits class (I.waiting input.old) (λ f. D.wants (D.known desk.old) f port.old.config.id ⊎ D.unknown (D.known desk.old) f port.old.config.id) }
     ensures kept { IfSome port.new.kept (λ answer. may_refuse_at (map O.may_refuse outs.old) port.old.config.own (class_of answer) ≡ true) }
     ensures held { R.is_sure ≡ true → port.new.held ≡ None }
     ensures answer { IsOfTurn result }
@@ -111,6 +113,7 @@ fn proceed<W: Wait, I: LaneIn, O: LaneOut, D: Desk, R: Reporter>(
     ensures cause { result ≡ Outcome.Idle → (I.misses input.new ≢ I.misses input.old) ⊎ (map O.refusals outs.new ≢ map O.refusals outs.old) }
     ensures blocked { result ≡ Outcome.Idle → is_blocked bridge.now port.old.config (map O.may_refuse outs.old) class (I.waiting input.old) ≡ true }
     ensures free { O.is_sure ≡ true → result ≢ Outcome.Idle → is_blocked bridge.now port.old.config (map O.may_refuse outs.old) class (I.waiting input.old) ≡ false }
+    ensures memory { result ≡ Outcome.NoMemory → WantsMemory D.wants D.unknown bridge.now port.old.config (D.known desk.old) class (I.waiting input.old) }
     ensures kept { IfSome port.new.kept (λ answer. may_refuse_at (map O.may_refuse outs.old) port.old.config.own (class_of answer) ≡ true) }
     ensures held { R.is_sure ≡ true → port.new.held ≡ None }
     ensures answer { IsOfTurn result }
@@ -156,6 +159,7 @@ fn advance<W: Wait, I: LaneIn, O: LaneOut, D: Desk, R: Reporter>(
     ensures cause { result ≡ Outcome.Idle → (I.misses input.new ≢ I.misses input.old) ⊎ ((map O.refusals outs.new ≢ map O.refusals outs.old) ⊎ (R.refusals reporter.new ≢ R.refusals reporter.old)) }
     ensures blocked { port.old.held ≡ None → port.old.kept ≡ None → result ≡ Outcome.Idle → is_blocked bridge.now port.old.config (map O.may_refuse outs.old) class (I.waiting input.old) ≡ true }
     ensures free { O.is_sure ≡ true → port.old.held ≡ None → port.old.kept ≡ None → result ≢ Outcome.Idle → is_blocked bridge.now port.old.config (map O.may_refuse outs.old) class (I.waiting input.old) ≡ false }
+    ensures memory { result ≡ Outcome.NoMemory → WantsMemory D.wants D.unknown bridge.now port.old.config (D.known desk.old) class (I.waiting input.old) }
     ensures kept { port.old.kept ≡ None → IfSome port.new.kept (λ answer. may_refuse_at (map O.may_refuse outs.old) port.old.config.own (class_of answer) ≡ true) }
     ensures held { R.is_sure ≡ true → port.old.held ≡ None → port.new.held ≡ None }
     ensures answer { IsOfTurn result }
@@ -199,6 +203,9 @@ impl Port {
         // there if the lanes are sure.
         ensures blocked { self.old.held ≡ None → self.old.kept ≡ None → result ≡ Outcome.Idle → is_blocked lanes.old.bridge.now self.old.config (map O.may_refuse lanes.old.outs.now) class (I.waiting lanes.old.input.now) ≡ true }
         ensures free { O.is_sure ≡ true → self.old.held ≡ None → self.old.kept ≡ None → result ≢ Outcome.Idle → is_blocked lanes.old.bridge.now self.old.config (map O.may_refuse lanes.old.outs.now) class (I.waiting lanes.old.input.now) ≡ false }
+
+        // Memory is wanted only for an eligible packet that is stopped, or kept as a stray: never for one that is forwarded.
+        ensures memory { result ≡ Outcome.NoMemory → WantsMemory D.wants D.unknown lanes.old.bridge.now self.old.config (D.known lanes.old.desk.now) class (I.waiting lanes.old.input.now) }
 
         // An answer is kept only where the port's own lane, as it was before the turn, may refuse its class.
         ensures kept { self.old.kept ≡ None → IfSome self.new.kept (λ answer. may_refuse_at (map O.may_refuse lanes.old.outs.now) self.old.config.own (class_of answer) ≡ true) }

@@ -10,7 +10,7 @@ impl Desk for Tenants {
     ghost use Rattle.std.specs.Prelude.{◌≡◌, List, None, Some};
     ghost use Rattle.domain.specs.declared.entry.Entry.TheVariants.{Refuse};
     ghost use Rattle.domain.specs.Domains.{DomainView};
-    ghost use Rattle.tenants.specs.Tenants.{made};
+    ghost use Rattle.tenants.specs.Tenants.{Emits, made};
 
     ghost Known = { List DomainView };
 
@@ -19,6 +19,8 @@ impl Desk for Tenants {
     ghost refuses = { λ known frame port answer after. made known frame.domain (Refuse frame.number) ≡ Some (record { domains = after; sent = answer }) };
 
     ghost unknown = { λ known frame port. made known frame.domain (Refuse frame.number) ≡ None };
+
+    ghost wants = { λ known frame port. Emits (made known frame.domain (Refuse frame.number)) };
 
     fn refuse<W: Wait>(
         &mut self,

@@ -4,7 +4,7 @@ use Rattle.hierarchy.proofs.pass.turn_at.Goals as goal
 
 pub returns-then-input-node-clause-turned : goal.returns-then-input-node-clause-turned
 returns-then-input-node-clause-turned g c =
-    turned_among g.D.Desk.refuses g.D.Desk.unknown g.R.Reporter.is_sure c.args.bridge.now c.args.class c.turn_nodes.result
+    turned_among g.D.Desk.refuses g.D.Desk.unknown g.D.Desk.wants g.R.Reporter.is_sure c.args.bridge.now c.args.class c.turn_nodes.result
     (g.D.Desk.known c.args.desk.now) (g.D.Desk.known c.turn_nodes.new.desk) (g.R.Reporter.reported c.args.reporter.now) (g.R.Reporter.reported c.turn_nodes.new.reporter) c.args.port.now c.turn_nodes.new.port
     c.args.nodes.now _ c.args.node c.args.input (get_or c.split_at_mut-front.result.0.now c.args.input.node c.index-front-input.result) c.turn_nodes.new.from (get_or c.split_at_mut-front.result.1.now 0 c.index-back-0.result) c.turn_nodes.new.to
     (from_before c.args.nodes.now c.split_at_mut-front.result.0.now c.split_at_mut-front.result.1.now c.args.node c.args.input (get_or c.split_at_mut-front.result.0.now c.args.input.node c.index-front-input.result) c.turn_nodes.new.from (get_or c.split_at_mut-front.result.1.now 0 c.index-back-0.result) c.turn_nodes.new.to c.index-front-input.result c.index-back-0.result
@@ -13,7 +13,7 @@ returns-then-input-node-clause-turned g c =
 
 pub returns-then-input-node-clause-channels : goal.returns-then-input-node-clause-channels
 returns-then-input-node-clause-channels g c =
-    channels_among g.D.Desk.refuses g.D.Desk.unknown g.R.Reporter.is_sure c.args.bridge.now c.args.class c.turn_nodes.result
+    channels_among g.D.Desk.refuses g.D.Desk.unknown g.D.Desk.wants g.R.Reporter.is_sure c.args.bridge.now c.args.class c.turn_nodes.result
     (g.D.Desk.known c.args.desk.now) (g.D.Desk.known c.turn_nodes.new.desk) (g.R.Reporter.reported c.args.reporter.now) (g.R.Reporter.reported c.turn_nodes.new.reporter) c.args.port.now c.turn_nodes.new.port
     c.args.nodes.now _ c.args.node c.args.input (get_or c.split_at_mut-front.result.0.now c.args.input.node c.index-front-input.result) c.turn_nodes.new.from (get_or c.split_at_mut-front.result.1.now 0 c.index-back-0.result) c.turn_nodes.new.to
     (from_before c.args.nodes.now c.split_at_mut-front.result.0.now c.split_at_mut-front.result.1.now c.args.node c.args.input (get_or c.split_at_mut-front.result.0.now c.args.input.node c.index-front-input.result) c.turn_nodes.new.from (get_or c.split_at_mut-front.result.1.now 0 c.index-back-0.result) c.turn_nodes.new.to c.index-front-input.result c.index-back-0.result
@@ -22,7 +22,7 @@ returns-then-input-node-clause-channels g c =
 
 pub returns-then-input-node-clause-lengths : goal.returns-then-input-node-clause-lengths
 returns-then-input-node-clause-lengths g c =
-    lengths_among g.D.Desk.refuses g.D.Desk.unknown g.R.Reporter.is_sure c.args.bridge.now c.args.class c.turn_nodes.result
+    lengths_among g.D.Desk.refuses g.D.Desk.unknown g.D.Desk.wants g.R.Reporter.is_sure c.args.bridge.now c.args.class c.turn_nodes.result
     (g.D.Desk.known c.args.desk.now) (g.D.Desk.known c.turn_nodes.new.desk) (g.R.Reporter.reported c.args.reporter.now) (g.R.Reporter.reported c.turn_nodes.new.reporter) c.args.port.now c.turn_nodes.new.port
     c.args.nodes.now _ c.args.node c.args.input (get_or c.split_at_mut-front.result.0.now c.args.input.node c.index-front-input.result) c.turn_nodes.new.from (get_or c.split_at_mut-front.result.1.now 0 c.index-back-0.result) c.turn_nodes.new.to
     (from_before c.args.nodes.now c.split_at_mut-front.result.0.now c.split_at_mut-front.result.1.now c.args.node c.args.input (get_or c.split_at_mut-front.result.0.now c.args.input.node c.index-front-input.result) c.turn_nodes.new.from (get_or c.split_at_mut-front.result.1.now 0 c.index-back-0.result) c.turn_nodes.new.to c.index-front-input.result c.index-back-0.result
@@ -31,7 +31,7 @@ returns-then-input-node-clause-lengths g c =
 
 pub returns-else-input-node-clause-turned : goal.returns-else-input-node-clause-turned
 returns-else-input-node-clause-turned g c =
-    turned_among g.D.Desk.refuses g.D.Desk.unknown g.R.Reporter.is_sure c.args.bridge.now c.args.class c.turn_nodes-else-input-node.result
+    turned_among g.D.Desk.refuses g.D.Desk.unknown g.D.Desk.wants g.R.Reporter.is_sure c.args.bridge.now c.args.class c.turn_nodes-else-input-node.result
     (g.D.Desk.known c.args.desk.now) (g.D.Desk.known c.turn_nodes-else-input-node.new.desk) (g.R.Reporter.reported c.args.reporter.now) (g.R.Reporter.reported c.turn_nodes-else-input-node.new.reporter) c.args.port.now c.turn_nodes-else-input-node.new.port
     c.args.nodes.now _ c.args.node c.args.input (get_or c.split_at_mut-front-else-input-node.result.1.now 0 c.index-back-0-else-input-node.result) c.turn_nodes-else-input-node.new.from (get_or c.split_at_mut-front-else-input-node.result.0.now c.args.node c.index-front-node.result) c.turn_nodes-else-input-node.new.to
     (from_after c.args.nodes.now c.split_at_mut-front-else-input-node.result.0.now c.split_at_mut-front-else-input-node.result.1.now c.args.node c.args.input (get_or c.split_at_mut-front-else-input-node.result.1.now 0 c.index-back-0-else-input-node.result) c.turn_nodes-else-input-node.new.from (get_or c.split_at_mut-front-else-input-node.result.0.now c.args.node c.index-front-node.result) c.turn_nodes-else-input-node.new.to c.index-back-0-else-input-node.result c.index-front-node.result
@@ -40,7 +40,7 @@ returns-else-input-node-clause-turned g c =
 
 pub returns-else-input-node-clause-channels : goal.returns-else-input-node-clause-channels
 returns-else-input-node-clause-channels g c =
-    channels_among g.D.Desk.refuses g.D.Desk.unknown g.R.Reporter.is_sure c.args.bridge.now c.args.class c.turn_nodes-else-input-node.result
+    channels_among g.D.Desk.refuses g.D.Desk.unknown g.D.Desk.wants g.R.Reporter.is_sure c.args.bridge.now c.args.class c.turn_nodes-else-input-node.result
     (g.D.Desk.known c.args.desk.now) (g.D.Desk.known c.turn_nodes-else-input-node.new.desk) (g.R.Reporter.reported c.args.reporter.now) (g.R.Reporter.reported c.turn_nodes-else-input-node.new.reporter) c.args.port.now c.turn_nodes-else-input-node.new.port
     c.args.nodes.now _ c.args.node c.args.input (get_or c.split_at_mut-front-else-input-node.result.1.now 0 c.index-back-0-else-input-node.result) c.turn_nodes-else-input-node.new.from (get_or c.split_at_mut-front-else-input-node.result.0.now c.args.node c.index-front-node.result) c.turn_nodes-else-input-node.new.to
     (from_after c.args.nodes.now c.split_at_mut-front-else-input-node.result.0.now c.split_at_mut-front-else-input-node.result.1.now c.args.node c.args.input (get_or c.split_at_mut-front-else-input-node.result.1.now 0 c.index-back-0-else-input-node.result) c.turn_nodes-else-input-node.new.from (get_or c.split_at_mut-front-else-input-node.result.0.now c.args.node c.index-front-node.result) c.turn_nodes-else-input-node.new.to c.index-back-0-else-input-node.result c.index-front-node.result
@@ -49,7 +49,7 @@ returns-else-input-node-clause-channels g c =
 
 pub returns-else-input-node-clause-lengths : goal.returns-else-input-node-clause-lengths
 returns-else-input-node-clause-lengths g c =
-    lengths_among g.D.Desk.refuses g.D.Desk.unknown g.R.Reporter.is_sure c.args.bridge.now c.args.class c.turn_nodes-else-input-node.result
+    lengths_among g.D.Desk.refuses g.D.Desk.unknown g.D.Desk.wants g.R.Reporter.is_sure c.args.bridge.now c.args.class c.turn_nodes-else-input-node.result
     (g.D.Desk.known c.args.desk.now) (g.D.Desk.known c.turn_nodes-else-input-node.new.desk) (g.R.Reporter.reported c.args.reporter.now) (g.R.Reporter.reported c.turn_nodes-else-input-node.new.reporter) c.args.port.now c.turn_nodes-else-input-node.new.port
     c.args.nodes.now _ c.args.node c.args.input (get_or c.split_at_mut-front-else-input-node.result.1.now 0 c.index-back-0-else-input-node.result) c.turn_nodes-else-input-node.new.from (get_or c.split_at_mut-front-else-input-node.result.0.now c.args.node c.index-front-node.result) c.turn_nodes-else-input-node.new.to
     (from_after c.args.nodes.now c.split_at_mut-front-else-input-node.result.0.now c.split_at_mut-front-else-input-node.result.1.now c.args.node c.args.input (get_or c.split_at_mut-front-else-input-node.result.1.now 0 c.index-back-0-else-input-node.result) c.turn_nodes-else-input-node.new.from (get_or c.split_at_mut-front-else-input-node.result.0.now c.args.node c.index-front-node.result) c.turn_nodes-else-input-node.new.to c.index-back-0-else-input-node.result c.index-front-node.result

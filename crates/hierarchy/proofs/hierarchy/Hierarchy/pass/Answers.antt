@@ -17,7 +17,7 @@ pub returns : goal.returns
 returns g c =
     let lengths = c.turn_at.ensures.lengths ∙ ap (map many) c.deref_mut.ensures.value in
     rw (← c.self.view_is)
-    (passes g.D.Desk.refuses g.D.Desk.unknown g.R.Reporter.is_sure c.args.class c.turn_at.result (g.D.Desk.known c.args.desk.now) (g.D.Desk.known c.turn_at.new.desk) (g.R.Reporter.reported c.args.reporter.now) (g.R.Reporter.reported c.turn_at.new.reporter)
+    (passes g.D.Desk.refuses g.D.Desk.unknown g.D.Desk.wants g.R.Reporter.is_sure c.args.class c.turn_at.result (g.D.Desk.known c.args.desk.now) (g.D.Desk.known c.turn_at.new.desk) (g.R.Reporter.reported c.args.reporter.now) (g.R.Reporter.reported c.turn_at.new.reporter)
     (view_of c.self.inside) c.deref_mut.result.now _ c.turn_at.new.nodes c.in-Some.index c.index_mut.result.now c.turn_at.new.port c.args.id c.index-places-index.result c.in-Some-input.input c.self.invariant
     (subst (λ (ps : List PortPlace). Some c.in-Some.index ≡ index_of ps c.args.id) c.places.ensures.value c.in-Some.ensures.value)
     (subst (λ (ps : List PortPlace). c.in-Some.index < length ps) c.places.ensures.value c.in-Some.ensures.within)
