@@ -1,8 +1,10 @@
 //! Laws of the machine of a domain. Each is the contract of a function that does nothing.
 
-ghost use Rattle.std.specs.Prelude.{◌≡◌, true};
-ghost use Rattle.layout.specs.Share.{is_guarded};
-ghost use Rattle.domain.specs.Machine.{aliens_in};
+ghost use Rattle.std.specs.Prelude.{◌≡◌, ◌+◌, ◌*◌, ◌≤◌, List, Some, length, true};
+ghost use Rattle.layout.specs.Share.{Share, is_guarded};
+ghost use Rattle.domain.specs.declared.entry.Entry.{Entry};
+ghost use Rattle.domain.specs.Machine.{aliens_in, replay};
+ghost use Rattle.domain.specs.State.{Alone};
 
 use crate::domain::Domain;
 
@@ -24,4 +26,12 @@ pub fn guarded_journals_have_no_alien_entry(domain: &Domain)
     ensures { aliens_in domain.now.journal ≡ 0 }
 {
     let _ = domain.journal();
+}
+
+/// What a journal leads to, of any share that it replays for: at most three packets for each begin and two for
+/// each alien packet, and no more begins than the budget.
+pub fn begins_bound_what_is_emitted()
+    ensures packets { (share : Share) (journal : List Entry) (state : Alone) → replay share journal ≡ Some state → length state.flight ≤ 3 * state.counts.begins + 2 * aliens_in journal }
+    ensures begins { (share : Share) (journal : List Entry) (state : Alone) → replay share journal ≡ Some state → state.counts.begins ≤ share.budget }
+{
 }

@@ -37,4 +37,7 @@ pub use domain::Domain;
 pub use entry::Entry;
 pub use fate::Fate;
 pub use function::{OpenTag, TagUse};
-pub use laws::{equal_journals_leave_equal_states, guarded_journals_have_no_alien_entry};
+pub use laws::{
+    begins_bound_what_is_emitted, equal_journals_leave_equal_states,
+    guarded_journals_have_no_alien_entry,
+};

@@ -58,6 +58,14 @@ impl Tenants {
         Some(&self.domains[place])
     }
 
+    /// The domain that this function is of, if there is one.
+    pub fn domain_of_function(&self, function: Bdf) -> Option<&Domain>
+        ensures { option_copied result ≡ domain_at self.now (place_of_function self.now function) }
+    {
+        let home = place_of_function(&self.domains, function)?;
+        Some(&self.domains[home])
+    }
+
     /// All domains.
     pub fn domains(&self) -> &[Domain]
         ensures { result.now ≡ self.now }

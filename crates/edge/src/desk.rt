@@ -1,0 +1,32 @@
+//! The domains of a fabric at the desk of a port.
+
+use crate::edge::Edge;
+use fab_types::PortId;
+use frame_log::{Frame, FrameFault};
+use port::Desk;
+use std::sync::Wait;
+
+impl Desk for Edge {
+    ghost use Rattle.std.specs.Prelude.{◌≡◌, None, Some};
+    ghost use Rattle.domain.specs.declared.entry.Entry.TheVariants.{Refuse};
+    ghost use Rattle.edge.specs.Edges.{EdgeView};
+    ghost use Rattle.tenants.specs.Tenants.{made};
+
+    ghost Known = { EdgeView };
+
+    ghost known = { λ edge. edge };
+
+    // What answers the packet leaves by the port, and waits in no outbox.
+    ghost refuses = { λ known frame port answer after. (made known.domains frame.domain (Refuse frame.number) ≡ Some (record { domains = after.domains; sent = answer })) × (after.outboxes ≡ known.outboxes) };
+
+    ghost unknown = { λ known frame port. made known.domains frame.domain (Refuse frame.number) ≡ None };
+
+    fn refuse<W: Wait>(
+        &mut self,
+        rt: &W,
+        frame: Frame,
+        port: PortId,
+    ) -> Result<Option<Frame>, FrameFault> {
+        self.tenants.refuse(rt, frame, port)
+    }
+}

@@ -1,0 +1,10 @@
+//! The edge of a fabric: its domains, with an outbox for what each of their functions and hosts emits.
+#![tactic(auto)]
+
+mod desk;
+mod edge;
+
+pub use edge::Edge;
+
+
+

@@ -1,0 +1,151 @@
+use crate::Edge;
+use domain::{HostAccess, Operation, Record};
+use fab_types::Class::{self, Completion, NonPosted, Posted};
+use fab_types::{Bdf, DomainId, MmioFault, Origin, PortId, Status, SubmitFault, TickFault};
+use frame_log::{Frame, FrameFault};
+use layout::Layout;
+use port::Desk;
+use std::sync::Wait;
+use std::test::Fail;
+
+/// Domain 1 has function 03:00.0 and three begins, domain 2 has 04:00.0 and as many as are usual.
+const PLATFORM: &str = "pciefab 1
+frames 4
+switch 01:00.0 root
+port 02:00.0 03 03 90000000 900fffff 1f 1
+port 02:01.0 04 04 90100000 901fffff 1f 2
+function 03:00.0 90000000
+function 04:00.0 90100000
+map 03:00.0 1 frame 0 rw
+budget 1 3
+";
+
+/// A write of 03:00.0 to its page 1.
+const WRITE: [u8; 16] = [
+    0x40, 0, 0, 1, 3, 0, 0, 0x0f, 0, 0, 0x10, 0, 0x11, 0x22, 0x33, 0x44,
+];
+
+/// A read of page 1 with the ID of 03:00.0, under Tag 5.
+const READ: [u8; 12] = [0, 0, 0, 1, 3, 0, 5, 0x0f, 0, 0, 0x10, 0];
+
+const ONE: Bdf = Bdf::from_bits(0x0300);
+
+const OTHER: Bdf = Bdf::from_bits(0x0400);
+
+/// The number of the eligible packet, which is taken.
+fn taken(edge: &mut Edge, origin: Origin, class: Class) -> Option<u64> {
+    Some(edge.take(origin, class)?.number())
+}
+
+/// The function or host that a record is of, its Tag and its status.
+fn told(record: Option<Record>) -> Option<(Origin, u8, Status)> {
+    let record = record?;
+    Some((record.owner(), record.tag(), record.status()))
+}
+
+/// The completion that waits of an origin reaches whom it answers.
+fn delivered(edge: &mut Edge, origin: Origin) -> Option<(Origin, u8, Status)> {
+    let answer = edge.take(origin, Completion)?;
+    told(edge.deliver(answer).ok()?)
+}
+
+/// The host of a domain reads the first DW of the registers of 03:00.0.
+fn first_register<R: Wait>(rt: &R, edge: &mut Edge, domain: DomainId) -> Option<MmioFault> {
+    let access = HostAccess {
+        function: ONE,
+        offset: 0,
+        operation: Operation::Read(1),
+    };
+    edge.mmio(rt, domain, &access).err()
+}
+
+/// A port has a desk refuse a packet.
+fn refused_at<D: Desk, R: Wait>(rt: &R, desk: &mut D, frame: Frame) -> Option<Frame> {
+    desk.refuse(rt, frame, PortId::new(Bdf::from_bits(0x0208))).ok()?
+}
+
+#[test]
+fn a_submitted_packet_waits_in_its_outbox(rt: HostRuntime) -> Result<(), Fail> {
+    let layout = Layout::read(rt.alloc(), PLATFORM).ok().ok_or("a layout")?;
+    let mut edge = Edge::new(rt.alloc(), &layout)?;
+    let (one, other) = (Origin::Function(ONE), Origin::Function(OTHER));
+    assert!(rt; edge.submit(&rt, ONE, &WRITE).is_ok());
+    assert!(rt; edge.submit(&rt, ONE, &READ).is_ok());
+
+    // The read waits behind the write of its own function, and nothing waits of the other one.
+    assert!(rt; edge.head(one, Posted).is_some());
+    assert!(rt; edge.head(one, NonPosted).is_none());
+    assert!(rt; edge.head(other, Posted).is_none());
+    assert_eq!(rt; taken(&mut edge, one, Posted), Some(0));
+    assert_eq!(rt; taken(&mut edge, one, NonPosted), Some(1));
+    assert_eq!(rt; taken(&mut edge, one, NonPosted), None);
+
+    // A line that sends nothing leaves nothing behind.
+    assert!(rt; edge.tick(&rt, OTHER).is_ok());
+    assert!(rt; edge.head(other, Posted).is_none());
+    Ok(())
+}
+
+#[test]
+fn what_answers_a_request_waits_of_its_completer(rt: HostRuntime) -> Result<(), Fail> {
+    let layout = Layout::read(rt.alloc(), PLATFORM).ok().ok_or("a layout")?;
+    let mut edge = Edge::new(rt.alloc(), &layout)?;
+    let domain = DomainId::new(1).ok_or("a domain")?;
+    let (one, host) = (Origin::Function(ONE), Origin::Host(domain));
+
+    // The host answers a read of the function.
+    assert!(rt; edge.submit(&rt, ONE, &READ).is_ok());
+    let read = edge.take(one, NonPosted).ok_or("a read")?;
+    assert!(rt; edge.carry_by_host(&rt, read).is_ok());
+    assert_eq!(rt; delivered(&mut edge, host), Some((one, 5, Status::SC)));
+
+    // The function answers a read of the host, which a function of another domain does not take.
+    assert!(rt; first_register(&rt, &mut edge, domain).is_none());
+    let read = edge.take(host, NonPosted).ok_or("a read")?;
+    let Err(FrameFault::Stray(read)) = edge.carry_by_function(&rt, OTHER, read) else {
+        return Err(Fail::from("taken by the other function"));
+    };
+    assert!(rt; edge.carry_by_function(&rt, ONE, read).is_ok());
+    assert_eq!(rt; delivered(&mut edge, one), Some((host, 0, Status::SC)));
+    Ok(())
+}
+
+#[test]
+fn a_refused_begin_leaves_all_as_it_was(rt: HostRuntime) -> Result<(), Fail> {
+    let layout = Layout::read(rt.alloc(), PLATFORM).ok().ok_or("a layout")?;
+    let mut edge = Edge::new(rt.alloc(), &layout)?;
+    let (domain, one) = (DomainId::new(1).ok_or("a domain")?, Origin::Function(ONE));
+    let port = Bdf::from_bits(0x0200);
+    for _ in 0..3 {
+        assert!(rt; edge.submit(&rt, ONE, &WRITE).is_ok());
+    }
+    assert!(rt; edge.submit(&rt, ONE, &WRITE).err() == Some(SubmitFault::BudgetSpent));
+    assert!(rt; edge.submit(&rt, port, &WRITE).err() == Some(SubmitFault::NoFunction));
+    assert!(rt; edge.tick(&rt, ONE).err() == Some(TickFault::BudgetSpent));
+    assert!(rt; first_register(&rt, &mut edge, domain) == Some(MmioFault::BudgetSpent));
+    assert!(rt; edge.head(Origin::Host(domain), NonPosted).is_none());
+    for number in 0..3 {
+        assert_eq!(rt; taken(&mut edge, one, Posted), Some(number));
+    }
+    assert_eq!(rt; taken(&mut edge, one, Posted), None);
+    Ok(())
+}
+
+#[test]
+fn what_answers_at_a_port_waits_in_no_outbox(rt: HostRuntime) -> Result<(), Fail> {
+    let layout = Layout::read(rt.alloc(), PLATFORM).ok().ok_or("a layout")?;
+    let mut edge = Edge::new(rt.alloc(), &layout)?;
+    let other = Origin::Function(OTHER);
+    assert!(rt; edge.has_function(OTHER));
+    assert!(rt; !edge.has_function(Bdf::from_bits(0x0200)));
+    assert_eq!(rt; edge.domains().len(), 2);
+
+    // With the ID of the function of domain 1, a read of domain 2 is stopped at its first port.
+    assert!(rt; edge.submit(&rt, OTHER, &READ).is_ok());
+    let spoof = edge.take(other, NonPosted).ok_or("a read")?;
+    let answer = refused_at(&rt, &mut edge, spoof).ok_or("an answer")?;
+    assert!(rt; edge.head(other, Completion).is_none());
+    let record = edge.deliver(answer).ok().ok_or("a record")?;
+    assert_eq!(rt; told(record), Some((other, 5, Status::CA)));
+    Ok(())
+}
