@@ -10,7 +10,7 @@ impl Desk for Edge {
     ghost use Rattle.std.specs.Prelude.{◌≡◌, None, Some};
     ghost use Rattle.domain.specs.declared.entry.Entry.TheVariants.{Refuse};
     ghost use Rattle.edge.specs.Edges.{EdgeView};
-    ghost use Rattle.tenants.specs.Tenants.{made};
+    ghost use Rattle.tenants.specs.Tenants.{Emits, made};
 
     ghost Known = { EdgeView };
 
@@ -20,6 +20,8 @@ impl Desk for Edge {
     ghost refuses = { λ known frame port answer after. (made known.domains frame.domain (Refuse frame.number) ≡ Some (record { domains = after.domains; sent = answer })) × (after.outboxes ≡ known.outboxes) };
 
     ghost unknown = { λ known frame port. made known.domains frame.domain (Refuse frame.number) ≡ None };
+
+    ghost wants = { λ known frame port. Emits (made known.domains frame.domain (Refuse frame.number)) };
 
     fn refuse<W: Wait>(
         &mut self,

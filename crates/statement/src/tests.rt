@@ -50,26 +50,25 @@ fn a_port_has_seven_fields(rt: HostRuntime) {
     );
 }
 
-#[test]
-fn a_mapping_leads_to_a_frame_or_to_a_function(rt: HostRuntime) {
-    let mut map = MapText {
+// The first page of 03:00.0, for reads.
+fn read_page(target: TargetText) -> Option<Statement> {
+    Some(Statement::Map(MapText {
         requester: Bdf::from_bits(0x0300),
         page: 1,
-        target: TargetText::Frame(0),
+        target,
         rights: RightsText {
             read: true,
             write: false,
         },
-    };
-    assert_eq!(rt;
-        statement_of(b"map 03:00.0 1 frame 0 r"),
-        Some(Statement::Map(map))
-    );
-    map.target = TargetText::Peer(Bdf::from_bits(0x0800));
-    assert_eq!(rt;
-        statement_of(b"map 03:00.0 1 peer 08:00.0 r"),
-        Some(Statement::Map(map))
-    );
+    }))
+}
+
+#[test]
+fn a_mapping_leads_to_a_frame_or_to_a_function(rt: HostRuntime) {
+    let frame = read_page(TargetText::Frame(0));
+    assert_eq!(rt; statement_of(b"map 03:00.0 1 frame 0 r"), frame);
+    let peer = read_page(TargetText::Peer(Bdf::from_bits(0x0800)));
+    assert_eq!(rt; statement_of(b"map 03:00.0 1 peer 08:00.0 r"), peer);
     assert_eq!(rt; statement_of(b"map 03:00.0 1 page 0 r"), None);
     assert_eq!(rt; statement_of(b"map 03:00.0 1 frame 0 wr"), None);
 }
