@@ -7,6 +7,7 @@ ghost use Rattle.link.specs.Simplexes.{simplex_restored};
 ghost use Rattle.port.specs.Lanes.{class_of, eligible};
 ghost use Rattle.topology.specs.Links.{sender_of};
 ghost use Rattle.topology.specs.Topologies.{IsEnd};
+ghost use Rattle.hierarchy.specs.Kept.{IsKept};
 ghost use Rattle.hierarchy.specs.Moves.{channel_at, left_at, on_channel, put_at};
 ghost use Rattle.hierarchy.specs.Passes.{Passes, index_of};
 ghost use Rattle.hierarchy.specs.Starts.{start_of};
@@ -53,7 +54,8 @@ impl Model for Hierarchy {
 impl Hierarchy {
     /// The hierarchy of a layout, in which nothing waits. It answers `NoMemory` where memory was refused.
     pub fn new(alloc: Global, layout: &Layout) -> Result<Hierarchy, NoMemory>
-        ensures { IfOk result (λ hierarchy. hierarchy ≡ start_of layout.now) }
+        ensures start { IfOk result (λ hierarchy. hierarchy ≡ start_of layout.now) }
+        ensures kept { IfOk result (λ hierarchy. IsKept hierarchy) }
     {
         // It tells what holds of every platform.
         let _ = layout.ports();

@@ -75,12 +75,13 @@ module _ {K : Type 0} where
     pub told : s.reported ++ option_to_list report ≡ t.reported ++ option_to_list t.held
     pub strays : t.strays ≡ s.strays
 
-  -- why a port has no case for a packet: it has no course, its Requester ID is another domain's, or the desk knows none
+  -- why a port has no case for a packet: it has no course, it would go on and its Requester ID is another domain's, or it
+  -- is stopped and the desk knows none
   abbrev pub IsStray : (K → Descriptor → ℕ → Type 0) → Tree → Config → K → Descriptor → Type 0
   IsStray unknown tree config known frame =
       (course_of tree config frame.head ≡ Stray)
-      ⊎ ((may_go_on config.is_guarded (requester_owner tree.ports frame.head.header) frame ≡ false)
-      ⊎ unknown known frame config.id)
+      ⊎ (((lane : ℕ) × (course_of tree config frame.head ≡ Forward lane) × (may_go_on config.is_guarded (requester_owner tree.ports frame.head.header) frame ≡ false))
+      ⊎ ((report : Option Violation) × (course_of tree config frame.head ≡ Stop report) × unknown known frame config.id))
 
   -- the eligible packet is kept as one that the port has no case for
   pub record Strayed (unknown : K → Descriptor → ℕ → Type 0) (tree : Tree) (config : Config) (class : Class) (s t : Sight K) : Type 0 where
