@@ -1,0 +1,10 @@
+pub mod Finds
+pub mod Trees
+pub mod Below
+pub mod Nodes
+pub mod Owners
+pub mod Ports
+pub mod Passing
+pub mod Falling
+pub mod Bytes
+pub mod Agreement

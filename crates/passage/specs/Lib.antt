@@ -1,0 +1,5 @@
+pub mod Guarded
+pub mod Sound
+pub mod Ways
+pub mod Ends
+pub mod Dispositions
