@@ -60,7 +60,4 @@ goes_to_host ports f line bytes requester address first set held b =
     ∙ packet_is line (packet_of bytes) set held' b.type_is b.memory)
   where
     packet_is : (line : PortLine) (t : Packet) → Set line → holds_bus line (bus_of t.requester) ≡ true → t.address_type ≡ Untranslated → is_memory t.kind ≡ true → fates.packet_fate line t ≡ ToHost
-    packet_is line t set held type memory = rw (held, type, memory, set.upstream, and_false (validates_source line.controls), and_false (blocks_translated line.controls)) rest
-      where
-        rest : cond ((validates_source line.controls && false) || (blocks_translated line.controls && true && false)) (fates.stopped CA (class_of_kind t.kind)) (cond (not true || (not true && holds_address line (unwrap_or (address_in t.body) 0))) (fates.stopped UR (class_of_kind t.kind)) ToHost) ≡ ToHost
-        rest = rw (and_false (validates_source line.controls), and_false (blocks_translated line.controls && true)) refl
+    packet_is line t set held type memory = rw (held, type, memory, set.upstream, and_false (validates_source line.controls), and_false (blocks_translated line.controls && true)) refl

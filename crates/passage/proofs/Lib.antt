@@ -7,4 +7,7 @@ pub mod Ports
 pub mod Passing
 pub mod Falling
 pub mod Bytes
+pub mod Homes
+pub mod Hosts
+pub mod Taking
 pub mod Agreement

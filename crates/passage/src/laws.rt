@@ -1,10 +1,17 @@
 //! Laws of guarded layouts. Each is the contract of a function that does nothing.
 
-ghost use Rattle.std.specs.Prelude.{◌≡◌, ℕ, List, Some, None, false};
+ghost use Rattle.std.specs.Prelude.{◌≡◌, ◌≢◌, ℕ, Bool, List, Option, Some, None, true, false};
 ghost use Rattle.layout.specs.declared.lines.PortLine.{PortLine};
 ghost use Rattle.layout.specs.declared.lines.SwitchLine.{SwitchLine};
 ghost use Rattle.layout.specs.Platform.{Platform};
+ghost use Rattle.layout.specs.Owners.{is_function};
 ghost use Rattle.layout.specs.Tree.{id_below, port_at};
+ghost use Rattle.layout.specs.Views.{share_of_domain};
+ghost use Rattle.fab_types.specs.Id.{bus_of, host_of};
+ghost use Rattle.fab_types.specs.declared.head.Header.TheVariants as header;
+ghost use Rattle.fab_types.specs.declared.head.Parties.TheVariants.{Downward};
+ghost use Rattle.fab_types.specs.declared.place.Origin.TheVariants.{Function, Host};
+ghost use Rattle.fab_types.specs.declared.violation.Violation.{Violation};
 ghost use Rattle.fab_types.specs.declared.place.Way.TheVariants.{Up, Down};
 ghost use Rattle.frame_log.specs.Descriptor.{Descriptor};
 ghost use Rattle.tlp_view.specs.Bytes.{packet_of};
@@ -14,22 +21,30 @@ ghost use Rattle.bridge.specs.Bridges.{Tree, of_platform};
 ghost use Rattle.bridge.specs.Routes.{switch_at};
 ghost use Rattle.port.specs.Configs.{Config, downstream_config, upstream_config};
 ghost use Rattle.port.specs.Courses.{course_of};
+ghost use Rattle.port.specs.declared.course.Course.TheVariants.{Stop};
 ghost use Rattle.domain.specs.Fates.{fate};
+ghost use Rattle.domain.specs.declared.entry.Entry.{Entry};
+ghost use Rattle.domain.specs.declared.entry.Entry.TheVariants.{Carry, Deliver, Refuse};
 ghost use Rattle.domain.specs.Heads.{head_of};
-ghost use Rattle.passage.specs.Guarded.{IsGuarded};
-ghost use Rattle.passage.specs.Sound.{IsSound};
+ghost use Rattle.domain.specs.Machine.{replay};
+ghost use Rattle.domain.specs.State.{Alone};
+ghost use Rattle.passage.specs.Ends.{Flies, IsFor, IsLegal, IsOwnRequest};
+ghost use Rattle.passage.specs.Guarded.{IsFunctionOf, IsGuarded, top_id};
+ghost use Rattle.passage.specs.Sound.{IsSound, is_reply};
 ghost use Rattle.passage.specs.Ways.{Passes, PassesDown};
 ghost use Rattle.passage.specs.Dispositions.{IsGuardedFirst, by_fate, report_at, sent_by};
 
 /// A port with all five controls set does with each request of the function below it, and with all
 /// bytes that spell no packet, what the machine of the function's domain alone says: what has the host
 /// as its fate goes up, anything else is stopped there; and a request that fails a test of the port is
-/// reported.
+/// reported. In a guarded layout the port directly above a function is such a port.
 pub fn guarded_ports_do_what_fates_say()
-    ensures { (tree : Tree) (config : Config) (line : PortLine) (function : ℕ) (bytes : List ℕ)
+    ensures fate { (tree : Tree) (config : Config) (line : PortLine) (function : ℕ) (bytes : List ℕ)
         → IsGuardedFirst tree.ports config line function
         → (malformed bytes ≡ None → is_completion (packet_of bytes).kind ≡ false)
         → course_of tree config (head_of (sent_by function bytes)) ≡ by_fate (fate tree.ports function bytes) (report_at line function (head_of (sent_by function bytes))) }
+    ensures first { (platform : Platform) (line : PortLine) (domain : ℕ) → IsGuarded platform → port_at platform.ports line.id ≡ Some line → IsFunctionOf platform domain (id_below line)
+        → IsGuardedFirst platform.ports (downstream_config platform line) line (id_below line) }
 {
     acs::guarded_requests_go_up();
 }
@@ -37,11 +52,15 @@ pub fn guarded_ports_do_what_fates_say()
 /// At a downstream port a packet that is sound on the link below it goes on to where it is sound: up,
 /// but for a completion with Relaxed Ordering, which may go to another port of the switch; or the port
 /// is the first one above the function that sent it, and stops it. It is never stray. What goes on may
-/// go on: its requester, if it has one, is of its domain.
+/// go on: its requester, if it has one, is of its domain. What is stopped has a case as refused.
 pub fn ports_pass()
-    ensures { (platform : Platform) (line : PortLine) (frame : Descriptor) → IsGuarded platform → port_at platform.ports line.id ≡ Some line
+    ensures passes { (platform : Platform) (line : PortLine) (frame : Descriptor) → IsGuarded platform → port_at platform.ports line.id ≡ Some line
         → IsSound platform (record { lower = id_below line; way = Up }) frame
         → Passes platform line frame (course_of (of_platform platform) (downstream_config platform line) frame.head) }
+    ensures refused { (platform : Platform) (line : PortLine) (frame : Descriptor) (state : Alone) (report : Option Violation) → IsGuarded platform → port_at platform.ports line.id ≡ Some line
+        → IsSound platform (record { lower = id_below line; way = Up }) frame
+        → course_of (of_platform platform) (downstream_config platform line) frame.head ≡ Stop report
+        → Flies state frame → IsLegal platform state frame (Refuse frame.number) }
 {
     acs::guarded_requests_go_up();
 }
@@ -52,4 +71,36 @@ pub fn upstream_ports_pass()
     ensures { (platform : Platform) (switch : SwitchLine) (frame : Descriptor) → IsGuarded platform → switch_at platform.switches switch.id ≡ Some switch
         → IsSound platform (record { lower = switch.id; way = Down }) frame
         → PassesDown platform switch frame (course_of (of_platform platform) (upstream_config platform switch) frame.head) }
+{}
+
+/// At the host a sound request is a memory request of a function of its domain, in the name of an ID of
+/// that domain, and has a case as carried. A sound completion that goes to bus 00 goes to the host of its
+/// domain, and has a case as delivered. One that goes to another bus is sound on the way down.
+pub fn host_takes()
+    ensures request { (platform : Platform) (frame : Descriptor) → IsGuarded platform → IsSound platform (record { lower = top_id; way = Up }) frame
+        → is_reply frame.head.header ≡ false → IsOwnRequest platform frame }
+    ensures carried { (platform : Platform) (frame : Descriptor) (state : Alone) → IsGuarded platform → IsSound platform (record { lower = top_id; way = Up }) frame
+        → is_reply frame.head.header ≡ false → Flies state frame → IsLegal platform state frame (Carry frame.number) }
+    ensures reply { (platform : Platform) (frame : Descriptor) (target : ℕ) (relaxed_ordering : Bool) → IsGuarded platform → IsSound platform (record { lower = top_id; way = Up }) frame
+        → frame.head.header ≡ header.Completion target relaxed_ordering → bus_of target ≡ 0 → (target ≡ host_of frame.domain) × IsFor (Host frame.domain) frame.head.parties }
+    ensures delivered { (platform : Platform) (frame : Descriptor) (target : ℕ) (relaxed_ordering : Bool) (state : Alone) → IsGuarded platform → IsSound platform (record { lower = top_id; way = Up }) frame
+        → frame.head.header ≡ header.Completion target relaxed_ordering → bus_of target ≡ 0 → Flies state frame → IsLegal platform state frame (Deliver frame.number) }
+    ensures relayed { (platform : Platform) (frame : Descriptor) (target : ℕ) (relaxed_ordering : Bool) → IsGuarded platform → IsSound platform (record { lower = top_id; way = Up }) frame
+        → frame.head.header ≡ header.Completion target relaxed_ordering → bus_of target ≢ 0 → IsSound platform (record { lower = top_id; way = Down }) frame }
+{}
+
+/// At a function a sound packet is of the function's own domain. A completion is for that function, and
+/// has a case as delivered. Anything else is a request to it, and has a case as carried in each state
+/// that a journal of the domain leaves.
+pub fn functions_take()
+    ensures home { (platform : Platform) (function : ℕ) (frame : Descriptor) → IsGuarded platform → is_function platform.functions function ≡ true → IsSound platform (record { lower = function; way = Down }) frame
+        → IsFunctionOf platform frame.domain function }
+    ensures reply { (platform : Platform) (function : ℕ) (frame : Descriptor) → IsGuarded platform → is_function platform.functions function ≡ true → IsSound platform (record { lower = function; way = Down }) frame
+        → is_reply frame.head.header ≡ true → IsFor (Function function) frame.head.parties }
+    ensures delivered { (platform : Platform) (function : ℕ) (frame : Descriptor) (state : Alone) → IsGuarded platform → is_function platform.functions function ≡ true → IsSound platform (record { lower = function; way = Down }) frame
+        → is_reply frame.head.header ≡ true → Flies state frame → IsLegal platform state frame (Deliver frame.number) }
+    ensures request { (platform : Platform) (function : ℕ) (frame : Descriptor) → IsGuarded platform → is_function platform.functions function ≡ true → IsSound platform (record { lower = function; way = Down }) frame
+        → is_reply frame.head.header ≡ false → frame.head.parties ≡ Downward function }
+    ensures carried { (platform : Platform) (function : ℕ) (frame : Descriptor) (state : Alone) (journal : List Entry) → IsGuarded platform → is_function platform.functions function ≡ true → IsSound platform (record { lower = function; way = Down }) frame
+        → is_reply frame.head.header ≡ false → replay (share_of_domain platform frame.domain) journal ≡ Some state → Flies state frame → IsLegal platform state frame (Carry frame.number) }
 {}

@@ -3,4 +3,6 @@
 
 mod laws;
 
-pub use laws::{guarded_ports_do_what_fates_say, ports_pass, upstream_ports_pass};
+pub use laws::{
+    functions_take, guarded_ports_do_what_fates_say, host_takes, ports_pass, upstream_ports_pass,
+};
