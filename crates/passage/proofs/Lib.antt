@@ -10,4 +10,7 @@ pub mod Bytes
 pub mod Homes
 pub mod Hosts
 pub mod Taking
+pub mod Spelled
+pub mod Reaching
+pub mod Begins
 pub mod Agreement
