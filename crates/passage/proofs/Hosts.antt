@@ -207,7 +207,7 @@ module _ (platform : Platform) (g : IsGuarded platform) where
     pub delivered : (target : ℕ) (relaxed_ordering : Bool) → frame.head.header ≡ header.Completion target relaxed_ordering → bus_of target ≡ 0 → (state : Alone) → Flies state frame → IsLegal platform state frame (Deliver frame.number)
     pub relayed : (target : ℕ) (relaxed_ordering : Bool) → frame.head.header ≡ header.Completion target relaxed_ordering → bus_of target ≢ 0 → Falling platform top_id frame
 
-  no_reply : (h : Header) (target : ℕ) (relaxed_ordering : Bool) → h ≡ header.Completion target relaxed_ordering → is_reply h ≡ false → ⊥
+  pub no_reply : (h : Header) (target : ℕ) (relaxed_ordering : Bool) → h ≡ header.Completion target relaxed_ordering → is_reply h ≡ false → ⊥
   no_reply h target relaxed_ordering e is = false≢true (sym is ∙ ap is_reply e)
 
   pub at_host : (frame : Descriptor) → Rising platform top_id frame ⊎ Replying platform top_id frame → AtHost frame

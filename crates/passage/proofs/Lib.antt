@@ -13,4 +13,5 @@ pub mod Taking
 pub mod Spelled
 pub mod Reaching
 pub mod Begins
+pub mod Replies
 pub mod Agreement

@@ -72,7 +72,7 @@ module _ (platform : Platform) (g : IsGuarded platform) where
   pub home_at : (f : ℕ) (frame : Descriptor) → is_function platform.functions f ≡ true → Falling platform f frame → IsFunctionOf platform frame.domain f
   home_at f frame listed r = subst (IsFunctionOf platform frame.domain) (at_function f frame listed r) r.own
 
-  meant_at : (f : ℕ) (frame : Descriptor) → is_function platform.functions f ≡ true → (r : Falling platform f frame) → IsMeantFor platform frame.domain f frame.head.parties frame.head.header
+  pub meant_at : (f : ℕ) (frame : Descriptor) → is_function platform.functions f ≡ true → (r : Falling platform f frame) → IsMeantFor platform frame.domain f frame.head.parties frame.head.header
   meant_at f frame listed r = subst (λ (n : ℕ). IsMeantFor platform frame.domain n frame.head.parties frame.head.header) (at_function f frame listed r) r.meant
 
   meant_reply : (d f : ℕ) (p : Parties) (h : Header) → is_reply h ≡ true → IsMeantFor platform d f p h → IsFor (Function f) p

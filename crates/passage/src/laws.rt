@@ -6,10 +6,11 @@ ghost use Rattle.layout.specs.declared.lines.SwitchLine.{SwitchLine};
 ghost use Rattle.layout.specs.Platform.{Platform};
 ghost use Rattle.layout.specs.Owners.{is_function};
 ghost use Rattle.layout.specs.Tree.{id_below, port_at};
+ghost use Rattle.layout.specs.Share.{Share};
 ghost use Rattle.layout.specs.Views.{share_of_domain};
 ghost use Rattle.fab_types.specs.Id.{bus_of, host_of};
 ghost use Rattle.fab_types.specs.declared.head.Header.TheVariants as header;
-ghost use Rattle.fab_types.specs.declared.head.Parties.TheVariants.{Downward};
+ghost use Rattle.fab_types.specs.declared.head.Parties.TheVariants.{Downward, Upward};
 ghost use Rattle.fab_types.specs.declared.place.Origin.TheVariants.{Function, Host};
 ghost use Rattle.fab_types.specs.declared.violation.Violation.{Violation};
 ghost use Rattle.fab_types.specs.declared.place.Way.TheVariants.{Up, Down};
@@ -24,10 +25,12 @@ ghost use Rattle.port.specs.Courses.{course_of};
 ghost use Rattle.port.specs.declared.course.Course.TheVariants.{Stop};
 ghost use Rattle.domain.specs.Fates.{fate};
 ghost use Rattle.domain.specs.declared.entry.Entry.{Entry};
-ghost use Rattle.domain.specs.declared.entry.Entry.TheVariants.{Carry, Deliver, Refuse};
-ghost use Rattle.domain.specs.Heads.{head_of};
-ghost use Rattle.domain.specs.Machine.{replay};
-ghost use Rattle.domain.specs.State.{Alone};
+ghost use Rattle.domain.specs.declared.entry.Entry.TheVariants.{Carry, Deliver, Mmio, Refuse, Submit, Tick};
+ghost use Rattle.domain.specs.declared.access.HostAccess.{HostAccess};
+ghost use Rattle.domain.specs.Heads.{descriptor_of, head_of};
+ghost use Rattle.domain.specs.Machine.{change, replay};
+ghost use Rattle.domain.specs.State.{Alone, Change, Emission};
+ghost use Rattle.domain.specs.WellMade.{IsWellMade};
 ghost use Rattle.passage.specs.Ends.{Flies, IsFor, IsLegal, IsOwnRequest};
 ghost use Rattle.passage.specs.Guarded.{IsFunctionOf, IsGuarded, top_id};
 ghost use Rattle.passage.specs.Sound.{IsSound, is_reply};
@@ -103,4 +106,34 @@ pub fn functions_take()
         → is_reply frame.head.header ≡ false → frame.head.parties ≡ Downward function }
     ensures carried { (platform : Platform) (function : ℕ) (frame : Descriptor) (state : Alone) (journal : List Entry) → IsGuarded platform → is_function platform.functions function ≡ true → IsSound platform (record { lower = function; way = Down }) frame
         → is_reply frame.head.header ≡ false → replay (share_of_domain platform frame.domain) journal ≡ Some state → Flies state frame → IsLegal platform state frame (Carry frame.number) }
+{}
+
+/// What a domain's machine emits is sound on the link that it enters: what a function sends on its own
+/// link, up; an access of the host on the host's link, down; what answers a sound request at the host, or
+/// goes on to a function in its place, on the host's link, down; a function's answer to a sound request
+/// on its own link, up; and a port's answer to what it stopped on the link below it, down. Completions
+/// are answered by nothing. That what is made is well made, as a domain keeps it, is a premise.
+pub fn emissions_are_sound()
+    ensures submitted { (platform : Platform) (domain function number : ℕ) (bytes : List ℕ) (state : Alone) (made : Change) (emission : Emission) → IsGuarded platform
+        → change (share_of_domain platform domain) state (Submit function bytes) ≡ Some made → made.emission ≡ Some emission
+        → IsSound platform (record { lower = function; way = Up }) (descriptor_of domain number emission) }
+    ensures ticked { (platform : Platform) (domain function number : ℕ) (state : Alone) (made : Change) (emission : Emission) → IsGuarded platform
+        → change (share_of_domain platform domain) state (Tick function) ≡ Some made → made.emission ≡ Some emission
+        → IsSound platform (record { lower = function; way = Up }) (descriptor_of domain number emission) }
+    ensures accessed { (platform : Platform) (domain number : ℕ) (access : HostAccess) (state : Alone) (made : Change) (emission : Emission) → IsGuarded platform
+        → change (share_of_domain platform domain) state (Mmio access) ≡ Some made → made.emission ≡ Some emission → IsWellMade emission.parties emission.bytes
+        → IsSound platform (record { lower = top_id; way = Down }) (descriptor_of domain number emission) }
+    ensures carried { (platform : Platform) (frame : Descriptor) (number : ℕ) (state : Alone) (made : Change) (emission : Emission) → IsGuarded platform
+        → IsSound platform (record { lower = top_id; way = Up }) frame → is_reply frame.head.header ≡ false → Flies state frame
+        → change (share_of_domain platform frame.domain) state (Carry frame.number) ≡ Some made → made.emission ≡ Some emission → IsWellMade emission.parties emission.bytes
+        → IsSound platform (record { lower = top_id; way = Down }) (descriptor_of frame.domain number emission) }
+    ensures answered { (platform : Platform) (function : ℕ) (frame : Descriptor) (number : ℕ) (state : Alone) (made : Change) (emission : Emission) → IsGuarded platform → is_function platform.functions function ≡ true
+        → IsSound platform (record { lower = function; way = Down }) frame → is_reply frame.head.header ≡ false → Flies state frame
+        → change (share_of_domain platform frame.domain) state (Carry frame.number) ≡ Some made → made.emission ≡ Some emission → IsWellMade emission.parties emission.bytes
+        → IsSound platform (record { lower = function; way = Up }) (descriptor_of frame.domain number emission) }
+    ensures refused { (platform : Platform) (function : ℕ) (frame : Descriptor) (number : ℕ) (state : Alone) (made : Change) (emission : Emission) → IsGuarded platform
+        → IsSound platform (record { lower = function; way = Up }) frame → frame.head.parties ≡ Upward function → Flies state frame
+        → change (share_of_domain platform frame.domain) state (Refuse frame.number) ≡ Some made → made.emission ≡ Some emission → IsWellMade emission.parties emission.bytes
+        → IsSound platform (record { lower = function; way = Down }) (descriptor_of frame.domain number emission) }
+    ensures delivered { (share : Share) (state : Alone) (number : ℕ) (made : Change) → change share state (Deliver number) ≡ Some made → made.emission ≡ None }
 {}

@@ -4,5 +4,6 @@
 mod laws;
 
 pub use laws::{
-    functions_take, guarded_ports_do_what_fates_say, host_takes, ports_pass, upstream_ports_pass,
+    emissions_are_sound, functions_take, guarded_ports_do_what_fates_say, host_takes, ports_pass,
+    upstream_ports_pass,
 };

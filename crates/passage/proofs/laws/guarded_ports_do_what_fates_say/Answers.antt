@@ -1,8 +1,5 @@
 use Rattle.passage.proofs.Agreement.{agrees}
 use Rattle.passage.proofs.Taking.{guarded_first}
-use Rattle.passage.proofs.Begins.{accesses_down}
-use Rattle.passage.proofs.Spelled.{completion_read}
-use Rattle.passage.proofs.Reaching.{reach_is, own_of}
 use Rattle.passage.proofs.laws.guarded_ports_do_what_fates_say.Goals as goal
 
 pub returns-clause-fate : goal.returns-clause-fate
