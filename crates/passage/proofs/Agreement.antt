@@ -1,5 +1,5 @@
 -- A guarded port does with a request what its fate says.
-use Rattle.std.proofs.Common.{◌≡◌, ℕ, ◌==◌, Bool, true, false, cond, ◌&&◌, ◌||◌, not, List, Option, Some, None, refl, sym, ap, subst, ◌∙◌}
+use Rattle.std.proofs.Common.{◌≡◌, ℕ, Bool, true, false, cond, ◌&&◌, ◌||◌, not, List, Option, Some, None, refl, sym, ap, ◌∙◌}
 use Rattle.std.proofs.lemmas.Bool.{eq-eqb}
 use Rattle.fab_types.specs.Controls.{validates_source, blocks_translated, redirects_requests, redirects_completions, forwards_upstream}
 use Rattle.fab_types.specs.declared.class.Class.{Class}
@@ -28,18 +28,16 @@ use Rattle.tlp_view.specs.Kinds.{is_completion, is_memory, class_of_kind}
 use Rattle.tlp_view.specs.Bytes.{packet_of}
 use Rattle.tlp_view.specs.Malformed.{malformed}
 use Rattle.tlp_view.specs.Costs.{cost_of}
-use Rattle.bridge.specs.declared.route.Route.{Route}
 use Rattle.bridge.specs.declared.route.Route.TheVariants as to
 use Rattle.bridge.specs.Bridges.{Tree}
-use Rattle.bridge.specs.Routes.{route_of, target_of}
+use Rattle.bridge.specs.Routes.{route_of}
 use Rattle.acs.specs.declared.vetting.Verdict.{Verdict}
 use Rattle.acs.specs.declared.vetting.Verdict.TheVariants as verdict
 use Rattle.acs.specs.Vetting.{is_request, is_translated, verdict_of}
 use Rattle.acs.specs.Redirection.{redirected}
-use Rattle.port.specs.declared.course.Course.{Course}
-use Rattle.port.specs.declared.course.Course.TheVariants.{Forward, Stop, Stray}
+use Rattle.port.specs.declared.course.Course.TheVariants.{Forward, Stop}
 use Rattle.port.specs.Configs.{Config}
-use Rattle.port.specs.Courses.{course_at, course_of, stopped, tested, routed, up_by, reported_by}
+use Rattle.port.specs.Courses.{course_at, course_of, stopped, tested, up_by, reported_by}
 use Rattle.domain.specs.declared.fate.Fate.{Fate}
 use Rattle.domain.specs.declared.fate.Fate.TheVariants.{ToHost}
 use Rattle.domain.specs.Fates as fates

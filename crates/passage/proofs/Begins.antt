@@ -1,9 +1,8 @@
 -- What functions and hosts begin is sound on the link that it enters.
-use Rattle.std.proofs.Common.{◌≡◌, ℕ, ◌+◌, ◌*◌, ◌/◌, ◌%◌, ◌^◌, ◌<◌, ◌≤◌, ◌==◌, ◌⊎◌, inl, inr, Bool, true, false, cond, ◌&&◌, not, Option, Some, None, List, length, option_map, refl, sym, ap, ◌∙◌, subst, arith, nat_lt, nat_le, slice_index}
+use Rattle.std.proofs.Common.{◌≡◌, ℕ, ◌+◌, ◌*◌, ◌^◌, ◌<◌, ◌≤◌, ◌==◌, inl, Bool, true, false, cond, not, Option, Some, None, List, length, option_map, refl, sym, ap, ◌∙◌, subst, arith, nat_lt, nat_le, slice_index}
 use Rattle.std.specs.Option.{is_none}
-use Rattle.std.specs.List.{find}
-use Rattle.std.proofs.lemmas.Bool.{and_parts, and_from, leb-true, le-leb, ltb-true, eqb-true, eq-eqb, false≢true}
-use Rattle.fab_types.specs.Id.{bus_of, host_of}
+use Rattle.std.proofs.lemmas.Bool.{and_parts, and_from, leb-true, le-leb, ltb-true}
+use Rattle.fab_types.specs.Id.{host_of}
 use Rattle.fab_types.specs.declared.faults.begin.MmioFault.{MmioFault}
 use Rattle.fab_types.specs.declared.faults.begin.SubmitFault.{SubmitFault}
 use Rattle.fab_types.specs.declared.faults.begin.TickFault.{TickFault}
@@ -15,7 +14,6 @@ use Rattle.fab_types.specs.declared.head.Parties.{Parties}
 use Rattle.fab_types.specs.declared.head.Parties.TheVariants.{Upward, Downward}
 use Rattle.fab_types.specs.declared.place.Origin.{Origin}
 use Rattle.fab_types.specs.declared.place.Origin.TheVariants.{Host}
-use Rattle.frame_log.specs.Descriptor.{Descriptor}
 use Rattle.function.specs.declared.plan.Plan.{Plan}
 use Rattle.function.specs.declared.plan.Plan.TheVariants.{Nothing, Halt, Fault, Pass, Emit}
 use Rattle.function.specs.declared.tags.OpenTag.{OpenTag}
@@ -45,15 +43,14 @@ use Rattle.domain.specs.Answers.{bar_of, page_at}
 use Rattle.domain.specs.Heads.{descriptor_of, header_unless, packet_header}
 use Rattle.domain.specs.HostAccesses.{host_emission, host_request, is_in_page, mmio_fault, mmio_unless, mmio_with, size_of, tag_for}
 use Rattle.domain.specs.Machine.{change}
-use Rattle.domain.specs.State.{Alone, Change, Emission, emits}
-use Rattle.domain.specs.Submits.{submit_fault, submit_unless, submitted}
-use Rattle.domain.specs.Tags.{completes, is_completion_unless, opens_tag}
+use Rattle.domain.specs.State.{Alone, Change, Emission}
+use Rattle.domain.specs.Submits.{submit_fault, submit_unless}
+use Rattle.domain.specs.Tags.{completes, is_completion_unless}
 use Rattle.domain.specs.Ticks.{sent_by, tick_fault, tick_unless, ticks, ticks_by}
 use Rattle.domain.specs.WellMade.{IsWellMade}
-use Rattle.passage.specs.Guarded.{IsFunctionOf, IsGuarded, ends_low, has_id, holds_if_any, is_below, top_id}
-use Rattle.passage.specs.Sound.{Falling, IsMeantFor, IsSound, Reaches, Replying, Rising, is_reply}
+use Rattle.passage.specs.Guarded.{IsFunctionOf, IsGuarded, ends_low, holds_if_any, top_id}
+use Rattle.passage.specs.Sound.{Falling, IsMeantFor, Reaches, Rising, is_reply}
 use Rattle.passage.proofs.Finds.{find_all, some, some_is}
-use Rattle.passage.proofs.Trees.{IsPort}
 use Rattle.passage.proofs.Below.{Under, under_root}
 use Rattle.passage.proofs.Nodes.{At, First}
 use Rattle.passage.proofs.Passing.{below, first_port_of}

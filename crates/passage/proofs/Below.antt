@@ -1,5 +1,5 @@
 -- What lies below a port, and which ports hold a target.
-use Rattle.std.proofs.Common.{◌≡◌, ℕ, zero, suc, ◌+◌, ◌<◌, ◌≤◌, ◌==◌, ◌⊎◌, inl, inr, Bool, true, false, cond, ◌&&◌, not, Option, Some, None, refl, sym, ap, ◌∙◌, subst, arith, nat_le}
+use Rattle.std.proofs.Common.{◌≡◌, ℕ, zero, suc, ◌+◌, ◌<◌, ◌≤◌, ◌==◌, ◌⊎◌, inl, inr, Bool, true, false, ◌&&◌, not, Option, Some, None, refl, sym, ap, ◌∙◌, subst, arith, nat_le}
 use Rattle.std.proofs.lemmas.Bool.{and_parts, and_from, leb-true, le-leb, eqb-true, eq-eqb, false≢true}
 use Rattle.fab_types.specs.Id.{bus_of}
 use Rattle.layout.specs.declared.lines.PortLine.{PortLine}
@@ -10,8 +10,8 @@ use Rattle.layout.specs.Rules.{is_on_bus}
 use Rattle.bridge.specs.declared.target.Target.{Target}
 use Rattle.bridge.specs.declared.target.Target.TheVariants.{Bus, Address}
 use Rattle.bridge.specs.Routes.{holder_on, holds_target, is_holder}
-use Rattle.passage.proofs.Finds.{Clash, find_again, find_passes, some, some_is}
-use Rattle.passage.proofs.Trees.{IsPort, Inside, Stands, bus_under, is_port, parent, stands}
+use Rattle.passage.proofs.Finds.{Clash, find_again, some_is}
+use Rattle.passage.proofs.Trees.{IsPort, Inside, bus_under, parent, stands}
 
 -- port f is s, or lies below it; None stands for the host's root port, above all
 pub data Under (platform : Platform) (f : PortLine) : Option PortLine → Type 0 where

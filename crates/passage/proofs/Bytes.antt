@@ -1,27 +1,23 @@
 -- What the header of a packet says of its bytes, and what its first port then does with it.
-use Rattle.std.proofs.Common.{◌≡◌, ℕ, Bool, true, false, cond, ◌&&◌, ◌||◌, not, Option, Some, None, List, refl, sym, ap, ◌∙◌, subst}
+use Rattle.std.proofs.Common.{◌≡◌, ℕ, Bool, true, false, cond, ◌&&◌, Option, Some, None, List, refl, ap, ◌∙◌}
 use Rattle.std.specs.Option.{unwrap_or}
-use Rattle.fab_types.specs.Controls.{validates_source, blocks_translated, forwards_upstream}
+use Rattle.fab_types.specs.Controls.{validates_source, blocks_translated}
 use Rattle.fab_types.specs.Id.{bus_of}
 use Rattle.fab_types.specs.declared.faults.malformed.Malformed.{Malformed}
 use Rattle.fab_types.specs.declared.head.AddressType.{AddressType}
 use Rattle.fab_types.specs.declared.head.AddressType.TheVariants.{Untranslated}
-use Rattle.fab_types.specs.declared.head.Header.{Header}
 use Rattle.fab_types.specs.declared.head.Header.TheVariants as header
 use Rattle.fab_types.specs.declared.head.Parties.{Parties}
-use Rattle.fab_types.specs.declared.head.Parties.TheVariants.{Upward}
-use Rattle.fab_types.specs.declared.status.Status.TheVariants.{UR, CA}
 use Rattle.layout.specs.declared.lines.PortLine.{PortLine}
-use Rattle.layout.specs.Owners.{first_port, holds_address, holds_bus}
+use Rattle.layout.specs.Owners.{first_port, holds_bus}
 use Rattle.tlp_view.specs.Bytes.{packet_of}
-use Rattle.tlp_view.specs.Kinds.{class_of_kind, is_completion, is_memory}
+use Rattle.tlp_view.specs.Kinds.{is_completion, is_memory}
 use Rattle.tlp_view.specs.Malformed.{malformed}
 use Rattle.tlp_view.specs.Packet.{Packet, address_in}
-use Rattle.domain.specs.declared.fate.Fate.{Fate}
 use Rattle.domain.specs.declared.fate.Fate.TheVariants.{ToHost}
 use Rattle.domain.specs.Fates as fates
-use Rattle.domain.specs.Heads.{header_unless, packet_header, target_for}
-use Rattle.passage.proofs.Ports.{Set}
+use Rattle.domain.specs.Heads.{header_unless, target_for}
+use Rattle.passage.proofs.Ports.{Set, and_false}
 
 -- the bytes of a memory request
 pub record MemoryBytes (bytes : List ℕ) (requester : ℕ) (address_type : AddressType) (address : ℕ) : Type 0 where
@@ -46,10 +42,6 @@ memory_bytes parties bytes requester address_type address e = go (malformed byte
     go : (m : Option Malformed) → malformed bytes ≡ m → header_unless m parties bytes ≡ header.Memory requester address_type address → MemoryBytes bytes requester address_type address
     go (Some cause) i e = absurd cc
     go None i e = kinds (is_completion (packet_of bytes).kind) (is_memory (packet_of bytes).kind) i refl refl e
-
-and_false : (a : Bool) → (a && false) ≡ false
-and_false true = refl
-and_false false = refl
 
 -- what a guarded first port lets pass has the host as its fate
 pub goes_to_host : (ports : List PortLine) (f : ℕ) (line : PortLine) (bytes : List ℕ) (requester address : ℕ) → first_port ports f ≡ Some line → Set line → holds_bus line (bus_of requester) ≡ true → MemoryBytes bytes requester Untranslated address → fates.fate ports f bytes ≡ ToHost

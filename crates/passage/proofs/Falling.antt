@@ -1,9 +1,7 @@
 -- The upstream port of a switch sends each sound packet down to where it is sound.
-use Rattle.std.proofs.Common.{◌≡◌, ℕ, zero, suc, ◌+◌, ◌*◌, ◌/◌, ◌<◌, ◌≤◌, ◌==◌, ◌⊎◌, inl, inr, Bool, true, false, cond, ◌&&◌, Option, Some, None, List, option_and_then, refl, sym, ap, ◌∙◌, subst, arith}
-use Rattle.std.specs.List.{find}
-use Rattle.std.proofs.lemmas.Bool.{and_parts, eqb-true, eq-eqb, false≢true}
+use Rattle.std.proofs.Common.{◌≡◌, ℕ, suc, ◌+◌, ◌==◌, ◌⊎◌, inl, inr, true, Option, Some, None, refl, sym, ap, ◌∙◌, subst, arith}
+use Rattle.std.proofs.lemmas.Bool.{eqb-true, eq-eqb, false≢true}
 use Rattle.fab_types.specs.Id.{bus_of}
-use Rattle.fab_types.specs.declared.head.AddressType.{AddressType}
 use Rattle.fab_types.specs.declared.head.Header.{Header}
 use Rattle.fab_types.specs.declared.head.Header.TheVariants as header
 use Rattle.frame_log.specs.Descriptor.{Descriptor}
@@ -12,16 +10,13 @@ use Rattle.layout.specs.declared.lines.SwitchLine.{SwitchLine}
 use Rattle.layout.specs.Laws.{is_hung}
 use Rattle.layout.specs.Owners.{first_port, is_function}
 use Rattle.layout.specs.Platform.{Platform}
-use Rattle.layout.specs.Tree.{id_below, internal_bus, is_switch, port_above, port_at}
-use Rattle.bridge.specs.declared.route.Route.{Route}
-use Rattle.bridge.specs.declared.route.Route.TheVariants as to
+use Rattle.layout.specs.Tree.{id_below, internal_bus, port_above, port_at}
 use Rattle.bridge.specs.declared.target.Target.{Target}
 use Rattle.bridge.specs.Bridges.{of_platform}
-use Rattle.bridge.specs.Routes.{holder_on, holds_target, route_below, route_downward, route_from, route_of, switch_at as switch_by, target_of, to_holder}
-use Rattle.port.specs.declared.course.Course.{Course}
-use Rattle.port.specs.declared.course.Course.TheVariants.{Forward, Stop, Stray}
+use Rattle.bridge.specs.Routes.{holder_on, holds_target, switch_at as switch_by, target_of}
+use Rattle.port.specs.declared.course.Course.TheVariants.{Forward}
 use Rattle.port.specs.Configs.{exits_of, upstream_config, lane_to}
-use Rattle.port.specs.Courses.{course_of, down_by, down_lane}
+use Rattle.port.specs.Courses.{course_of}
 use Rattle.port.specs.Vetted.{may_go_on, requester_owner}
 use Rattle.passage.specs.Guarded.{IsFunctionOf, IsGuarded, holds_if_any}
 use Rattle.passage.specs.Sound.{Falling, IsMeantFor}

@@ -1,16 +1,15 @@
 -- The functions of a domain: each listed function is of one, and the peers that a domain's mappings lead to are its own.
-use Rattle.std.proofs.Common.{◌≡◌, ℕ, ◌+◌, ◌*◌, ◌/◌, ◌≤◌, ◌==◌, ◌⊎◌, inl, inr, Bool, true, false, cond, ◌&&◌, ◌||◌, Option, Some, None, List, [], ◌∷◌, option_map, refl, sym, ap, ◌∙◌, subst, arith}
-use Rattle.std.specs.List.{find, filter, list_all, list_any}
+use Rattle.std.proofs.Common.{◌≡◌, ℕ, ◌==◌, Bool, true, false, cond, ◌&&◌, Option, Some, None, List, [], ◌∷◌, option_map, refl, sym, ap, ◌∙◌, arith}
+use Rattle.std.specs.List.{find, filter, list_all}
 use Rattle.std.proofs.lemmas.Bool.{and_parts, and_from, eqb-true, eq-eqb, false≢true}
 use Rattle.fab_types.specs.Id.{bus_of}
 use Rattle.layout.specs.declared.lines.Access.{Access}
 use Rattle.layout.specs.declared.lines.FunctionLine.{FunctionLine}
 use Rattle.layout.specs.declared.lines.MapLine.{MapLine}
-use Rattle.layout.specs.declared.lines.MapTarget.{MapTarget}
-use Rattle.layout.specs.declared.lines.MapTarget.TheVariants.{Frame, Peer}
+use Rattle.layout.specs.declared.lines.MapTarget.TheVariants.{Peer}
 use Rattle.layout.specs.declared.lines.PortLine.{PortLine}
 use Rattle.layout.specs.Laws.{IsPlatform, is_home_map, is_home_target, is_known, is_known_map, is_placed, is_placed_below}
-use Rattle.layout.specs.Owners.{domain_above, first_port, is_function}
+use Rattle.layout.specs.Owners.{first_port, is_function}
 use Rattle.layout.specs.Platform.{Platform}
 use Rattle.layout.specs.Tables.{fits, target_of}
 use Rattle.layout.specs.Tree.{domain_of, id_below, owner_or_none, port_over}

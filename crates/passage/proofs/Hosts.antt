@@ -1,52 +1,47 @@
 -- The machine of a domain has a case for each sound packet of the domain at the host, or the host sends it down.
-use Rattle.std.proofs.Common.{◌≡◌, ◌≢◌, ℕ, ◌+◌, ◌*◌, ◌/◌, ◌<◌, ◌≤◌, ◌==◌, ◌⊎◌, inl, inr, Bool, true, false, cond, ◌&&◌, ◌||◌, not, Option, Some, None, List, option_map, refl, sym, ap, ◌∙◌, subst, arith, nat_lt}
+use Rattle.std.proofs.Common.{◌≡◌, ◌≢◌, ℕ, ◌/◌, ◌≤◌, ◌==◌, ◌⊎◌, inl, inr, Bool, true, false, cond, Option, Some, None, List, option_map, refl, sym, ap, ◌∙◌, subst, arith, nat_lt}
 use Rattle.std.specs.Option.{IsSome}
-use Rattle.std.specs.List.{find}
-use Rattle.std.proofs.lemmas.Bool.{and_parts, and_from, leb-true, eqb-true, eq-eqb, false≢true, cond-true}
+use Rattle.std.proofs.lemmas.Bool.{and_parts, and_from, leb-true, eq-eqb, false≢true, cond-true}
 use Rattle.fab_types.specs.Id.{bus_of, host_of}
 use Rattle.fab_types.specs.declared.head.AddressType.{AddressType}
 use Rattle.fab_types.specs.declared.head.AddressType.TheVariants.{Untranslated}
-use Rattle.fab_types.specs.declared.head.Answerer.{Answerer}
 use Rattle.fab_types.specs.declared.head.Answerer.TheVariants as by
 use Rattle.fab_types.specs.declared.head.Header.{Header}
 use Rattle.fab_types.specs.declared.head.Header.TheVariants as header
 use Rattle.fab_types.specs.declared.head.Parties.{Parties}
-use Rattle.fab_types.specs.declared.head.Parties.TheVariants.{Upward, Downward, Answer}
+use Rattle.fab_types.specs.declared.head.Parties.TheVariants.{Upward, Answer}
 use Rattle.fab_types.specs.declared.place.Origin.{Origin}
-use Rattle.fab_types.specs.declared.place.Origin.TheVariants.{Function, Host}
+use Rattle.fab_types.specs.declared.place.Origin.TheVariants.{Host}
 use Rattle.frame_log.specs.Descriptor.{Descriptor}
 use Rattle.layout.specs.declared.lines.Access.TheVariants.{Read, Write}
 use Rattle.layout.specs.declared.lines.FunctionLine.{FunctionLine}
 use Rattle.layout.specs.declared.lines.MapTarget.{MapTarget}
 use Rattle.layout.specs.declared.lines.MapTarget.TheVariants.{Frame, Peer}
-use Rattle.layout.specs.declared.lines.PortLine.{PortLine}
 use Rattle.layout.specs.Owners.{owner_of, is_function}
 use Rattle.layout.specs.Platform.{Platform}
-use Rattle.layout.specs.Share.{Share}
 use Rattle.layout.specs.Tables.{target_of}
 use Rattle.layout.specs.Views.{share_of_domain}
 use Rattle.tlp_view.specs.Bytes.{packet_of}
 use Rattle.tlp_view.specs.Packet.{Packet, dw_count}
 use Rattle.tlp_view.specs.Runs.{is_write}
 use Rattle.domain.specs.declared.entry.Entry.TheVariants.{Carry, Deliver}
-use Rattle.domain.specs.declared.fate.Fate.{Fate}
 use Rattle.domain.specs.declared.fate.Fate.TheVariants.{ToHost}
 use Rattle.domain.specs.Answers.{address_of, bar_of}
-use Rattle.domain.specs.Carries.{carriage_by, carriage_end, carriage_of, forward, is_carried, is_owner, read_from, refused_by_host, serve, serve_read, write_to}
-use Rattle.domain.specs.Deliveries.{arrival, arrival_of}
+use Rattle.domain.specs.Carries.{carriage_by, carriage_of, forward, is_carried, is_owner, read_from, refused_by_host, serve, serve_read, write_to}
+use Rattle.domain.specs.Deliveries.{arrival_of}
 use Rattle.domain.specs.Ends.{conclude}
 use Rattle.domain.specs.Fates as fates
 use Rattle.domain.specs.Heads.{head_of}
-use Rattle.domain.specs.Machine.{carry, change, deliver, ended}
-use Rattle.domain.specs.State.{Alone, Change, Emission, item_at}
+use Rattle.domain.specs.Machine.{carry, deliver}
+use Rattle.domain.specs.State.{Alone, Emission}
 use Rattle.passage.specs.Ends.{Flies, IsFor, IsLegal, IsOwnRequest}
-use Rattle.passage.specs.Guarded.{IsFunctionOf, IsGuarded, has_id, top_id, is_below}
-use Rattle.passage.specs.Sound.{Falling, IsCleared, IsSound, Reaches, Replying, Rising, is_reply}
+use Rattle.passage.specs.Guarded.{IsFunctionOf, IsGuarded, has_id, top_id}
+use Rattle.passage.specs.Sound.{Falling, IsCleared, Reaches, Replying, Rising, is_reply}
 use Rattle.passage.proofs.Bytes.{MemoryBytes, goes_to_host, memory_bytes}
-use Rattle.passage.proofs.Finds.{any_found, some, some_is}
+use Rattle.passage.proofs.Finds.{any_found}
 use Rattle.passage.proofs.Below.{not_first, under_root}
 use Rattle.passage.proofs.Homes.{peer_of}
-use Rattle.passage.proofs.Nodes.{At, First}
+use Rattle.passage.proofs.Nodes.{At}
 use Rattle.passage.proofs.Owners.{below_owner, small}
 use Rattle.passage.proofs.Passing.{below, first_held, first_port_of, reply_falls, set_at}
 

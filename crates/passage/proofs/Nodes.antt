@@ -1,13 +1,13 @@
 -- The functions and switches of a guarded layout in its tree, and what the lower end of a link has below it.
-use Rattle.std.proofs.Common.{◌≡◌, ℕ, zero, suc, ◌+◌, ◌*◌, ◌/◌, ◌%◌, ◌<◌, ◌≤◌, ◌==◌, ◌⊎◌, inl, inr, Bool, true, false, cond, ◌&&◌, ◌||◌, not, Option, Some, None, List, option_map, option_and_then, refl, sym, ap, ◌∙◌, subst, arith, nat_le}
+use Rattle.std.proofs.Common.{◌≡◌, ℕ, ◌+◌, ◌%◌, ◌<◌, ◌≤◌, ◌==◌, ◌⊎◌, inl, inr, Bool, true, false, ◌&&◌, ◌||◌, not, Option, Some, None, List, option_map, option_and_then, refl, sym, ap, ◌∙◌, subst, arith, nat_le}
 use Rattle.std.specs.List.{find, list_any}
-use Rattle.std.proofs.lemmas.Bool.{and_parts, and_from, leb-true, le-leb, eqb-true, eq-eqb, false≢true}
+use Rattle.std.proofs.lemmas.Bool.{and_parts, leb-true, eqb-true, eq-eqb, false≢true}
 use Rattle.fab_types.specs.Id.{bus_of, id_of}
 use Rattle.layout.specs.declared.lines.FunctionLine.{FunctionLine}
 use Rattle.layout.specs.declared.lines.PortLine.{PortLine}
 use Rattle.layout.specs.declared.lines.SwitchLine.{SwitchLine}
 use Rattle.layout.specs.Laws.{IsPlatform, is_hung, is_hung_by, is_hung_below, is_placed, is_placed_below}
-use Rattle.layout.specs.Owners.{domain_above, first_port, holds_bus, is_function}
+use Rattle.layout.specs.Owners.{first_port, holds_bus, is_function}
 use Rattle.layout.specs.Platform.{Platform}
 use Rattle.layout.specs.Reach.{holds_bus_if_any}
 use Rattle.layout.specs.Tree.{id_below, internal_bus, is_switch, is_taken, port_above, port_at, port_over, switch_on}
@@ -15,9 +15,9 @@ use Rattle.bridge.specs.declared.target.Target.{Target}
 use Rattle.bridge.specs.declared.target.Target.TheVariants.{Bus}
 use Rattle.bridge.specs.Routes.{holds_target}
 use Rattle.passage.specs.Guarded.{IsFunctionOf, IsGuarded, is_below, is_no_switch, top_id}
-use Rattle.passage.proofs.Finds.{Found, any_found, find_all, find_any, find_passes, some, some_is}
-use Rattle.passage.proofs.Trees.{IsPort, bus_under, hung_at, is_port, parent, stands, switch_of}
-use Rattle.passage.proofs.Below.{Above, Under, holds_own, lift, not_first, one_below, one_secondary, same_or_later, under_root}
+use Rattle.passage.proofs.Finds.{any_found, find_all, find_any, find_passes, some, some_is}
+use Rattle.passage.proofs.Trees.{IsPort, is_port, parent, switch_of}
+use Rattle.passage.proofs.Below.{Under, holds_own, lift, not_first, one_below, one_secondary, same_or_later, under_root}
 
 -- a switch directly below a port has that port's first bus; without one it is the top one
 pub hung_id : (ports : List PortLine) (above : Option ℕ) (switch : SwitchLine) (a : PortLine) → is_hung_by ports above switch ≡ true → option_and_then (λ id. port_at ports id) above ≡ Some a → switch.id ≡ id_below a

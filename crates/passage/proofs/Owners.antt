@@ -1,7 +1,6 @@
 -- The domain of the requester of a sound packet.
-use Rattle.std.proofs.Common.{◌≡◌, ℕ, zero, suc, ◌+◌, ◌*◌, ◌/◌, ◌%◌, ◌<◌, ◌≤◌, ◌==◌, Bool, true, false, cond, ◌&&◌, ◌||◌, not, Option, Some, None, List, option_map, option_and_then, refl, sym, ap, ◌∙◌, subst, arith, nat_le, ne_eqb}
-use Rattle.std.specs.List.{find, list_any}
-use Rattle.std.proofs.lemmas.Bool.{and_parts, and_from, leb-true, le-leb, eqb-true, eq-eqb, false≢true, cond-true}
+use Rattle.std.proofs.Common.{◌≡◌, ℕ, ◌<◌, ◌≤◌, ◌==◌, Bool, true, false, Option, Some, List, option_map, refl, sym, ap, ◌∙◌, arith, nat_le, ne_eqb}
+use Rattle.std.proofs.lemmas.Bool.{and_parts, leb-true, eq-eqb, cond-true}
 use Rattle.fab_types.specs.Id.{bus_of, device_of, function_of, host_of}
 use Rattle.fab_types.specs.declared.head.AddressType.{AddressType}
 use Rattle.fab_types.specs.declared.head.Header.{Header}
@@ -12,11 +11,11 @@ use Rattle.layout.specs.declared.lines.PortLine.{PortLine}
 use Rattle.layout.specs.Owners.{holds_bus, owner_of, owner_of_bus, owner_of_parts, owns_port}
 use Rattle.layout.specs.Platform.{Platform}
 use Rattle.layout.specs.Reach.{holds_bus_if_any}
-use Rattle.port.specs.Vetted.{is_owner, may_go_on, requester_owner}
+use Rattle.port.specs.Vetted.{may_go_on, requester_owner}
 use Rattle.bridge.specs.declared.target.Target.TheVariants.{Bus}
 use Rattle.passage.specs.Guarded.{IsFunctionOf, IsGuarded, has_domain, has_id}
-use Rattle.passage.specs.Sound.{Reaches, is_reply}
-use Rattle.passage.proofs.Finds.{any_found, find_all, find_any, find_passes, some, some_is}
+use Rattle.passage.specs.Sound.{Reaches}
+use Rattle.passage.proofs.Finds.{any_found, find_all, find_any, find_passes, some}
 use Rattle.passage.proofs.Trees.{IsPort, is_port}
 use Rattle.passage.proofs.Below.{not_first, one_owner}
 use Rattle.passage.proofs.Nodes.{First, first_of}

@@ -1,19 +1,17 @@
 -- The ports of a guarded layout send each sound packet on to where it is sound.
-use Rattle.std.proofs.Common.{◌≡◌, ℕ, zero, suc, ◌+◌, ◌*◌, ◌/◌, ◌%◌, ◌<◌, ◌≤◌, ◌==◌, ◌⊎◌, inl, inr, Bool, true, false, cond, ◌&&◌, Option, Some, None, List, option_and_then, refl, sym, ap, ◌∙◌, subst, arith}
+use Rattle.std.proofs.Common.{◌≡◌, ℕ, suc, ◌≤◌, ◌==◌, ◌⊎◌, inl, inr, Bool, true, false, Option, Some, None, refl, sym, ap, ◌∙◌, subst, arith}
 use Rattle.std.specs.List.{find}
 use Rattle.std.proofs.lemmas.Bool.{and_parts, leb-true, eqb-true, false≢true}
-use Rattle.fab_types.specs.Id.{bus_of, host_of}
+use Rattle.fab_types.specs.Id.{bus_of}
 use Rattle.fab_types.specs.declared.head.AddressType.{AddressType}
 use Rattle.fab_types.specs.declared.head.AddressType.TheVariants.{Untranslated}
 use Rattle.fab_types.specs.declared.head.Answerer.{Answerer}
 use Rattle.fab_types.specs.declared.head.Answerer.TheVariants as by
 use Rattle.fab_types.specs.declared.head.Header.{Header}
 use Rattle.fab_types.specs.declared.head.Header.TheVariants as header
-use Rattle.fab_types.specs.declared.head.Parties.{Parties}
-use Rattle.fab_types.specs.declared.head.Parties.TheVariants.{Upward, Downward, Answer}
+use Rattle.fab_types.specs.declared.head.Parties.TheVariants.{Upward, Answer}
 use Rattle.fab_types.specs.declared.place.Origin.{Origin}
-use Rattle.fab_types.specs.declared.place.Origin.TheVariants.{Function, Host}
-use Rattle.fab_types.specs.declared.place.Way.TheVariants.{Up, Down}
+use Rattle.fab_types.specs.declared.place.Origin.TheVariants.{Function}
 use Rattle.frame_log.specs.Descriptor.{Descriptor}
 use Rattle.layout.specs.declared.lines.PortLine.{PortLine}
 use Rattle.layout.specs.declared.lines.SwitchLine.{SwitchLine}
@@ -22,29 +20,26 @@ use Rattle.layout.specs.Owners.{first_port, holds_bus, is_function}
 use Rattle.layout.specs.Platform.{Platform}
 use Rattle.layout.specs.Reach.{holds_bus_if_any}
 use Rattle.layout.specs.Share.{is_guarded_port}
-use Rattle.layout.specs.Tree.{id_below, internal_bus, is_switch, is_taken, port_above, port_at, switch_on}
-use Rattle.bridge.specs.declared.route.Route.{Route}
+use Rattle.layout.specs.Tree.{id_below, internal_bus, is_taken, port_above, switch_on}
 use Rattle.bridge.specs.declared.route.Route.TheVariants as to
 use Rattle.bridge.specs.declared.target.Target.{Target}
 use Rattle.bridge.specs.declared.target.Target.TheVariants.{Bus, Address}
 use Rattle.bridge.specs.Bridges.{of_platform}
-use Rattle.bridge.specs.Routes.{holder_on, holds_target, route_below, route_downward, route_from, route_of, switch_at as switch_by, target_of, to_holder, is_holder}
+use Rattle.bridge.specs.Routes.{holder_on, route_of, target_of, is_holder}
 use Rattle.acs.specs.declared.vetting.Verdict.TheVariants as verdict
 use Rattle.acs.specs.Redirection.{redirected}
-use Rattle.acs.specs.Vetting.{is_request, verdict_of}
-use Rattle.port.specs.declared.course.Course.{Course}
-use Rattle.port.specs.declared.course.Course.TheVariants.{Forward, Stop, Stray}
-use Rattle.port.specs.Configs.{downstream_config, exits_of, upstream_config, lane_to}
-use Rattle.port.specs.Courses.{course_of, down_by, down_lane}
-use Rattle.passage.specs.Guarded.{IsFunctionOf, IsGuarded, has_id, holds_if_any, is_below, top_id}
-use Rattle.passage.specs.Sound.{Falling, IsCleared, IsMeantFor, IsSound, Reaches, Replying, Rising, is_reply}
-use Rattle.passage.specs.Ways.{GoesOn, IsRelaxed, Passes, PassesDown, direction_out, down_from, up_from}
+use Rattle.acs.specs.Vetting.{verdict_of}
+use Rattle.port.specs.Configs.{downstream_config}
+use Rattle.port.specs.Courses.{course_of}
+use Rattle.passage.specs.Guarded.{IsFunctionOf, IsGuarded, has_id, holds_if_any, is_below}
+use Rattle.passage.specs.Sound.{Falling, IsCleared, IsMeantFor, Reaches, Replying, Rising, is_reply}
+use Rattle.passage.specs.Ways.{GoesOn, IsRelaxed, Passes, down_from, up_from}
 use Rattle.passage.proofs.Agreement.{RoutesUp}
-use Rattle.passage.proofs.Finds.{find_all, find_passes, some, some_is}
-use Rattle.passage.proofs.Trees.{IsPort, bus_under, is_port, parent, stands, switch_of}
-use Rattle.passage.proofs.Below.{Onward, Under, descend, holder_is, lift, not_first, not_on, under_root}
+use Rattle.passage.proofs.Finds.{find_all, find_passes, some_is}
+use Rattle.passage.proofs.Trees.{IsPort, is_port, parent, switch_of}
+use Rattle.passage.proofs.Below.{Under, lift, not_first}
 use Rattle.passage.proofs.Nodes.{At, First, at_under, first_of, holder_above, leads_on, over_is, switch_at, under_at}
-use Rattle.passage.proofs.Owners.{below_owner, owned_memory, owned_reply, reached_owner, small}
+use Rattle.passage.proofs.Owners.{below_owner, owned_memory, owned_reply, small}
 use Rattle.passage.proofs.Ports as port
 
 module _ (platform : Platform) (g : IsGuarded platform) where

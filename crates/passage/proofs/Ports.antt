@@ -1,15 +1,14 @@
 -- What the downstream ports of a guarded layout do with sound packets.
-use Rattle.std.proofs.Common.{◌≡◌, ℕ, zero, suc, ◌+◌, ◌*◌, ◌/◌, ◌<◌, ◌≤◌, ◌==◌, ◌⊎◌, inl, inr, Bool, true, false, cond, ◌&&◌, ◌||◌, not, Option, Some, None, List, option_map, map, slice_get, refl, sym, ap, ◌∙◌, subst, arith}
-use Rattle.std.specs.List.{find, filter, position, list_all}
-use Rattle.std.proofs.lemmas.Bool.{and_parts, and_from, eqb-true, eq-eqb, false≢true, cond-true, cond-false}
+use Rattle.std.proofs.Common.{◌≡◌, ℕ, suc, ◌==◌, Bool, true, false, cond, ◌&&◌, ◌||◌, not, Option, Some, None, List, option_map, slice_get, refl, sym, ap, ◌∙◌, subst}
+use Rattle.std.specs.List.{find, filter}
+use Rattle.std.proofs.lemmas.Bool.{and_parts, and_from, eq-eqb, false≢true, cond-true, cond-false}
 use Rattle.fab_types.specs.Controls.{validates_source, blocks_translated, redirects_requests, redirects_completions, forwards_upstream}
-use Rattle.fab_types.specs.Id.{bus_of, host_of}
+use Rattle.fab_types.specs.Id.{bus_of}
 use Rattle.fab_types.specs.declared.head.AddressType.{AddressType}
 use Rattle.fab_types.specs.declared.head.AddressType.TheVariants.{Untranslated, TranslationRequest, Translated, Reserved}
 use Rattle.fab_types.specs.declared.head.Head.{Head}
 use Rattle.fab_types.specs.declared.head.Header.{Header}
 use Rattle.fab_types.specs.declared.head.Header.TheVariants as header
-use Rattle.fab_types.specs.declared.head.Parties.{Parties}
 use Rattle.fab_types.specs.declared.head.Parties.TheVariants.{Upward}
 use Rattle.fab_types.specs.declared.violation.Check.{Check}
 use Rattle.fab_types.specs.declared.violation.Check.TheVariants.{SourceValidation, TranslationBlocking}
@@ -20,26 +19,24 @@ use Rattle.layout.specs.Owners.{holds_bus}
 use Rattle.layout.specs.Platform.{Platform}
 use Rattle.layout.specs.Rules.{is_on_bus}
 use Rattle.layout.specs.Share.{is_guarded_port}
-use Rattle.layout.specs.Tree.{id_below, internal_bus, is_taken, port_at}
-use Rattle.bridge.specs.declared.route.Route.{Route}
+use Rattle.layout.specs.Tree.{id_below, internal_bus, is_taken}
 use Rattle.bridge.specs.declared.route.Route.TheVariants as to
 use Rattle.bridge.specs.declared.target.Target.{Target}
-use Rattle.bridge.specs.declared.target.Target.TheVariants.{Bus, Address}
-use Rattle.bridge.specs.Bridges.{Tree, of_platform}
-use Rattle.bridge.specs.Routes.{holder_on, holds, holds_target, is_holder, route_from, route_of, route_upward, target_of, to_holder}
+use Rattle.bridge.specs.declared.target.Target.TheVariants.{Bus}
+use Rattle.bridge.specs.Bridges.{of_platform}
+use Rattle.bridge.specs.Routes.{holder_on, route_from, route_of, target_of, to_holder}
 use Rattle.acs.specs.declared.vetting.Verdict.{Verdict}
 use Rattle.acs.specs.declared.vetting.Verdict.TheVariants as verdict
-use Rattle.acs.specs.Vetting.{is_request, is_translated, verdict_of}
+use Rattle.acs.specs.Vetting.{is_translated, verdict_of}
 use Rattle.acs.specs.Redirection.{completion_goes_up, goes_up, own_goes_up, redirected, request_goes_up}
 use Rattle.port.specs.declared.config.Exit.{Exit}
 use Rattle.port.specs.declared.course.Course.{Course}
-use Rattle.port.specs.declared.course.Course.TheVariants.{Forward, Stop, Stray}
-use Rattle.port.specs.Configs.{Config, downstream_config, exit_of, exits_of, lane_to, leads_to}
-use Rattle.port.specs.Courses.{course_of, down_lane, routed, stopped, tested, up_by}
+use Rattle.port.specs.declared.course.Course.TheVariants.{Forward, Stop}
+use Rattle.port.specs.Configs.{downstream_config, exit_of, exits_of, lane_to, leads_to}
+use Rattle.port.specs.Courses.{course_of, routed, stopped, tested}
 use Rattle.topology.specs.Nodes.{ports_on}
-use Rattle.passage.specs.Sound.{is_reply}
 use Rattle.passage.specs.Ways.{direction_out, down_from}
-use Rattle.passage.proofs.Finds.{find_all, find_among, placed, some, some_is}
+use Rattle.passage.proofs.Finds.{find_among, placed}
 use Rattle.passage.proofs.Trees.{IsPort}
 
 -- ---- the controls
@@ -84,7 +81,7 @@ lane_down platform switch bus q same port on taken =
 
 -- ---- verdicts
 
-and_false : (a : Bool) → (a && false) ≡ false
+pub and_false : (a : Bool) → (a && false) ≡ false
 and_false true = refl
 and_false false = refl
 

@@ -1,13 +1,13 @@
 -- To whom the machine of a domain says that an ID leads.
-use Rattle.std.proofs.Common.{◌≡◌, ℕ, ◌+◌, ◌*◌, ◌/◌, ◌<◌, ◌≤◌, ◌==◌, ◌⊎◌, inl, inr, Bool, true, false, cond, ◌&&◌, Option, Some, None, List, option_map, refl, sym, ap, ◌∙◌, subst, arith, ne_eqb}
-use Rattle.std.specs.List.{find, list_any}
-use Rattle.std.proofs.lemmas.Bool.{and_parts, leb-true, eqb-true, eq-eqb, false≢true, cond-true, cond-false}
+use Rattle.std.proofs.Common.{◌≡◌, ℕ, ◌≤◌, ◌==◌, Bool, true, false, ◌&&◌, Option, Some, option_map, refl, sym, ap, ◌∙◌, arith, ne_eqb}
+use Rattle.std.specs.List.{find}
+use Rattle.std.proofs.lemmas.Bool.{and_parts, leb-true, eqb-true, eq-eqb, cond-true, cond-false}
 use Rattle.fab_types.specs.Id.{bus_of, host_of}
 use Rattle.fab_types.specs.declared.place.Origin.{Origin}
 use Rattle.fab_types.specs.declared.place.Origin.TheVariants.{Function, Host}
 use Rattle.layout.specs.declared.lines.FunctionLine.{FunctionLine}
 use Rattle.layout.specs.declared.lines.PortLine.{PortLine}
-use Rattle.layout.specs.Owners.{domain_above, first_port, holds_bus, is_function, is_own_function}
+use Rattle.layout.specs.Owners.{first_port, is_function, is_own_function}
 use Rattle.layout.specs.Platform.{Platform}
 use Rattle.layout.specs.Reach.{function_at, holds_bus_if_any, reach}
 use Rattle.layout.specs.Tree.{id_below}
@@ -15,11 +15,11 @@ use Rattle.layout.specs.Views.{share_of_domain}
 use Rattle.bridge.specs.declared.target.Target.TheVariants.{Bus}
 use Rattle.passage.specs.Guarded.{IsFunctionOf, IsGuarded, has_id}
 use Rattle.passage.specs.Sound.{Reaches}
-use Rattle.passage.proofs.Finds.{Found, any_found, find_any, find_passes, some, some_is}
-use Rattle.passage.proofs.Trees.{IsPort, is_port}
-use Rattle.passage.proofs.Below.{Under, not_first, one_secondary}
+use Rattle.passage.proofs.Finds.{Found, any_found, find_any, find_passes, some}
+use Rattle.passage.proofs.Trees.{is_port}
+use Rattle.passage.proofs.Below.{not_first, one_secondary}
 use Rattle.passage.proofs.Homes.{home_of}
-use Rattle.passage.proofs.Nodes.{First, holder_above, only_here}
+use Rattle.passage.proofs.Nodes.{holder_above, only_here}
 use Rattle.passage.proofs.Owners.{small}
 use Rattle.passage.proofs.Passing.{first_held, first_leads, first_port_of}
 

@@ -1,8 +1,7 @@
 -- What answers a sound packet, or is sent on in its place, is sound on the link that it enters.
-use Rattle.std.proofs.Common.{◌≡◌, ℕ, ◌+◌, ◌*◌, ◌/◌, ◌%◌, ◌^◌, ◌<◌, ◌≤◌, ◌==◌, ◌⊎◌, inl, inr, Bool, true, false, cond, Option, Some, None, List, option_map, option_and_then, refl, sym, ap, ◌∙◌, subst, arith, nat_lt}
-use Rattle.std.proofs.lemmas.Bool.{and_parts, false≢true}
-use Rattle.fab_types.specs.Id.{bus_of, host_of}
-use Rattle.fab_types.specs.declared.head.AddressType.{AddressType}
+use Rattle.std.proofs.Common.{◌≡◌, ℕ, ◌+◌, ◌/◌, ◌%◌, ◌⊎◌, inl, inr, Bool, true, false, cond, Option, Some, None, List, option_map, option_and_then, refl, sym, ap, ◌∙◌, subst, arith, nat_lt}
+use Rattle.std.proofs.lemmas.Bool.{false≢true}
+use Rattle.fab_types.specs.Id.{bus_of}
 use Rattle.fab_types.specs.declared.head.AddressType.TheVariants.{Untranslated}
 use Rattle.fab_types.specs.declared.head.Answerer.{Answerer}
 use Rattle.fab_types.specs.declared.head.Answerer.TheVariants as by
@@ -12,25 +11,22 @@ use Rattle.fab_types.specs.declared.head.Header.TheVariants as header
 use Rattle.fab_types.specs.declared.head.Parties.{Parties}
 use Rattle.fab_types.specs.declared.head.Parties.TheVariants.{Upward, Downward, Answer}
 use Rattle.fab_types.specs.declared.place.Origin.{Origin}
-use Rattle.fab_types.specs.declared.place.Origin.TheVariants.{Function, Host}
+use Rattle.fab_types.specs.declared.place.Origin.TheVariants.{Function}
 use Rattle.fab_types.specs.declared.status.Status.{Status}
 use Rattle.fab_types.specs.declared.status.Status.TheVariants.{UR}
-use Rattle.fab_types.specs.declared.violation.Violation.{Violation}
 use Rattle.frame_log.specs.Descriptor.{Descriptor}
-use Rattle.function.specs.Accesses.{answer as page_answer, read_data}
+use Rattle.function.specs.Accesses.{read_data}
 use Rattle.host_memory.specs.Pages.{page_of}
 use Rattle.layout.specs.declared.lines.Access.TheVariants.{Read, Write}
 use Rattle.layout.specs.declared.lines.MapTarget.{MapTarget}
 use Rattle.layout.specs.declared.lines.MapTarget.TheVariants.{Frame, Peer}
-use Rattle.layout.specs.declared.lines.PortLine.{PortLine}
 use Rattle.layout.specs.Owners.{first_port, holds_bus, is_function}
 use Rattle.layout.specs.Platform.{Platform}
 use Rattle.layout.specs.Reach.{reach}
 use Rattle.layout.specs.Share.{Share}
 use Rattle.layout.specs.Tables.{target_of as mapped_to}
-use Rattle.layout.specs.Tree.{id_below}
 use Rattle.layout.specs.Views.{share_of_domain}
-use Rattle.tlp_view.specs.Bytes.{address_at, body_at, enables_at, packet_of}
+use Rattle.tlp_view.specs.Bytes.{address_at, enables_at, packet_of}
 use Rattle.tlp_view.specs.Completions.{completion_bytes, read_completion, refusal}
 use Rattle.tlp_view.specs.Malformed.{malformed}
 use Rattle.tlp_view.specs.Packet.{Body, Memory, Packet, dw_count}
@@ -40,7 +36,7 @@ use Rattle.tlp_view.proofs.Again.{body_memory}
 use Rattle.domain.specs.Answers.{address_of, answered_by, bar_of, forwarded, function_answer, host_data, host_refusal, page_at, port_answer, shown}
 use Rattle.domain.specs.Carries.{access_of, carriage_of, forward, port_id, read_from, refusal_by, refusal_of, refused_by_host, serve, serve_read, write_to}
 use Rattle.domain.specs.Ends.{conclude}
-use Rattle.domain.specs.Heads.{descriptor_of, head_of, header_unless}
+use Rattle.domain.specs.Heads.{descriptor_of, header_unless}
 use Rattle.domain.specs.Machine.{carry, change, refuse}
 use Rattle.domain.specs.State.{Alone, Change, Emission, emits_nothing, item_at, without}
 use Rattle.domain.specs.WellMade.{IsWellMade}
@@ -51,14 +47,14 @@ use Rattle.domain.specs.Deliveries.{arrival, arrived}
 use Rattle.domain.specs.Fates as fates
 use Rattle.passage.specs.Ends.{Flies}
 use Rattle.passage.specs.Guarded.{IsFunctionOf, IsGuarded, has_id, is_below, top_id}
-use Rattle.passage.specs.Sound.{Falling, IsMeantFor, IsSound, Reaches, Replying, Rising, is_reply}
+use Rattle.passage.specs.Sound.{Falling, IsMeantFor, Reaches, Replying, Rising, is_reply}
 use Rattle.passage.proofs.Begins.{falls_from_host, low_at}
 use Rattle.passage.proofs.Below.{Under, holds_own, under_root}
 use Rattle.passage.proofs.Bytes.{MemoryBytes, memory_bytes}
 use Rattle.passage.proofs.Finds.{some, some_is}
 use Rattle.passage.proofs.Homes.{peer_of}
-use Rattle.passage.proofs.Hosts.{Request, bytes_of, carriage, no_reply as completion, request_of}
-use Rattle.passage.proofs.Nodes.{At, First}
+use Rattle.passage.proofs.Hosts.{bytes_of, carriage, no_reply as completion, request_of}
+use Rattle.passage.proofs.Nodes.{At}
 use Rattle.passage.proofs.Passing.{below, first_port_of, holds_first, reply_falls}
 use Rattle.passage.proofs.Reaching.{reach_is}
 use Rattle.passage.proofs.Taking.{home_at, meant_at}

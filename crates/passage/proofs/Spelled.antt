@@ -1,12 +1,10 @@
 -- The header of a packet that a domain makes, as it is read from the packet's bytes.
-use Rattle.std.proofs.Common.{◌≡◌, ℕ, ◌+◌, ◌*◌, ◌/◌, ◌%◌, ◌^◌, ◌<◌, ◌≤◌, Bool, true, false, cond, List, [], ◌∷◌, ◌++◌, slice_index, Option, Some, None, refl, sym, ap, ◌∙◌, subst, arith, nat_lt}
+use Rattle.std.proofs.Common.{◌≡◌, ℕ, ◌+◌, ◌*◌, ◌/◌, ◌%◌, ◌^◌, ◌<◌, Bool, true, false, cond, List, Option, Some, None, refl, sym, ap, ◌∙◌, arith, nat_lt}
 use Rattle.std.specs.Option.{unwrap_or}
-use Rattle.std.specs.Int.{w32, w64, to_be_bytes}
 use Rattle.std.proofs.lemmas.Bool.{cond-true, cond-false, ltb-true, false≢true}
 use Rattle.std.proofs.lemmas.Nat.{from_be_bytes-to_be_bytes_4, from_be_bytes-to_be_bytes_8}
 use Rattle.fab_types.specs.declared.faults.malformed.Malformed.{Malformed}
 use Rattle.fab_types.specs.declared.head.AddressType.{AddressType}
-use Rattle.fab_types.specs.declared.head.Header.{Header}
 use Rattle.fab_types.specs.declared.head.Header.TheVariants as header
 use Rattle.fab_types.specs.declared.head.Parties.{Parties}
 use Rattle.fab_types.specs.declared.status.Status.{Status}
@@ -15,13 +13,12 @@ use Rattle.tlp_view.specs.declared.attributes.Attributes.{Attributes}
 use Rattle.tlp_view.specs.declared.enables.Enables.{Enables}
 use Rattle.tlp_view.specs.declared.kind.Kind.{Kind}
 use Rattle.tlp_view.specs.declared.kind.Kind.TheVariants.{MRd, MWr, Cpl, CplD}
-use Rattle.tlp_view.specs.Bytes.{address_at, body_at, packet_of, packet_of_kind, word_at}
+use Rattle.tlp_view.specs.Bytes.{address_at, packet_of, packet_of_kind, word_at}
 use Rattle.tlp_view.specs.Completions.{completion_bytes, data_body, read_completion, refusal}
-use Rattle.tlp_view.specs.Kinds.{has_form, is_completion, is_memory, kind_at}
+use Rattle.tlp_view.specs.Kinds.{has_form, is_completion, is_memory}
 use Rattle.tlp_view.specs.Malformed.{malformed}
 use Rattle.tlp_view.specs.Packet.{Body, Memory, Completion, Packet, address_in, dw_count, enables_in}
 use Rattle.tlp_view.specs.Requests.{is_high, packet_bytes}
-use Rattle.tlp_view.specs.Spelling.{header as header_bytes}
 use Rattle.tlp_view.proofs.Again.{address_narrow, address_wide, body_memory}
 use Rattle.tlp_view.proofs.KindFacts.{kind_again, memory_no_completion, wide_again}
 use Rattle.domain.specs.Heads.{header_unless, packet_header, target_for}
@@ -74,9 +71,11 @@ module _ (kind : Kind) (attributes : Attributes) (at : AddressType) (length requ
       → (address_type : AddressType) × (header_unless (malformed (bytes wide)) p (bytes wide) ≡ header.Memory requester address_type address)
   request_read p wide high fits well =
       let q = packet_of_kind kind (bytes wide) in
-      let body : unwrap_or (address_in q.body) 0 ≡ address = ap (λ (b : Body). unwrap_or (address_in b) 0) (body_memory kind (bytes wide) memory) ∙ found wide high fits in
-      (q.address_type, read p (bytes wide) q well (kind_is wide) ∙ (memory_header p q (memory_no_completion kind memory) memory
-          ∙ (ap (λ (r : ℕ). header.Memory r q.address_type (unwrap_or (address_in q.body) 0)) (requester_is wide) ∙ ap (λ (a : ℕ). header.Memory requester q.address_type a) body)))
+      let body : unwrap_or (address_in q.body) 0 ≡ address = ap (λ (b : Body). unwrap_or (address_in b) 0) (body_memory kind (bytes wide) memory) ∙ found wide high fits in (
+        q.address_type,
+        read p (bytes wide) q well (kind_is wide) ∙ (memory_header p q (memory_no_completion kind memory) memory
+            ∙ (ap (λ (r : ℕ). header.Memory r q.address_type (unwrap_or (address_in q.body) 0)) (requester_is wide) ∙ ap (λ (a : ℕ). header.Memory requester q.address_type a) body)),
+      )
 
   -- and is never read as a completion
   pub no_reply : (p : Parties) (wide : Bool) → is_reply (header_unless (malformed (bytes wide)) p (bytes wide)) ≡ false

@@ -1,12 +1,9 @@
 -- The machine of a domain has a case for each sound packet at a function of the domain, and for what a first port stops.
-use Rattle.std.proofs.Common.{◌≡◌, ◌≢◌, ℕ, ◌+◌, ◌*◌, ◌/◌, ◌<◌, ◌≤◌, ◌==◌, ◌⊎◌, inl, inr, Bool, true, false, cond, ◌&&◌, ◌||◌, not, Option, Some, None, List, option_map, refl, sym, ap, ◌∙◌, subst, arith}
+use Rattle.std.proofs.Common.{◌≡◌, ℕ, ◌==◌, ◌⊎◌, inl, inr, Bool, true, false, ◌&&◌, Option, Some, None, List, refl, sym, ap, ◌∙◌, subst, arith}
 use Rattle.std.specs.Option.{IsSome}
-use Rattle.std.specs.List.{find, list_any}
-use Rattle.std.proofs.lemmas.Bool.{and_parts, and_from, eqb-true, eq-eqb, false≢true}
+use Rattle.std.proofs.lemmas.Bool.{and_from, eq-eqb, false≢true}
 use Rattle.fab_types.specs.Id.{bus_of}
 use Rattle.fab_types.specs.declared.faults.malformed.Malformed.{Malformed}
-use Rattle.fab_types.specs.declared.head.AddressType.{AddressType}
-use Rattle.fab_types.specs.declared.head.Answerer.{Answerer}
 use Rattle.fab_types.specs.declared.head.Answerer.TheVariants as by
 use Rattle.fab_types.specs.declared.head.Head.{Head}
 use Rattle.fab_types.specs.declared.head.Header.{Header}
@@ -24,18 +21,17 @@ use Rattle.layout.specs.Share.{Share, is_guarded_port}
 use Rattle.layout.specs.Tree.{id_below, port_over}
 use Rattle.layout.specs.Views.{share_of_domain}
 use Rattle.bridge.specs.Bridges.{of_platform}
-use Rattle.port.specs.declared.course.Course.{Course}
-use Rattle.port.specs.declared.course.Course.TheVariants.{Forward, Stop}
+use Rattle.port.specs.declared.course.Course.TheVariants.{Stop}
 use Rattle.port.specs.Configs.{downstream_config}
 use Rattle.port.specs.Courses.{course_of}
 use Rattle.tlp_view.specs.Bytes.{packet_of}
-use Rattle.tlp_view.specs.Kinds.{is_completion, is_memory}
+use Rattle.tlp_view.specs.Kinds.{is_completion}
 use Rattle.tlp_view.specs.Malformed.{malformed}
 use Rattle.domain.specs.declared.entry.Entry.{Entry}
-use Rattle.domain.specs.declared.entry.Entry.TheVariants.{Carry, Deliver, Refuse}
+use Rattle.domain.specs.declared.entry.Entry.TheVariants.{Carry, Refuse}
 use Rattle.domain.specs.declared.fate.Fate.{Fate}
 use Rattle.domain.specs.declared.fate.Fate.TheVariants.{Vanish, Refused, ToHost}
-use Rattle.domain.specs.Carries.{access_of, carriage_of, port_id, refusal_by, refusal_of}
+use Rattle.domain.specs.Carries.{carriage_of, port_id, refusal_by, refusal_of}
 use Rattle.domain.specs.Ends.{conclude}
 use Rattle.domain.specs.Fates as fates
 use Rattle.domain.specs.Heads.{head_of, header_unless, packet_header}
@@ -51,8 +47,8 @@ use Rattle.passage.proofs.Agreement.{RoutesUp, agrees}
 use Rattle.passage.proofs.Below.{Under}
 use Rattle.passage.proofs.Finds.{find_all, find_any, some, some_is}
 use Rattle.passage.proofs.Homes.{home_of}
-use Rattle.passage.proofs.Hosts.{delivers, some_map}
-use Rattle.passage.proofs.Nodes.{At, First, first_of, only_here, over_is}
+use Rattle.passage.proofs.Hosts.{some_map}
+use Rattle.passage.proofs.Nodes.{At, only_here, over_is}
 use Rattle.passage.proofs.Passing.{first_leads, first_port_of, passes, under}
 use Rattle.passage.proofs.Trees.{IsPort}
 

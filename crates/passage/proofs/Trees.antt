@@ -1,19 +1,14 @@
 -- The ports of a layout as a tree: what lies below what, and which ports hold a target.
-use Rattle.std.proofs.Common.{◌≡◌, ℕ, zero, suc, ◌+◌, ◌*◌, ◌/◌, ◌<◌, ◌≤◌, ◌==◌, ◌⊎◌, inl, inr, Bool, true, false, cond, ◌&&◌, not, Option, Some, None, List, refl, sym, ap, ◌∙◌, subst, arith, option_and_then, nat_le, nat_lt}
+use Rattle.std.proofs.Common.{◌≡◌, ℕ, ◌+◌, ◌<◌, ◌≤◌, ◌==◌, Bool, true, false, ◌&&◌, not, Option, Some, None, List, refl, sym, ap, ◌∙◌, subst, arith, option_and_then, nat_le, nat_lt}
 use Rattle.std.specs.List.{find}
-use Rattle.std.proofs.lemmas.Bool.{and_parts, and_from, leb-true, le-leb, ltb-true, eqb-true, eq-eqb, false≢true}
+use Rattle.std.proofs.lemmas.Bool.{and_parts, leb-true, ltb-true, eqb-true, eq-eqb, false≢true}
 use Rattle.fab_types.specs.Id.{bus_of, id_of}
 use Rattle.layout.specs.declared.lines.PortLine.{PortLine}
 use Rattle.layout.specs.declared.lines.SwitchLine.{SwitchLine}
 use Rattle.layout.specs.Laws.{IsPlatform, are_apart, is_hung, is_hung_by, is_hung_below, is_inside, is_nested, is_nested_on}
-use Rattle.layout.specs.Owners.{holds_address, holds_bus}
 use Rattle.layout.specs.Platform.{Platform}
-use Rattle.layout.specs.Rules.{is_on_bus}
 use Rattle.layout.specs.Tree.{id_below, internal_bus, port_above, port_at, switch_on}
-use Rattle.bridge.specs.declared.target.Target.{Target}
-use Rattle.bridge.specs.declared.target.Target.TheVariants.{Bus, Address}
-use Rattle.bridge.specs.Routes.{holder_on, holds_target, is_holder}
-use Rattle.passage.proofs.Finds.{Clash, find_again, find_all, find_passes, some, some_is}
+use Rattle.passage.proofs.Finds.{Clash, find_again, find_all, find_passes}
 
 abbrev pub IsPort : Platform → PortLine → Type 0
 IsPort platform p = port_at platform.ports p.id ≡ Some p

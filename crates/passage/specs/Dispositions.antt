@@ -1,6 +1,6 @@
 -- What a port with all five controls does with what the function below it sends, beside what the machine of its domain
 -- alone says of it (PCIe 4.0, 6.12.1.1).
-use Rattle.std.specs.Prelude.{◌≡◌, ℕ, true, false, List, Option, Some, None}
+use Rattle.std.specs.Prelude.{◌≡◌, ℕ, true, List, Option, Some, None}
 use Rattle.fab_types.specs.declared.head.Head.{Head}
 use Rattle.fab_types.specs.declared.head.Parties.TheVariants.{Upward}
 use Rattle.fab_types.specs.declared.violation.Check.{Check}
@@ -19,7 +19,6 @@ use Rattle.port.specs.Courses.{reported_by}
 use Rattle.domain.specs.declared.fate.Fate.{Fate}
 use Rattle.domain.specs.declared.fate.Fate.TheVariants.{Vanish, Refused, ToHost}
 use Rattle.domain.specs.State.{Emission}
-use Rattle.domain.specs.Heads.{head_of}
 
 -- the port directly above a function, with all five controls set
 pub record IsGuardedFirst (ports : List PortLine) (config : Config) (line : PortLine) (function : ℕ) : Type 0 where

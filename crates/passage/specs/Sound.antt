@@ -1,5 +1,5 @@
 -- What holds of each packet on a link of a guarded layout, wherever it waits or travels there.
-use Rattle.std.specs.Prelude.{◌≡◌, ℕ, ⊤, ◌⊎◌, Bool, true, false, Option, Some, None}
+use Rattle.std.specs.Prelude.{◌≡◌, ℕ, ◌⊎◌, Bool, true, false, Option, Some}
 use Rattle.fab_types.specs.Id.{host_of}
 use Rattle.fab_types.specs.declared.head.AddressType.TheVariants.{Untranslated}
 use Rattle.fab_types.specs.declared.head.Answerer.{Answerer}
