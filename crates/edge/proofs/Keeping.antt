@@ -68,10 +68,6 @@ roomy_after d entry c box own legal r =
 
 -- ---- no packet is put
 
--- what is kept of the domains alone
-Numbered : List DomainView → Type 0
-Numbered ds = (place : ℕ) (d : DomainView) → slice_get ds place ≡ Some d → place_of ds d.share.domain ≡ Some place
-
 kept_with : (ds : List DomainView) (boxes others : List BoxView) (i : ℕ) (d : DomainView) (entry : Entry) (c : Change) → Keeps ds boxes → slice_get ds i ≡ Some d → change d.share d.state entry ≡ Some c
     → ((origin : Origin) → home_of ds origin ≡ Some i → HasBox others (after d entry c) origin)
     → ((origin : Origin) (place : ℕ) (x : DomainView) → place ≢ i → home_of ds origin ≡ Some place → slice_get ds place ≡ Some x → HasBox others x origin)
@@ -80,12 +76,12 @@ kept_with ds boxes others i d entry c k there legal here elsewhere =
     let new : DomainView = after d entry c in
     record {
       numbered = λ place x at.
-        home_kept ds i d new there refl (Host x.share.domain)
-        ∙ each_place (λ j y. place_of ds y.share.domain ≡ Some j) ds i new (k.numbered i d there) (λ j y apart is. k.numbered j y is) place x at;
+          home_kept ds i d new there refl (Host x.share.domain)
+          ∙ each_place (λ j y. place_of ds y.share.domain ≡ Some j) ds i new (k.numbered i d there) (λ j y apart is. k.numbered j y is) place x at;
       replayed = λ place x at. each_place (λ j y. replay y.share y.journal ≡ Some y.state) ds i new (replays_after d entry c (k.replayed i d there) legal) (λ j y apart is. k.replayed j y is) place x at;
       roomy = λ origin place x home at.
-        each_place (λ j y. home_of ds origin ≡ Some j → HasBox others y origin) ds i new (here origin) (λ j y apart is at_home. elsewhere origin j y apart at_home is) place x at
-        (sym (home_kept ds i d new there refl origin) ∙ home);
+          each_place (λ j y. home_of ds origin ≡ Some j → HasBox others y origin) ds i new (here origin) (λ j y apart is at_home. elsewhere origin j y apart at_home is) place x at
+          (sym (home_kept ds i d new there refl origin) ∙ home);
     }
 
 pub silent_keeps : (ds : List DomainView) (boxes : List BoxView) (i : ℕ) (entry : Entry) (m : Made) → IsOwn entry → Keeps ds boxes → made_at ds entry (Some i) ≡ Some m → Keeps m.domains boxes
@@ -93,8 +89,8 @@ silent_keeps ds boxes i entry m own k made =
     let s = stepped ds i entry m made in
     subst (λ (x : Made). Keeps x.domains boxes) s.is
     (kept_with ds boxes boxes i s.old entry s.made k s.there s.legal
-      (λ origin home. let h = k.roomy origin i s.old home s.there in record { box = h.box; is_there = h.is_there; roomy = roomy_after s.old entry s.made h.box own s.legal h.roomy })
-      (λ origin place x apart home at. k.roomy origin place x home at))
+    (λ origin home. let h = k.roomy origin i s.old home s.there in record { box = h.box; is_there = h.is_there; roomy = roomy_after s.old entry s.made h.box own s.legal h.roomy })
+    (λ origin place x apart home at. k.roomy origin place x home at))
 
 -- ---- a packet is put
 
@@ -163,8 +159,8 @@ emitted_keeps ds boxes to i entry m frame own k home made sent =
     let one = sent_counts _ s.made.emission frame (ap (λ (x : Made). x.sent) s.is ∙ sent) in
     subst (λ (x : Made). Keeps x.domains (changed (with_put frame) boxes to)) s.is
     (kept_with ds boxes (changed (with_put frame) boxes to) i s.old entry s.made k s.there s.legal
-      (λ origin at_home. put_here (same_origin origin to) ds boxes to origin frame i s.old entry s.made refl own k s.there s.legal one at_home)
-      (λ origin place x apart at_home at. put_elsewhere (same_origin origin to) ds boxes to origin frame i place x refl k home apart at_home at))
+    (λ origin at_home. put_here (same_origin origin to) ds boxes to origin frame i s.old entry s.made refl own k s.there s.legal one at_home)
+    (λ origin place x apart at_home at. put_elsewhere (same_origin origin to) ds boxes to origin frame i place x refl k home apart at_home at))
 
 -- and there was a place for it
 pub room_for : (ds : List DomainView) (boxes : List BoxView) (to : Origin) (i : ℕ) (entry : Entry) (m : Made) (frame : Descriptor) (class : Class) → IsOwn entry → Keeps ds boxes → home_of ds to ≡ Some i
@@ -196,10 +192,10 @@ quiet_keeps change ds boxes to origin_kept puts_kept places_kept k = record {
   numbered = k.numbered;
   replayed = k.replayed;
   roomy = λ origin place d home at.
-    quiet_here (same_origin origin to) change boxes to origin d refl origin_kept
-    (λ x r. record {
-      puts = λ class. subst (λ (l : Lanes ℕ). lane_of l class ≤ length d.state.flight) (sym (puts_kept x)) (r.puts class);
-      places = subst (λ (n : ℕ). 3 * d.share.budget + 2 * aliens_in d.journal ≤ n) (sym (places_kept x)) r.places;
-    })
-    (k.roomy origin place d home at);
+      quiet_here (same_origin origin to) change boxes to origin d refl origin_kept
+      (λ x r. record {
+        puts = λ class. subst (λ (l : Lanes ℕ). lane_of l class ≤ length d.state.flight) (sym (puts_kept x)) (r.puts class);
+        places = subst (λ (n : ℕ). 3 * d.share.budget + 2 * aliens_in d.journal ≤ n) (sym (places_kept x)) r.places;
+      })
+      (k.roomy origin place d home at);
 }

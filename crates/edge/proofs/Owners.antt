@@ -149,9 +149,9 @@ tops_meet ports one other bus all a b =
     ⊎_elim
     (λ less. absurd (clash a.line b.line bus a.high b.high a.low a.up b.low b.up (pair_at are_apart ports a.place b.place a.line b.line all a.there b.there less)))
     (λ rest. ⊎_elim
-      (λ same. ap (λ (p : PortLine). p.owner) (same_Some a.line b.line (sym a.there ∙ ap (slice_get ports) same ∙ b.there)))
-      (λ more. absurd (clash b.line a.line bus b.high a.high b.low b.up a.low a.up (pair_at are_apart ports b.place a.place b.line a.line all b.there a.there more)))
-      rest)
+    (λ same. ap (λ (p : PortLine). p.owner) (same_Some a.line b.line (sym a.there ∙ ap (slice_get ports) same ∙ b.there)))
+    (λ more. absurd (clash b.line a.line bus b.high a.high b.low b.up a.low a.up (pair_at are_apart ports b.place a.place b.line a.line all b.there a.there more)))
+    rest)
     (order a.place b.place)
 
 -- two ports with the same bus below have one owner

@@ -61,9 +61,9 @@ place_is ns i n rises there =
     let within : i < length ns = slice_get_within ns i n there in
     let here : get_or ns i n ≡ n = get_or_from_slice_get ns i n n there in
     let at : position_or_len test ns ≡ i =
-        position_or_len_is test ns i n (omega (arith, within))
-        (λ k less. let lower = AllPairs-from_increasing ns rises k i n less within in differs (get_or ns k n) n (omega (arith, lower, here)))
-        (λ less. eq-eqb (get_or ns i n) n here) in
+    position_or_len_is test ns i n (omega (arith, within))
+    (λ k less. let lower = AllPairs-from_increasing ns rises k i n less within in differs (get_or ns k n) n (omega (arith, lower, here)))
+    (λ less. eq-eqb (get_or ns i n) n here) in
     ap (λ (k : ℕ). cond (nat_lt k (length ns)) (Some k) None) at ∙ ap (λ (b : Bool). cond b (Some i) None) (lt-ltb i (length ns) within)
 
 number_here : (b : Bool) (x n : ℕ) (rest : Option ℕ) → (x == n) ≡ b → rest ≡ Some n → cond b (Some x) rest ≡ Some n
@@ -124,9 +124,9 @@ unfolding host_boxes
 host_found platform place n there =
     let test : BoxView → Bool = λ b. same_origin b.origin (Host n) in
     let functions : find test (map (function_box platform) platform.functions) ≡ None =
-        find_map test (function_box platform) platform.functions ∙ ap (option_map (function_box platform)) (none_found platform.functions) in
+    find_map test (function_box platform) platform.functions ∙ ap (option_map (function_box platform)) (none_found platform.functions) in
     let hosts : find test (map (host_box platform) (numbers platform)) ≡ Some (host_box platform n) =
-        find_map test (host_box platform) (numbers platform) ∙ ap (option_map (host_box platform)) (number_found (numbers platform) place n there) in
+    find_map test (host_box platform) (numbers platform) ∙ ap (option_map (host_box platform)) (number_found (numbers platform) place n there) in
     box_found (boxes_of platform) (Host n) ∙ find-append test (map (function_box platform) platform.functions) (map (host_box platform) (numbers platform))
     ∙ ap (λ (o : Option BoxView). option_or o (find test (map (host_box platform) (numbers platform)))) functions ∙ hosts
 
@@ -148,7 +148,7 @@ function_found platform f is =
     let test : BoxView → Bool = λ b. same_origin b.origin (Function f) in
     let line = found (λ (l : FunctionLine). l.id == f) platform.functions is in
     let functions : find test (map (function_box platform) platform.functions) ≡ Some (function_box platform line.element) =
-        find_map test (function_box platform) platform.functions ∙ ap (option_map (function_box platform)) line.is in
+    find_map test (function_box platform) platform.functions ∙ ap (option_map (function_box platform)) line.is in
     box_found (boxes_of platform) (Function f) ∙ find-append test (map (function_box platform) platform.functions) (host_boxes platform 31)
     ∙ ap (λ (o : Option BoxView). option_or o (find test (host_boxes platform 31))) functions
     ∙ ap (λ (id : ℕ). some (empty_box (places_of platform (domain_above platform.ports id)) (Function id))) (eqb-true line.element.id f line.passes)
@@ -171,7 +171,7 @@ above_is platform f domain i port laws there owns =
     let at : slice_get platform.ports (position_or_len test platform.ports) ≡ Some first.element = sym (find_at test platform.ports) ∙ first.is in
     let same : first.element.secondary ≡ port.secondary = eqb-true first.element.secondary (bus_of f) first.passes ∙ sym (eqb-true port.secondary (bus_of f) below) in
     let owner : first.element.owner ≡ domain =
-        one_owner platform (position_or_len test platform.ports) i first.element port laws at there same ∙ eqb-true port.owner domain (and-first (port.owner == domain) (test port) owns) in
+    one_owner platform (position_or_len test platform.ports) i first.element port laws at there same ∙ eqb-true port.owner domain (and-first (port.owner == domain) (test port) owns) in
     ap (option_map (λ (line : PortLine). line.owner)) first.is ∙ ap (λ (n : ℕ). Some n) owner
 
 above_any : (platform : Platform) (f domain : ℕ) → IsPlatform platform → list_any (owns_above domain f) platform.ports ≡ true → domain_above platform.ports f ≡ Some domain

@@ -12,7 +12,9 @@ ghost use Rattle.tenants.specs.Tenants.{Emits, IsGivenBack, IsStray, delivered a
 ghost use Rattle.edge.specs.Edges.{accessed, carried_at, carried_by_function, carried_by_host, IsSettled, delivered, edge_of, is_function_of, submitted, taken_from, ticked, waiting_of};
 
 use domain::{Domain, HostAccess, Record};
-use fab_types::{Bdf, Class, DomainId, Head, MmioFault, NoMemory, Origin, PortId, SubmitFault, TickFault};
+use fab_types::{
+    Bdf, Class, DomainId, Head, MmioFault, NoMemory, Origin, PortId, SubmitFault, TickFault,
+};
 use frame_log::{Frame, FrameFault};
 use layout::Layout;
 use outboxes::Outboxes;
@@ -62,6 +64,7 @@ impl Edge {
     /// The domain of this number, if there is one.
     pub fn domain(&self, number: DomainId) -> Option<&Domain>
         ensures value { option_copied result ≡ domain_at self.now.domains (place_of self.now.domains number) }
+        ensures number { IfSome result (λ domain. domain.now.share.domain ≡ number) }
     {
         self.tenants.domain(number)
     }
@@ -75,7 +78,12 @@ impl Edge {
     }
 
     /// A function submits a packet, which waits in its outbox.
-    pub fn submit<R: Wait>(&mut self, rt: &R, function: Bdf, bytes: &[u8]) -> Result<(), SubmitFault>
+    pub fn submit<R: Wait>(
+        &mut self,
+        rt: &R,
+        function: Bdf,
+        bytes: &[u8],
+    ) -> Result<(), SubmitFault>
         ensures ok { OnOk result (submitted self.old function bytes.now ≡ Some self.new) }
         // Which refusal it is: the first that applies. Without one only memory may be refused.
         ensures refused { (fault : SubmitFault) → submit_refusal self.old.domains function bytes.now ≡ Some fault → result ≡ Err fault }
@@ -96,21 +104,26 @@ impl Edge {
         ensures memory { result ≡ Err TickFault.NoMemory → Emits (made_at self.old.domains (Tick function) (place_of_function self.old.domains function)) }
         ensures err { OnErr result (self.new ≡ self.old) }
     {
-        if let Some(frame) = self.tenants.tick(rt, function)? {
-            self.outboxes.put(Origin::Function(function), frame);
+        if let Some(sent) = self.tenants.tick(rt, function)? {
+            self.outboxes.put(Origin::Function(function), sent);
         }
         Ok(())
     }
 
     /// The host of a domain reads or writes the register page of a function; the request waits in its outbox.
-    pub fn mmio<R: Wait>(&mut self, rt: &R, domain: DomainId, access: &HostAccess) -> Result<(), MmioFault>
+    pub fn mmio<R: Wait>(
+        &mut self,
+        rt: &R,
+        domain: DomainId,
+        access: &HostAccess,
+    ) -> Result<(), MmioFault>
         ensures ok { OnOk result (accessed self.old domain access.now ≡ Some self.new) }
         ensures refused { (fault : MmioFault) → mmio_refusal self.old.domains domain access.now ≡ Some fault → result ≡ Err fault }
         ensures accepted { mmio_refusal self.old.domains domain access.now ≡ None → IsOkUnless result MmioFault.NoMemory }
         ensures err { OnErr result (self.new ≡ self.old) }
     {
-        let frame = self.tenants.mmio(rt, domain, access)?;
-        self.outboxes.put(Origin::Host(domain), frame);
+        let request = self.tenants.mmio(rt, domain, access)?;
+        self.outboxes.put(Origin::Host(domain), request);
         Ok(())
     }
 
@@ -130,7 +143,12 @@ impl Edge {
 
     /// A function takes a request of its own domain; what answers it, if anything, waits in its outbox.
     /// `Stray` where the function is not one of the request's home.
-    pub fn carry_by_function<R: Wait>(&mut self, rt: &R, function: Bdf, frame: Frame) -> Result<(), FrameFault>
+    pub fn carry_by_function<R: Wait>(
+        &mut self,
+        rt: &R,
+        function: Bdf,
+        frame: Frame,
+    ) -> Result<(), FrameFault>
         ensures ok { OnOk result (carried_by_function self.old function frame ≡ Some self.new) }
         ensures fault { IfErr result (λ fault. IsGivenBack (carried_at self.old.domains function frame) frame fault) }
         ensures stray { carried_by_function self.old function frame ≡ None → result ≡ Err (FrameFault.Stray frame) }

@@ -6,5 +6,5 @@ mod edge;
 
 pub use edge::Edge;
 
-
-
+#[cfg(test)]
+mod tests;

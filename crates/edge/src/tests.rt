@@ -28,9 +28,27 @@ const WRITE: [u8; 16] = [
 /// A read of page 1 with the ID of 03:00.0, under Tag 5.
 const READ: [u8; 12] = [0, 0, 0, 1, 3, 0, 5, 0x0f, 0, 0, 0x10, 0];
 
-const ONE: Bdf = Bdf::from_bits(0x0300);
+/// The function of domain 1.
+fn one() -> Bdf {
+    Bdf::from_bits(0x0300)
+}
 
-const OTHER: Bdf = Bdf::from_bits(0x0400);
+/// The function of domain 2.
+fn other() -> Bdf {
+    Bdf::from_bits(0x0400)
+}
+
+fn of(function: Bdf) -> Origin {
+    Origin::Function(function)
+}
+
+fn domain() -> Result<DomainId, Fail> {
+    Ok(DomainId::new(1).ok_or("a domain")?)
+}
+
+fn host() -> Result<Origin, Fail> {
+    Ok(Origin::Host(domain()?))
+}
 
 /// The number of the eligible packet, which is taken.
 fn taken(edge: &mut Edge, origin: Origin, class: Class) -> Option<u64> {
@@ -52,7 +70,7 @@ fn delivered(edge: &mut Edge, origin: Origin) -> Option<(Origin, u8, Status)> {
 /// The host of a domain reads the first DW of the registers of 03:00.0.
 fn first_register<R: Wait>(rt: &R, edge: &mut Edge, domain: DomainId) -> Option<MmioFault> {
     let access = HostAccess {
-        function: ONE,
+        function: one(),
         offset: 0,
         operation: Operation::Read(1),
     };
@@ -61,28 +79,28 @@ fn first_register<R: Wait>(rt: &R, edge: &mut Edge, domain: DomainId) -> Option<
 
 /// A port has a desk refuse a packet.
 fn refused_at<D: Desk, R: Wait>(rt: &R, desk: &mut D, frame: Frame) -> Option<Frame> {
-    desk.refuse(rt, frame, PortId::new(Bdf::from_bits(0x0208))).ok()?
+    desk.refuse(rt, frame, PortId::new(Bdf::from_bits(0x0208)))
+        .ok()?
 }
 
 #[test]
 fn a_submitted_packet_waits_in_its_outbox(rt: HostRuntime) -> Result<(), Fail> {
     let layout = Layout::read(rt.alloc(), PLATFORM).ok().ok_or("a layout")?;
     let mut edge = Edge::new(rt.alloc(), &layout)?;
-    let (one, other) = (Origin::Function(ONE), Origin::Function(OTHER));
-    assert!(rt; edge.submit(&rt, ONE, &WRITE).is_ok());
-    assert!(rt; edge.submit(&rt, ONE, &READ).is_ok());
+    assert!(rt; edge.submit(&rt, one(), &WRITE).is_ok());
+    assert!(rt; edge.submit(&rt, one(), &READ).is_ok());
 
     // The read waits behind the write of its own function, and nothing waits of the other one.
-    assert!(rt; edge.head(one, Posted).is_some());
-    assert!(rt; edge.head(one, NonPosted).is_none());
-    assert!(rt; edge.head(other, Posted).is_none());
-    assert_eq!(rt; taken(&mut edge, one, Posted), Some(0));
-    assert_eq!(rt; taken(&mut edge, one, NonPosted), Some(1));
-    assert_eq!(rt; taken(&mut edge, one, NonPosted), None);
+    assert!(rt; edge.head(of(one()), Posted).is_some());
+    assert!(rt; edge.head(of(one()), NonPosted).is_none());
+    assert!(rt; edge.head(of(other()), Posted).is_none());
+    assert_eq!(rt; taken(&mut edge, of(one()), Posted), Some(0));
+    assert_eq!(rt; taken(&mut edge, of(one()), NonPosted), Some(1));
+    assert_eq!(rt; taken(&mut edge, of(one()), NonPosted), None);
 
     // A line that sends nothing leaves nothing behind.
-    assert!(rt; edge.tick(&rt, OTHER).is_ok());
-    assert!(rt; edge.head(other, Posted).is_none());
+    assert!(rt; edge.tick(&rt, other()).is_ok());
+    assert!(rt; edge.head(of(other()), Posted).is_none());
     Ok(())
 }
 
@@ -90,23 +108,27 @@ fn a_submitted_packet_waits_in_its_outbox(rt: HostRuntime) -> Result<(), Fail> {
 fn what_answers_a_request_waits_of_its_completer(rt: HostRuntime) -> Result<(), Fail> {
     let layout = Layout::read(rt.alloc(), PLATFORM).ok().ok_or("a layout")?;
     let mut edge = Edge::new(rt.alloc(), &layout)?;
-    let domain = DomainId::new(1).ok_or("a domain")?;
-    let (one, host) = (Origin::Function(ONE), Origin::Host(domain));
 
     // The host answers a read of the function.
-    assert!(rt; edge.submit(&rt, ONE, &READ).is_ok());
-    let read = edge.take(one, NonPosted).ok_or("a read")?;
+    assert!(rt; edge.submit(&rt, one(), &READ).is_ok());
+    let read = edge.take(of(one()), NonPosted).ok_or("a read")?;
     assert!(rt; edge.carry_by_host(&rt, read).is_ok());
-    assert_eq!(rt; delivered(&mut edge, host), Some((one, 5, Status::SC)));
+    assert_eq!(rt;
+        delivered(&mut edge, host()?),
+        Some((of(one()), 5, Status::SC))
+    );
 
     // The function answers a read of the host, which a function of another domain does not take.
-    assert!(rt; first_register(&rt, &mut edge, domain).is_none());
-    let read = edge.take(host, NonPosted).ok_or("a read")?;
-    let Err(FrameFault::Stray(read)) = edge.carry_by_function(&rt, OTHER, read) else {
+    assert!(rt; first_register(&rt, &mut edge, domain()?).is_none());
+    let read = edge.take(host()?, NonPosted).ok_or("a read")?;
+    let Err(FrameFault::Stray(read)) = edge.carry_by_function(&rt, other(), read) else {
         return Err(Fail::from("taken by the other function"));
     };
-    assert!(rt; edge.carry_by_function(&rt, ONE, read).is_ok());
-    assert_eq!(rt; delivered(&mut edge, one), Some((host, 0, Status::SC)));
+    assert!(rt; edge.carry_by_function(&rt, one(), read).is_ok());
+    assert_eq!(rt;
+        delivered(&mut edge, of(one())),
+        Some((host()?, 0, Status::SC))
+    );
     Ok(())
 }
 
@@ -114,20 +136,19 @@ fn what_answers_a_request_waits_of_its_completer(rt: HostRuntime) -> Result<(), 
 fn a_refused_begin_leaves_all_as_it_was(rt: HostRuntime) -> Result<(), Fail> {
     let layout = Layout::read(rt.alloc(), PLATFORM).ok().ok_or("a layout")?;
     let mut edge = Edge::new(rt.alloc(), &layout)?;
-    let (domain, one) = (DomainId::new(1).ok_or("a domain")?, Origin::Function(ONE));
     let port = Bdf::from_bits(0x0200);
     for _ in 0..3 {
-        assert!(rt; edge.submit(&rt, ONE, &WRITE).is_ok());
+        assert!(rt; edge.submit(&rt, one(), &WRITE).is_ok());
     }
-    assert!(rt; edge.submit(&rt, ONE, &WRITE).err() == Some(SubmitFault::BudgetSpent));
+    assert!(rt; edge.submit(&rt, one(), &WRITE).err() == Some(SubmitFault::BudgetSpent));
     assert!(rt; edge.submit(&rt, port, &WRITE).err() == Some(SubmitFault::NoFunction));
-    assert!(rt; edge.tick(&rt, ONE).err() == Some(TickFault::BudgetSpent));
-    assert!(rt; first_register(&rt, &mut edge, domain) == Some(MmioFault::BudgetSpent));
-    assert!(rt; edge.head(Origin::Host(domain), NonPosted).is_none());
+    assert!(rt; edge.tick(&rt, one()).err() == Some(TickFault::BudgetSpent));
+    assert!(rt; first_register(&rt, &mut edge, domain()?) == Some(MmioFault::BudgetSpent));
+    assert!(rt; edge.head(host()?, NonPosted).is_none());
     for number in 0..3 {
-        assert_eq!(rt; taken(&mut edge, one, Posted), Some(number));
+        assert_eq!(rt; taken(&mut edge, of(one()), Posted), Some(number));
     }
-    assert_eq!(rt; taken(&mut edge, one, Posted), None);
+    assert_eq!(rt; taken(&mut edge, of(one()), Posted), None);
     Ok(())
 }
 
@@ -135,17 +156,16 @@ fn a_refused_begin_leaves_all_as_it_was(rt: HostRuntime) -> Result<(), Fail> {
 fn what_answers_at_a_port_waits_in_no_outbox(rt: HostRuntime) -> Result<(), Fail> {
     let layout = Layout::read(rt.alloc(), PLATFORM).ok().ok_or("a layout")?;
     let mut edge = Edge::new(rt.alloc(), &layout)?;
-    let other = Origin::Function(OTHER);
-    assert!(rt; edge.has_function(OTHER));
+    assert!(rt; edge.has_function(other()));
     assert!(rt; !edge.has_function(Bdf::from_bits(0x0200)));
     assert_eq!(rt; edge.domains().len(), 2);
 
     // With the ID of the function of domain 1, a read of domain 2 is stopped at its first port.
-    assert!(rt; edge.submit(&rt, OTHER, &READ).is_ok());
-    let spoof = edge.take(other, NonPosted).ok_or("a read")?;
+    assert!(rt; edge.submit(&rt, other(), &READ).is_ok());
+    let spoof = edge.take(of(other()), NonPosted).ok_or("a read")?;
     let answer = refused_at(&rt, &mut edge, spoof).ok_or("an answer")?;
-    assert!(rt; edge.head(other, Completion).is_none());
+    assert!(rt; edge.head(of(other()), Completion).is_none());
     let record = edge.deliver(answer).ok().ok_or("a record")?;
-    assert_eq!(rt; told(record), Some((other, 5, Status::CA)));
+    assert_eq!(rt; told(record), Some((of(other()), 5, Status::CA)));
     Ok(())
 }

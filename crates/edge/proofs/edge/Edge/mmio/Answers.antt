@@ -9,15 +9,15 @@ use Rattle.edge.proofs.edge.Edge.mmio.Goals as goal
 pub put-requires : goal.put-requires
 put-requires g c =
     let ds = c.self.inside.tenants in let n = c.args.domain in
-    has_room ds c.mmio.new.self c.self.inside.outboxes (Host n) (Mmio c.args.access.now) (place_of ds n) c.in_ok-frame.frame (class_of c.in_ok-frame.frame) (λ n. refl) c.self.invariant refl c.in_ok-frame.ensures.ok
+    has_room ds c.mmio.new.self c.self.inside.outboxes (Host n) (Mmio c.args.access.now) (place_of ds n) c.in_ok-request.request (class_of c.in_ok-request.request) (λ n. refl) c.self.invariant refl c.in_ok-request.ensures.ok
 
 pub invariant_of-self-2 : goal.invariant_of-self-2
 invariant_of-self-2 g c =
     let ds = c.self.inside.tenants in let n = c.args.domain in
-    keeps_put ds c.mmio.new.self c.self.inside.outboxes c.put.new.self (Host n) (Mmio c.args.access.now) (place_of ds n) c.in_ok-frame.frame (λ n. refl) c.self.invariant refl c.in_ok-frame.ensures.ok c.put.ensures
+    keeps_put ds c.mmio.new.self c.self.inside.outboxes c.put.new.self (Host n) (Mmio c.args.access.now) (place_of ds n) c.in_ok-request.request (λ n. refl) c.self.invariant refl c.in_ok-request.ensures.ok c.put.ensures
 
 pub returns-clause-ok : goal.returns-clause-ok
 returns-clause-ok g c =
     let ds = c.self.inside.tenants in let n = c.args.domain in
     rw (← c.self.view_is)
-    (put_made ds c.mmio.new.self c.self.inside.outboxes c.put.new.self (Host n) (made ds n (Mmio c.args.access.now)) c.in_ok-frame.frame c.in_ok-frame.ensures.ok c.put.ensures)
+    (put_made ds c.mmio.new.self c.self.inside.outboxes c.put.new.self (Host n) (made ds n (Mmio c.args.access.now)) c.in_ok-request.request c.in_ok-request.ensures.ok c.put.ensures)
