@@ -9,6 +9,7 @@ use Rattle.layout.specs.Platform.{Platform}
 use Rattle.domain.specs.declared.access.HostAccess.{HostAccess}
 use Rattle.domain.specs.declared.entry.Entry.TheVariants as entry
 use Rattle.domain.specs.Domains.{DomainView}
+use Rattle.domain.specs.Machine.{replay}
 use Rattle.outboxes.specs.Outboxes.{BoxView, boxes_of}
 use Rattle.outboxes.specs.Outboxes as outboxes
 use Rattle.tenants.specs.Tenants.{Made, domain_at, made, made_at, place_of, place_of_function, tenants_of}
@@ -118,6 +119,10 @@ home_of domains (Host n) = place_of domains n
 pub record IsSettled (edge : EdgeView) : Type 0 where
   pub numbered : (place : ℕ) (d : DomainView) → slice_get edge.domains place ≡ Some d → place_of edge.domains d.share.domain ≡ Some place
   pub boxed : (origin : Origin) (place : ℕ) → home_of edge.domains origin ≡ Some place → IsSome (outbox_place edge.outboxes origin)
+
+-- the state of each domain is what its machine alone makes of its journal, which is legal
+abbrev pub AreReplayed : List DomainView → Type 0
+AreReplayed domains = (place : ℕ) (d : DomainView) → slice_get domains place ≡ Some d → replay d.share d.journal ≡ Some d.state
 
 -- ---- the start
 

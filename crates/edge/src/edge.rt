@@ -9,7 +9,7 @@ ghost use Rattle.fab_types.specs.declared.faults.begin.MmioFault.{MmioFault};
 ghost use Rattle.frame_log.specs.Descriptor.{Descriptor};
 ghost use Rattle.port.specs.Lanes.{eligible};
 ghost use Rattle.tenants.specs.Tenants.{Emits, IsGivenBack, IsStray, delivered as delivery, domain_at, made, made_at, mmio_refusal, place_of, place_of_function, submit_refusal, tick_refusal};
-ghost use Rattle.edge.specs.Edges.{accessed, carried_at, carried_by_function, carried_by_host, IsSettled, delivered, edge_of, is_function_of, submitted, taken_from, ticked, waiting_of};
+ghost use Rattle.edge.specs.Edges.{AreReplayed, accessed, carried_at, carried_by_function, carried_by_host, IsSettled, delivered, edge_of, is_function_of, submitted, taken_from, ticked, waiting_of};
 
 use domain::{Domain, HostAccess, Record};
 use fab_types::{
@@ -69,10 +69,11 @@ impl Edge {
         self.tenants.domain(number)
     }
 
-    /// All domains, by rising number.
+    /// All domains, by rising number. The state of each is what its machine alone makes of its journal.
     pub fn domains(&self) -> &[Domain]
         ensures value { result.now ≡ self.now.domains }
         ensures settled { IsSettled self.now }
+        ensures replayed { AreReplayed self.now.domains }
     {
         self.tenants.domains()
     }

@@ -1,15 +1,31 @@
--- The packets that wait stay in flight under their numbers, whatever happens.
-use Rattle.std.proofs.Common.{◌≡◌, ◌≢◌, ℕ, zero, suc, ◌≤◌, Bool, true, false, cond, List, [], ◌∷◌, ◌++◌, length, Option, Some, None, refl, sym, ap, ◌∙◌, subst, arith, slice_set}
-use Rattle.std.specs.Option.{IsSome}
-use Rattle.std.proofs.lemmas.List.{get_or-set_other}
-use Rattle.fab_types.specs.declared.class.Class.{Class}
-use Rattle.fab_types.specs.declared.head.Parties.TheVariants.{Upward}
+-- What an entry makes of what a domain has in flight: one packet leaves, or none, and one joins, or none.
+use Rattle.std.proofs.Common.{◌≡◌, ◌≢◌, ◌⊎◌, inl, inr, ℕ, zero, suc, ◌+◌, ◌<◌, ◌==◌, ◌&&◌, Bool, true, false, cond, eqb, List, [], ◌∷◌, ◌++◌, length, set, Option, Some, None, refl, sym, ap, ◌∙◌, subst, arith, eq-eqb, eqb-true, ne_eqb}
+use Rattle.std.specs.Prelude.{All, count_by, option_map, option_to_list, slice_set}
+use Rattle.std.proofs.lemmas.Bool.{cases_eq}
+use Rattle.std.proofs.lemmas.List.Elements.{All-cons, All-nil}
+use Rattle.std.proofs.lemmas.List.{length-set}
+use Rattle.fab_types.specs.declared.faults.begin.MmioFault.{MmioFault}
+use Rattle.fab_types.specs.declared.faults.begin.SubmitFault.{SubmitFault}
+use Rattle.fab_types.specs.declared.faults.begin.TickFault.{TickFault}
 use Rattle.frame_log.specs.Descriptor.{Descriptor}
+use Rattle.function.specs.declared.plan.Plan.{Plan}
+use Rattle.function.specs.Plans.{plan_of}
+use Rattle.layout.specs.Share.{Share}
+use Rattle.domain.specs.declared.access.HostAccess.{HostAccess}
+use Rattle.domain.specs.declared.entry.Entry.{Entry}
+use Rattle.domain.specs.declared.entry.Entry.TheVariants.{Carry, Deliver, Mmio, Refuse, Submit, Tick}
+use Rattle.domain.specs.Answers.{bar_of}
+use Rattle.domain.specs.Deliveries.{arrival, arrived}
+use Rattle.domain.specs.Ends.{replied}
+use Rattle.domain.specs.Heads.{descriptor_of}
+use Rattle.domain.specs.HostAccesses.{mmio_fault, mmio_unless, mmio_with, tag_for}
+use Rattle.domain.specs.Machine.{change}
+use Rattle.domain.specs.State.{Alone, Change, Emission, emits_nothing, item_at, without}
+use Rattle.domain.specs.Submits.{submit_fault, submit_unless}
+use Rattle.domain.specs.Ticks.{sent_by, tick_fault, tick_unless, ticked, ticks, ticks_by}
 use Rattle.domain.proofs.FlightLemmas.{item_push}
-use Rattle.domain.specs.State.{Emission, item_at}
-use Rattle.fabric_core.specs.Sent.{AllSent, HasNone, IsSent}
-use Rattle.fabric_core.specs.World.{take_first, take_head, bars, with_front}
-use Rattle.fabric_core.proofs.Few.{if_of_is}
+use Rattle.domain.proofs.Leaving.{carry_flight, deliver_flight, joined, refuse_flight}
+use Rattle.fabric_core.specs.Places.{is_numbered, times}
 
 abbrev some : {A : Type 0} → A → Option A
 some x = Some x
@@ -17,85 +33,121 @@ some x = Some x
 some_is : {A : Type 0} (x y : A) → some x ≡ some y → x ≡ y
 some_is x y e = cc
 
--- ---- flight
+-- ---- each entry
 
-past : (xs : List (Option Emission)) (n : ℕ) → length xs ≤ n → item_at xs n ≡ None
-past [] n le = refl
-past (x ∷ xs) zero le = absurd (omega arith)
-past (x ∷ xs) (suc n) le = past xs n (omega arith)
+-- a packet joins what was in flight, or none does
+abbrev pub Begins : Alone → Change → Type 0
+Begins s c = c.state.flight ≡ joined s.flight c.emission
 
-item_last : (xs : List (Option Emission)) (x : Option Emission) → item_at (xs ++ x ∷ []) (length xs) ≡ x
-item_last [] x = refl
-item_last (y ∷ ys) x = item_last ys x
+-- the same, and this one leaves
+abbrev pub EndsOne : Alone → ℕ → Change → Type 0
+EndsOne s n c = c.state.flight ≡ joined (slice_set s.flight n None) c.emission
 
-not_last : (xs : List (Option Emission)) (n : ℕ) (e : Emission) → item_at xs n ≡ Some e → n ≢ length xs
-not_last xs n e is = λ same. let none : item_at xs n ≡ None = past xs n (omega (arith, same)) in absurd cc
+replied_flight : (s : Alone) (o : Option Emission) → (replied s o).flight ≡ joined s.flight o
+replied_flight s None = refl
+replied_flight s (Some e) = refl
 
-same_sent : (domain : ℕ) (fl gl : List (Option Emission)) (x : Descriptor) → item_at gl x.number ≡ item_at fl x.number → IsSent domain fl x → IsSent domain gl x
-same_sent domain fl gl x same h = record { home = h.home; sender = h.sender; bytes = h.bytes; flies = same ∙ h.flies }
+submits : (s : Alone) (f : ℕ) (b : List ℕ) (fault : Option SubmitFault) (c : Change) → submit_unless fault s f b ≡ Some c → Begins s c
+submits s f b None c e = subst (Begins s) (some_is _ c e) refl
+submits s f b (Some fault) c e = absurd cc
 
--- a packet of another number leaves flight
-pub sent_without : (domain : ℕ) (fl : List (Option Emission)) (k : ℕ) (xs : List Descriptor) → HasNone k xs → AllSent domain fl xs → AllSent domain (slice_set fl k None) xs
-sent_without domain fl k [] none h = tt
-sent_without domain fl k (x ∷ xs) none h =
-    (same_sent domain fl (slice_set fl k None) x (get_or-set_other fl k x.number None None none.0) h.0, h.1, sent_without domain fl k xs none.1 h.2)
+pub submit_begins : (share : Share) (s : Alone) (f : ℕ) (b : List ℕ) (c : Change) → change share s (Submit f b) ≡ Some c → Begins s c
+submit_begins share s f b c e = submits s f b (submit_fault share s f b) c e
 
--- one packet more is in flight
-pub sent_more : (domain : ℕ) (fl : List (Option Emission)) (o : Option Emission) (xs : List Descriptor) → AllSent domain fl xs → AllSent domain (fl ++ o ∷ []) xs
-sent_more domain fl o [] h = tt
-sent_more domain fl o (x ∷ xs) h =
-    (same_sent domain fl (fl ++ o ∷ []) x (item_push fl o x.number (subst IsSome (sym h.0.flies) refl)) h.0, h.1, sent_more domain fl o xs h.2)
+ticks_on : (s : Alone) (f : ℕ) (page : Option (List ℕ)) (c : Change) → ticks s f page ≡ Some c → Begins s c
+ticks_on s f None c e = absurd cc
+ticks_on s f (Some page) c e =
+    let plan = plan_of f page s.open_tags in
+    subst (Begins s) (some_is (ticks_by s f plan) c e) (replied_flight (ticked s f plan) (sent_by f plan))
 
--- ---- the packets that wait
+ticks_unless : (s : Alone) (f : ℕ) (fault : Option TickFault) (c : Change) → tick_unless fault s f ≡ Some c → Begins s c
+ticks_unless s f None c e = ticks_on s f _ c e
+ticks_unless s f (Some fault) c e = absurd cc
 
-none_last : (domain : ℕ) (fl : List (Option Emission)) (xs : List Descriptor) → AllSent domain fl xs → HasNone (length fl) xs
-none_last domain fl [] h = tt
-none_last domain fl (x ∷ xs) h = (not_last fl x.number (record { parties = Upward h.0.sender; bytes = h.0.bytes }) h.0.flies, none_last domain fl xs h.2)
+pub tick_begins : (share : Share) (s : Alone) (f : ℕ) (c : Change) → change share s (Tick f) ≡ Some c → Begins s c
+tick_begins share s f c e = ticks_unless s f (tick_fault share s f) c e
 
-none_append : (n : ℕ) (xs : List Descriptor) (y : Descriptor) → HasNone n xs → y.number ≢ n → HasNone n (xs ++ y ∷ [])
-none_append n [] y h other = (other, tt)
-none_append n (x ∷ xs) y h other = (h.0, none_append n xs y h.1 other)
+accesses : (share : Share) (s : Alone) (access : HostAccess) (tag bar : Option ℕ) (c : Change) → mmio_with share s access tag bar ≡ Some c → Begins s c
+accesses share s access None bar c e = absurd cc
+accesses share s access (Some tag) None c e = absurd cc
+accesses share s access (Some tag) (Some bar) c e = subst (Begins s) (some_is _ c e) refl
 
-sent_append : (domain : ℕ) (fl : List (Option Emission)) (xs : List Descriptor) (y : Descriptor) → AllSent domain fl xs → IsSent domain fl y → HasNone y.number xs → AllSent domain fl (xs ++ y ∷ [])
-sent_append domain fl [] y h s none = (s, tt, tt)
-sent_append domain fl (x ∷ xs) y h s none = (h.0, none_append x.number xs y h.1 (λ e. none.0 (sym e)), sent_append domain fl xs y h.2 s none.1)
+accesses_unless : (share : Share) (s : Alone) (access : HostAccess) (fault : Option MmioFault) (c : Change) → mmio_unless fault share s access ≡ Some c → Begins s c
+accesses_unless share s access None c e = accesses share s access (tag_for s.open_tags share.domain access.operation) (bar_of share.functions access.function) c e
+accesses_unless share s access (Some fault) c e = absurd cc
 
--- a packet that a function sends joins them
-pub sent_joined : (domain : ℕ) (fl : List (Option Emission)) (e : Emission) (xs : List Descriptor) (y : Descriptor) (f : ℕ) (b : List ℕ) → e ≡ record { parties = Upward f; bytes = b } → y.domain ≡ domain
-    → y.number ≡ length fl → AllSent domain fl xs → AllSent domain (fl ++ Some e ∷ []) (xs ++ y ∷ [])
-sent_joined domain fl e xs y f b is home last h =
-    let gl = fl ++ some e ∷ [] in
-    let flies : item_at gl y.number ≡ Some (record { parties = Upward f; bytes = b }) = ap (item_at gl) last ∙ (item_last fl (some e) ∙ ap some is) in
-    sent_append domain gl xs y (sent_more domain fl (some e) xs h) (record { home = home; sender = f; bytes = b; flies = flies })
-    (subst (λ (n : ℕ). HasNone n xs) (sym last) (none_last domain fl xs h))
+pub mmio_begins : (share : Share) (s : Alone) (access : HostAccess) (c : Change) → change share s (Mmio access) ≡ Some c → Begins s c
+mmio_begins share s access c e = accesses_unless share s access (mmio_fault share s access) c e
 
--- ---- one of them is taken
+pub refuse_ends : (share : Share) (s : Alone) (n : ℕ) (c : Change) → change share s (Refuse n) ≡ Some c → EndsOne s n c
+refuse_ends share s n c e = refuse_flight share s n c e
 
-abbrev Left : (n : ℕ) → Descriptor × List Descriptor → Type 0
-Left n t = (t.0.number ≢ n) × HasNone n t.1
+pub carry_ends : (share : Share) (s : Alone) (n : ℕ) (c : Change) → change share s (Carry n) ≡ Some c → EndsOne s n c
+carry_ends share s n c e = carry_flight share s n c e
 
-taken_none : (test : Descriptor → Bool) (n : ℕ) (xs : List Descriptor) (t : Descriptor × List Descriptor) → take_first test xs ≡ Some t → HasNone n xs → Left n t
-taken_none test n [] t h none = absurd cc
-taken_none test n (x ∷ xs) t h none = by (test x) (take_first test xs) (λ u e. taken_none test n xs u e none.1) h where
-  by : (b : Bool) (o : Option (Descriptor × List Descriptor)) → ((u : Descriptor × List Descriptor) → o ≡ Some u → Left n u) → cond b (Some (x, xs)) (with_front x o) ≡ Some t → Left n t
-  by true o of e = subst (Left n) (some_is (x, xs) t e) none
-  by false None of e = absurd cc
-  by false (Some u) of e = let p = of u refl in subst (Left n) (some_is (u.0, x ∷ u.1) t e) (p.0, (none.0, p.1))
+silent : {A : Type 0} (f : A → Alone) (o : Option A) (c : Change) → option_map (λ (a : A). emits_nothing (f a)) o ≡ Some c → c.emission ≡ None
+silent f None c e = absurd cc
+silent f (Some a) c e = ap (λ (x : Change). x.emission) (sym (some_is (emits_nothing (f a)) c e))
 
-abbrev pub Taken : ℕ → List (Option Emission) → Descriptor × List Descriptor → Type 0
-Taken domain fl t = IsSent domain fl t.0 × HasNone t.0.number t.1 × AllSent domain fl t.1
+-- a delivery emits nothing
+pub deliver_silent : (share : Share) (s : Alone) (n : ℕ) (c : Change) → change share s (Deliver n) ≡ Some c → c.emission ≡ None
+deliver_silent share s n c e = silent (arrived (without s n)) (arrival s.open_tags (item_at s.flight n)) c e
 
-taken_sent : (test : Descriptor → Bool) (domain : ℕ) (fl : List (Option Emission)) (xs : List Descriptor) (t : Descriptor × List Descriptor) → take_first test xs ≡ Some t → AllSent domain fl xs → Taken domain fl t
-taken_sent test domain fl [] t h sent = absurd cc
-taken_sent test domain fl (x ∷ xs) t h sent =
-    by (test x) (take_first test xs) (λ u e. taken_sent test domain fl xs u e sent.2) (λ u e. taken_none test x.number xs u e sent.1) h where
-      by : (b : Bool) (o : Option (Descriptor × List Descriptor)) → ((u : Descriptor × List Descriptor) → o ≡ Some u → Taken domain fl u) → ((u : Descriptor × List Descriptor) → o ≡ Some u → Left x.number u)
-          → cond b (Some (x, xs)) (with_front x o) ≡ Some t → Taken domain fl t
-      by true o of left e = subst (Taken domain fl) (some_is (x, xs) t e) sent
-      by false None of left e = absurd cc
-      by false (Some u) of left e =
-          let p = of u refl in let q = left u refl in
-          subst (Taken domain fl) (some_is (u.0, x ∷ u.1) t e) (p.0, ((λ same. q.0 (sym same)), p.1), (sent.0, q.1, p.2))
+pub deliver_ends : (share : Share) (s : Alone) (n : ℕ) (c : Change) → change share s (Deliver n) ≡ Some c → EndsOne s n c
+deliver_ends share s n c e = deliver_flight share s n c e ∙ ap (joined (slice_set s.flight n None)) (sym (deliver_silent share s n c e))
 
-pub head_sent : (class : Class) (domain : ℕ) (fl : List (Option Emission)) (xs : List Descriptor) (t : Descriptor × List Descriptor) → take_head class xs ≡ Some t → AllSent domain fl xs → Taken domain fl t
-head_sent class domain fl xs t h sent = taken_sent (bars class) domain fl xs t (if_of_is class (take_first (bars class) xs) t h) sent
+-- ---- how often a number is in flight
+
+-- 1 if it is so
+abbrev pub one_if : Bool → ℕ
+one_if b = cond b 1 0
+
+suc_same : (k n : ℕ) → (suc k == suc n) ≡ (k == n)
+suc_same k n = by (cases_eq k n)
+  where
+    by : (k ≡ n) ⊎ (k ≢ n) → (suc k == suc n) ≡ (k == n)
+    by (inl e) = eq-eqb (suc k) (suc n) (ap suc e) ∙ sym (eq-eqb k n e)
+    by (inr other) = ne_eqb (suc k) (suc n) (λ e. other (omega arith)) ∙ sym (ne_eqb k n other)
+
+suc_other : (n : ℕ) → (suc n == 0) ≡ false
+suc_other n = ne_eqb (suc n) 0 (λ e. omega arith)
+
+zero_other : (n : ℕ) → (0 == suc n) ≡ false
+zero_other n = ne_eqb 0 (suc n) (λ e. omega arith)
+
+pub joined_times : (xs : List (Option Emission)) (e : Emission) (n : ℕ) → times (item_at (xs ++ Some e ∷ []) n) ≡ times (item_at xs n) + one_if (length xs == n)
+joined_times [] e zero = refl
+joined_times [] e (suc n) = let no_match = ap one_if (zero_other n) in omega (arith, no_match)
+joined_times (x ∷ xs) e zero = let no_match = ap one_if (suc_other (length xs)) in omega (arith, no_match)
+joined_times (x ∷ xs) e (suc n) = let same = ap one_if (suc_same (length xs) n) in omega (arith, joined_times xs e n, same)
+
+pub set_times : (xs : List (Option Emission)) (k n : ℕ) (e : Emission) → item_at xs k ≡ Some e → times (item_at (set xs k None) n) + one_if (k == n) ≡ times (item_at xs n)
+set_times [] k n e is = absurd cc
+set_times (x ∷ xs) zero zero e is = ap times (sym is)
+set_times (x ∷ xs) zero (suc n) e is = let no_match = ap one_if (zero_other n) in omega (arith, no_match)
+set_times (x ∷ xs) (suc k) zero e is = let no_match = ap one_if (suc_other k) in omega (arith, no_match)
+set_times (x ∷ xs) (suc k) (suc n) e is = let same = ap one_if (suc_same k n) in omega (arith, set_times xs k n e is, same)
+
+-- ---- what is under each number
+
+pub within : (xs : List (Option Emission)) (n : ℕ) (e : Emission) → item_at xs n ≡ Some e → n < length xs
+within [] n e is = absurd cc
+within (x ∷ xs) zero e is = omega arith
+within (x ∷ xs) (suc n) e is = (let less = within xs n e is in omega (arith, less))
+
+pub push_before : (xs : List (Option Emission)) (o : Option Emission) (n : ℕ) → n < length xs → item_at (joined xs o) n ≡ item_at xs n
+push_before xs None n less = refl
+push_before [] (Some e) n less = absurd (omega (arith, less))
+push_before (x ∷ xs) (Some e) zero less = refl
+push_before (x ∷ xs) (Some e) (suc n) less = push_before xs (Some e) n (omega (arith, less))
+
+pub push_last : (xs : List (Option Emission)) (e : Emission) → item_at (xs ++ Some e ∷ []) (length xs) ≡ Some e
+push_last [] e = refl
+push_last (x ∷ xs) e = push_last xs e
+
+pub set_item : (xs : List (Option Emission)) (k n : ℕ) → (item_at (set xs k None) n ≡ item_at xs n) ⊎ (item_at (set xs k None) n ≡ None)
+set_item [] k n = inl refl
+set_item (x ∷ xs) zero zero = inr refl
+set_item (x ∷ xs) zero (suc n) = inl refl
+set_item (x ∷ xs) (suc k) zero = inl refl
+set_item (x ∷ xs) (suc k) (suc n) = set_item xs k n

@@ -1,61 +1,94 @@
--- In the smallest platform the host leaves no packet that may leave.
-use Rattle.std.proofs.Common.{◌≡◌, ℕ, Bool, cond, List, Option, Some, None, refl, sym, ap, ◌∙◌, subst}
-use Rattle.std.specs.Option.{IsSome}
-use Rattle.std.proofs.lemmas.Bool.{eq-eqb}
-use Rattle.fab_types.specs.declared.class.Class.{Class}
-use Rattle.fab_types.specs.declared.outcome.Outcome.{Outcome}
-use Rattle.fab_types.specs.declared.outcome.Outcome.TheVariants.{Moved, Idle, Refused, NoMemory}
-use Rattle.frame_log.specs.Descriptor.{Descriptor}
-use Rattle.layout.specs.First.{first_share}
+-- An access that isn't refused is legal, so that memory is refused only to what would move.
+use Rattle.std.proofs.Common.{◌≡◌, ℕ, ◌&&◌, Bool, true, false, not, cond, List, ◌∷◌, [], Option, Some, None, Result, Ok, Err, refl, sym, ap, ◌∙◌, subst}
+use Rattle.std.specs.Prelude.{nat_le}
+use Rattle.std.specs.List.{find, list_any}
+use Rattle.std.specs.Option.{IsSome, is_none, is_some, option_map}
+use Rattle.fab_types.specs.declared.faults.begin.MmioFault.{MmioFault}
+use Rattle.fab_types.specs.declared.faults.begin.MmioFault.TheVariants as mmio
+use Rattle.layout.proofs.Bools.{any-missing}
+use Rattle.layout.specs.Owners.{is_own_function}
 use Rattle.layout.specs.Share.{Share}
-use Rattle.domain.proofs.Smallest.{carried_ends, refused_ends, sent_by, vanishing_ends}
-use Rattle.domain.specs.declared.fate.Fate.{Fate}
-use Rattle.domain.specs.declared.fate.Fate.TheVariants as fate
+use Rattle.domain.specs.declared.access.HostAccess.{HostAccess}
+use Rattle.domain.specs.declared.entry.Entry.{Entry}
+use Rattle.domain.specs.declared.entry.Entry.TheVariants as entry
+use Rattle.domain.specs.Answers.{bar_of}
 use Rattle.domain.specs.Domains.{DomainView}
-use Rattle.domain.specs.Fates.{fate as fate_by, upward_fate}
+use Rattle.domain.specs.HostAccesses.{is_in_page, mmio_fault, mmio_with, size_of, tag_for}
 use Rattle.domain.specs.Machine.{change}
-use Rattle.domain.specs.State.{Alone, item_at}
-use Rattle.fabric_core.specs.declared.event.Event.{Event}
-use Rattle.fabric_core.specs.declared.event.Event.TheVariants.{Submit, Root, Arrive}
-use Rattle.fabric_core.specs.Events.{StepsTo, end_entry, end_of, own_change, rooted}
-use Rattle.fabric_core.specs.Sent.{AreSent, IsSent, Takes}
-use Rattle.fabric_core.specs.World.{World, take_head}
-use Rattle.fabric_core.proofs.Flying.{head_sent}
-use Rattle.fabric_core.proofs.Waiting.{some_ended}
+use Rattle.domain.specs.State.{Alone, Change}
+use Rattle.tenants.specs.Tenants.{domain_at, made, made_at, made_by, made_of, mmio_refusal, mmio_refusal_by, place_of}
 
-ends_by : (s : Alone) (n f : ℕ) (b : List ℕ) (k : Fate) → item_at s.flight n ≡ Some (sent_by f b) → fate_by first_share.ports f b ≡ k → IsSome (change first_share s (end_of n (Some k)))
-ends_by s n f b fate.Vanish is same = vanishing_ends s n f b is same
-ends_by s n f b (fate.Refused status) is same = refused_ends s n f b status is same
-ends_by s n f b fate.ToHost is same = carried_ends s n f b is same
+-- ---- what a call's clauses say of its refusal
 
-ends : (s : Alone) (n f : ℕ) (b : List ℕ) → item_at s.flight n ≡ Some (sent_by f b) → IsSome (change first_share s (end_of n (upward_fate first_share (item_at s.flight n))))
-ends s n f b is =
-    subst (λ (o : Option Fate). IsSome (change first_share s (end_of n o))) (sym (ap (upward_fate first_share) is)) (ends_by s n f b (fate_by first_share.ports f b) is refl)
+module _ {F : Type 0} (none : F) (refusal : Option F) (result : Result (Unit {0}) F) (refused : (fault : F) → refusal ≡ Some fault → result ≡ Err fault) where
+  -- nothing was refused but memory
+  pub unrefused : result ≡ Err none → (refusal ≡ Some none → ⊥) → refusal ≡ None
+  unrefused is never = by refusal refl
+    where
+      by : (o : Option F) → refusal ≡ o → refusal ≡ None
+      by None e = e
+      by (Some f) e =
+          let same : f ≡ none = (let both : ◌≡◌ {A = Result (Unit {0}) F} (Err f) (Err none) = sym (refused f e) ∙ is in cc) in
+          absurd (never (e ∙ ap (λ (x : F). Some x) same))
 
-own_ends : (d : DomainView) (frame : Descriptor) → d.share ≡ first_share → IsSent d.share.domain d.state.flight frame → IsSome (own_change d frame (end_entry d frame.number))
-own_ends d frame is sent =
-    let made : IsSome (change d.share d.state (end_entry d frame.number)) =
-    subst (λ (x : Share). IsSome (change x d.state (end_of frame.number (upward_fate x (item_at d.state.flight frame.number))))) (sym is) (ends d.state frame.number sent.sender sent.bytes sent.flies) in
-    subst (λ (b : Bool). IsSome (cond b (change d.share d.state (end_entry d frame.number)) None)) (sym (eq-eqb frame.domain d.share.domain sent.home)) made
+pub some_map : {X Y : Type 0} (f : X → Y) (o : Option X) → IsSome o → IsSome (option_map f o)
+some_map f None h = absurd cc
+some_map f (Some x) h = refl
 
--- where nothing moves, the host has nothing to take
-rooted_none : (w : World) (class : Class) (o : Option (Descriptor × List Descriptor)) → w.domain.share ≡ first_share → AreSent w → take_head class w.waiting ≡ o → rooted w.domain w.arriving o ≡ None → o ≡ None
-rooted_none w class None is sent same h = refl
-rooted_none w class (Some taken) is sent same h =
-    let d = w.domain in let e = end_entry d taken.0.number in
-    let t = head_sent class d.share.domain d.state.flight w.waiting taken same sent in
-    let moves : IsSome (rooted d w.arriving (Some taken)) = some_ended d taken.1 w.arriving e (own_change d taken.0 e) (own_ends d taken.0 is t.0) in
-    let none : IsSome {T = World} None = subst IsSome h moves in absurd cc
+-- ---- no refusal is for want of memory
 
--- the host leaves no packet that may leave
-pub takes_step : (w v : World) (e : Event) (o : Outcome) → w.domain.share ≡ first_share → AreSent w → StepsTo w e o v → Takes w e o
-takes_step w v (Root class) Idle is sent h = rooted_none w class (take_head class w.waiting) is sent refl h.0
-takes_step w v (Root class) Moved is sent h = tt
-takes_step w v (Root class) (Refused fault) is sent h = tt
-takes_step w v (Root class) NoMemory is sent h = tt
-takes_step w v (Submit f b) o is sent h = tt
-takes_step w v (Arrive f class) o is sent h = tt
+mmio_never : (a b c d : Bool) → cond a (Some mmio.NotYours) (cond b (Some mmio.Range) (cond c (Some mmio.NoTag) (cond d (Some mmio.BudgetSpent) None))) ≡ Some mmio.NoMemory → ⊥
+mmio_never true b c d is = absurd cc
+mmio_never false true c d is = absurd cc
+mmio_never false false true d is = absurd cc
+mmio_never false false false true is = absurd cc
+mmio_never false false false false is = absurd cc
 
--- the same of a world as it is seen
-pub takes_seen : (x w v : World) (e : Event) (o : Outcome) → x ≡ w → x.domain.share ≡ first_share → AreSent w → StepsTo w e o v → Takes x e o
-takes_seen x w v e o same is sent h = subst (λ (y : World). Takes y e o) (sym same) (takes_step w v e o (ap (λ (y : World). y.domain.share) (sym same) ∙ is) sent h)
+mmio_by : (o : Option DomainView) (x : HostAccess) → mmio_refusal_by o x ≡ Some mmio.NoMemory → ⊥
+mmio_by None x is = absurd cc
+mmio_by (Some d) x is = mmio_never _ _ _ _ is
+
+pub mmio_memory : (domains : List DomainView) (n : ℕ) (x : HostAccess) → mmio_refusal domains n x ≡ Some mmio.NoMemory → ⊥
+mmio_memory domains n x is = mmio_by (domain_at domains (place_of domains n)) x is
+
+-- ---- what isn't refused is legal
+
+found_by : {X : Type 0} (p : X → Bool) (xs : List X) (b : Bool) → is_some (find p xs) ≡ b → list_any p xs ≡ true → IsSome (find p xs)
+found_by p xs true e h = e
+found_by p xs false e h = absurd (let none : false ≡ true = sym (any-missing p xs e) ∙ h in cc)
+
+found_any : {X : Type 0} (p : X → Bool) (xs : List X) → list_any p xs ≡ true → IsSome (find p xs)
+found_any p xs h = found_by p xs (is_some (find p xs)) refl h
+
+first_true : (a b : Bool) → (a && b) ≡ true → a ≡ true
+first_true true b e = refl
+first_true false b e = absurd cc
+
+with_some : (share : Share) (s : Alone) (x : HostAccess) (tag bar : Option ℕ) → is_none tag ≡ false → IsSome bar → IsSome (mmio_with share s x tag bar)
+with_some share s x None bar a b = absurd cc
+with_some share s x (Some t) None a b = absurd cc
+with_some share s x (Some t) (Some g) a b = refl
+
+accepted_tests : (a b c d : Bool) → cond (not a) (Some mmio.NotYours) (cond b (Some mmio.Range) (cond c (Some mmio.NoTag) (cond d (Some mmio.BudgetSpent) None))) ≡ None → (a ≡ true) × (c ≡ false)
+accepted_tests true true c d is = absurd cc
+accepted_tests true false true d is = absurd cc
+accepted_tests true false false d is = (refl, refl)
+accepted_tests false b c d is = absurd cc
+
+mmio_change : (d : DomainView) (x : HostAccess) → mmio_fault d.share d.state x ≡ None → IsSome (change d.share d.state (entry.Mmio x))
+mmio_change d x is =
+    let t = accepted_tests (is_own_function d.share x.function) (not (is_in_page x.offset (size_of x.operation))) (is_none (tag_for d.state.open_tags d.share.domain x.operation)) (nat_le d.share.budget d.state.counts.begins) is in
+    let there : IsSome (bar_of d.share.functions x.function) = some_map (λ line. line.bar) _ (found_any _ d.share.functions (first_true _ _ t.0)) in
+    let made : IsSome (mmio_with d.share d.state x (tag_for d.state.open_tags d.share.domain x.operation) (bar_of d.share.functions x.function)) = with_some d.share d.state x _ _ t.1 there in
+    rw is made
+
+mmio_made_of : (domains : List DomainView) (p : ℕ) (x : HostAccess) (o : Option DomainView) → mmio_refusal_by o x ≡ None → IsSome (made_of domains p (entry.Mmio x) o)
+mmio_made_of domains p x None is = absurd cc
+mmio_made_of domains p x (Some d) is = some_map (made_by domains p (entry.Mmio x) d) _ (mmio_change d x is)
+
+mmio_made_at : (domains : List DomainView) (x : HostAccess) (o : Option ℕ) → mmio_refusal_by (domain_at domains o) x ≡ None → IsSome (made_at domains (entry.Mmio x) o)
+mmio_made_at domains x None is = absurd cc
+mmio_made_at domains x (Some p) is = mmio_made_of domains p x (domain_at domains (Some p)) is
+
+pub mmio_legal : (domains : List DomainView) (n : ℕ) (x : HostAccess) → mmio_refusal domains n x ≡ None → IsSome (made domains n (entry.Mmio x))
+mmio_legal domains n x is = mmio_made_at domains x (place_of domains n) is

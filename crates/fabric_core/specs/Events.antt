@@ -1,111 +1,73 @@
 -- What each event does to a fabric.
-use Rattle.std.specs.Prelude.{◌≡◌, ℕ, ◌==◌, List, [], ◌∷◌, ◌++◌, length, Option, Some, None, IsSome, option_map, if◌then◌else◌}
+use Rattle.std.specs.Prelude.{◌≡◌, ℕ, List, Option, Some, None, IsSome, option_map, if◌then◌else◌}
+use Rattle.std.specs.Option.{option_and_then}
 use Rattle.fab_types.specs.declared.class.Class.{Class}
-use Rattle.fab_types.specs.declared.class.Class.TheVariants.{Posted, NonPosted, Completion}
 use Rattle.fab_types.specs.declared.faults.begin.BeginFault.{BeginFault}
 use Rattle.fab_types.specs.declared.faults.begin.BeginFault.TheVariants as begin
 use Rattle.fab_types.specs.declared.outcome.Outcome.{Outcome}
 use Rattle.fab_types.specs.declared.outcome.Outcome.TheVariants.{Moved, Idle, Refused, NoMemory}
+use Rattle.fab_types.specs.declared.place.Direction.{Direction}
+use Rattle.fab_types.specs.declared.place.Origin.{Origin}
+use Rattle.fab_types.specs.declared.place.Origin.TheVariants.{Function, Host}
+use Rattle.fab_types.specs.declared.place.Way.TheVariants.{Up}
 use Rattle.frame_log.specs.Descriptor.{Descriptor}
-use Rattle.frame_log.specs.declared.fault.FrameFault.{FrameFault}
-use Rattle.frame_log.specs.declared.fault.FrameFault.TheVariants.{Stray}
-use Rattle.frame_log.specs.declared.fault.FrameFault.TheVariants as fault
-use Rattle.domain.specs.declared.entry.Entry.{Entry}
-use Rattle.domain.specs.declared.entry.Entry.TheVariants as entry
-use Rattle.domain.specs.declared.fate.Fate.{Fate}
-use Rattle.domain.specs.declared.fate.Fate.TheVariants as fate
-use Rattle.domain.specs.Domains.{DomainView}
-use Rattle.domain.specs.Fates.{upward_fate}
-use Rattle.domain.specs.Heads.{descriptor_of}
-use Rattle.domain.specs.Machine.{change}
-use Rattle.domain.specs.State.{Change, Emission, item_at}
-use Rattle.domain.specs.Submits.{submit_fault}
+use Rattle.edge.specs.Edges.{accessed, submitted, taken_from, ticked, waiting_of}
+use Rattle.link.specs.Channels.{is_full, receive, send, tell}
+use Rattle.port.specs.Lanes.{eligible}
+use Rattle.tenants.specs.Tenants.{mmio_refusal, submit_refusal, tick_refusal}
+use Rattle.topology.specs.Links.{sender_of}
+use Rattle.topology.specs.declared.nodes.LinkEnd.{LinkEnd}
+use Rattle.hierarchy.specs.Moves.{channel_at, on_channel, put_at}
 use Rattle.fabric_core.specs.declared.event.Event.{Event}
-use Rattle.fabric_core.specs.declared.event.Event.TheVariants.{Submit, Root, Arrive}
-use Rattle.fabric_core.specs.World.{World, goes_to, take_first, take_head}
+use Rattle.fabric_core.specs.declared.event.Event.TheVariants.{Submit, Tick, Mmio, Enter, Pass, Send, Take, Credit, Root, Arrive}
+use Rattle.fabric_core.specs.Endings.{arrive, from_host, root}
+use Rattle.fabric_core.specs.Passing.{pass}
+use Rattle.fabric_core.specs.World.{World, with_both, with_channels, with_edge}
 
--- a domain after an entry that changed it so
-abbrev pub after : DomainView → Entry → Change → DomainView
-after d e c = record { share = d.share; state = c.state; journal = d.journal ++ e ∷ [] }
+-- ---- onto the link
 
--- the packet that the entry emitted joins those that were there
-abbrev pub joined_by : List Descriptor → DomainView → Option Emission → List Descriptor
-joined_by frames d None = frames
-joined_by frames d (Some e) = frames ++ descriptor_of d.share.domain (length d.state.flight) e ∷ []
+-- what an origin emits leaves by this direction
+abbrev pub link_of : Origin → Direction
+link_of (Function function) = record { lower = function; way = Up }
+link_of (Host domain) = from_host
 
-abbrev pub world : DomainView → List Descriptor → List Descriptor → World
-world d waiting arriving = record { domain = d; waiting = waiting; arriving = arriving }
+-- a packet of an outbox goes to the sender of the link, if that has a place for it
+abbrev pub entered_at : World → Origin → Class → Option LinkEnd → Descriptor × List Descriptor → Option World
+entered_at w origin class None taken = None
+entered_at w origin class (Some end) taken =
+    if is_full class (channel_at w.channels end) then None
+    else Some (with_both w (put_at w.channels end taken.0) (taken_from w.edge origin taken.1))
 
--- the world after a begin, whose packet waits; none if it is illegal
-abbrev pub begun : DomainView → List Descriptor → List Descriptor → Entry → Option Change → Option World
-begun d waiting arriving e None = None
-begun d waiting arriving e (Some c) = Some (world (after d e c) (joined_by waiting d c.emission) arriving)
+-- the eligible packet of a class goes from an outbox to the sender of its link
+abbrev pub enter : World → Origin → Class → Option World
+enter w origin class = option_and_then (entered_at w origin class (sender_of w.tree.links (link_of origin))) (eligible class (waiting_of w.edge.outboxes origin))
 
--- the world after the end of a packet, whose answer arrives; none if it is illegal
-abbrev pub ended : DomainView → List Descriptor → List Descriptor → Entry → Option Change → Option World
-ended d waiting arriving e None = None
-ended d waiting arriving e (Some c) = Some (world (after d e c) waiting (joined_by arriving d c.emission))
-
--- the entry that ends a packet: its first port stops it, or the host carries it
-abbrev pub end_of : ℕ → Option Fate → Entry
-end_of n None = entry.Refuse n
-end_of n (Some fate.Vanish) = entry.Refuse n
-end_of n (Some (fate.Refused status)) = entry.Refuse n
-end_of n (Some fate.ToHost) = entry.Carry n
-
-abbrev pub end_entry : DomainView → ℕ → Entry
-end_entry d n = end_of n (upward_fate d.share (item_at d.state.flight n))
-
--- a packet of another domain has no entry here
-abbrev pub own_change : DomainView → Descriptor → Entry → Option Change
-own_change d frame e = if frame.domain == d.share.domain then change d.share d.state e else None
-
--- the host takes a packet that waits
-abbrev pub rooted : DomainView → List Descriptor → Option (Descriptor × List Descriptor) → Option World
-rooted d arriving None = None
-rooted d arriving (Some taken) =
-    ended d taken.1 arriving (end_entry d taken.0.number) (own_change d taken.0 (end_entry d taken.0.number))
-
--- a function takes a completion
-abbrev pub delivered : DomainView → List Descriptor → Option (Descriptor × List Descriptor) → Option World
-delivered d waiting None = None
-delivered d waiting (Some taken) = ended d waiting taken.1 (entry.Deliver taken.0.number) (own_change d taken.0 (entry.Deliver taken.0.number))
-
--- only completions arrive yet
-abbrev pub arrive : World → ℕ → Class → Option World
-arrive w function Posted = None
-arrive w function NonPosted = None
-arrive w function Completion = delivered w.domain w.waiting (take_first (goes_to function) w.arriving)
+-- ---- each event
 
 -- the world after an event, or none where nothing moves
 abbrev pub effect : World → Event → Option World
-effect w (Submit f b) = begun w.domain w.waiting w.arriving (entry.Submit f b) (change w.domain.share w.domain.state (entry.Submit f b))
-effect w (Root class) = rooted w.domain w.arriving (take_head class w.waiting)
+effect w (Submit function bytes) = option_map (with_edge w) (submitted w.edge function bytes)
+effect w (Tick function) = option_map (with_edge w) (ticked w.edge function)
+effect w (Mmio domain access) = option_map (with_edge w) (accessed w.edge domain access)
+effect w (Enter origin class) = enter w origin class
+effect w (Pass port class) = pass w port class
+effect w (Send direction class) = option_map (with_channels w) (on_channel w.channels (sender_of w.tree.links direction) (send class))
+effect w (Take direction) = option_map (with_channels w) (on_channel w.channels (sender_of w.tree.links direction) receive)
+effect w (Credit direction) = option_map (with_channels w) (on_channel w.channels (sender_of w.tree.links direction) tell)
+effect w (Root class) = root w class
 effect w (Arrive function class) = arrive w function class
 
--- the refusal of a begin, if it is refused
+-- the refusal of a begin, if it is refused, memory aside
 abbrev pub refusal : World → Event → Option BeginFault
-refusal w (Submit f b) = option_map begin.Submit (submit_fault w.domain.share w.domain.state f b)
-refusal w (Root class) = None
-refusal w (Arrive function class) = None
+refusal w (Submit function bytes) = option_map begin.Submit (submit_refusal w.edge.domains function bytes)
+refusal w (Tick function) = option_map begin.Tick (tick_refusal w.edge.domains function)
+refusal w (Mmio domain access) = option_map begin.Mmio (mmio_refusal w.edge.domains domain access)
+refusal w event = None
 
--- What an outcome says of an event: it did what the event does, or it changed nothing, and why. Memory is
--- wanted only of an event that would move something
+-- What an outcome says of an event: it did what the event does, or it changed nothing, and why. Memory is wanted only of
+-- an event that would move something
 abbrev pub StepsTo : World → Event → Outcome → World → Type 0
 StepsTo old event Moved new = effect old event ≡ Some new
 StepsTo old event Idle new = (effect old event ≡ None) × (refusal old event ≡ None) × (new ≡ old)
 StepsTo old event (Refused fault) new = (refusal old event ≡ Some fault) × (new ≡ old)
 StepsTo old event NoMemory new = IsSome (effect old event) × (new ≡ old)
-
--- ---- a packet that ends, by the domain alone
-
-pub record Ends (old : DomainView) (frame : Descriptor) (e : Entry) (new : DomainView) (sent : Option Descriptor) : Type 0 where
-  pub made : Change
-  pub legal : own_change old frame e ≡ Some made
-  pub state : new ≡ after old e made
-  pub emitted : sent ≡ option_map (descriptor_of old.share.domain (length old.state.flight)) made.emission
-
--- it stays, and the frame is given back
-abbrev pub Stays : DomainView → Descriptor → Entry → FrameFault → Type 0
-Stays old frame e (Stray given) = (given ≡ frame) × (own_change old frame e ≡ None)
-Stays old frame e (fault.NoMemory given) = (given ≡ frame) × IsSome (own_change old frame e)

@@ -1,6 +1,9 @@
-pub mod Dispositions
 pub mod World
+pub mod Endings
+pub mod Settling
+pub mod Passing
 pub mod Events
 pub mod Runs
-pub mod Sent
+pub mod Places
+pub mod Invariant
 pub mod Kept

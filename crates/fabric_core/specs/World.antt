@@ -1,59 +1,65 @@
 -- What a fabric holds.
-use Rattle.std.specs.Prelude.{ℕ, Bool, true, false, ◌==◌, ◌||◌, List, [], ◌∷◌, Option, Some, None, if◌then◌else◌}
-use Rattle.fab_types.specs.declared.class.Class.{Class}
-use Rattle.fab_types.specs.declared.class.Class.TheVariants.{Posted, NonPosted, Completion}
-use Rattle.fab_types.specs.declared.head.Parties.{Parties}
-use Rattle.fab_types.specs.declared.head.Parties.TheVariants.{Upward, Downward, Answer}
-use Rattle.fab_types.specs.declared.place.Origin.{Origin}
-use Rattle.fab_types.specs.declared.place.Origin.TheVariants.{Function, Host}
+use Rattle.std.specs.Prelude.{ℕ, Bool, List, ◌++◌, ◌∷◌, []}
+use Rattle.std.specs.List.{list_all}
+use Rattle.fab_types.specs.declared.violation.Violation.{Violation}
 use Rattle.frame_log.specs.Descriptor.{Descriptor}
-use Rattle.domain.specs.Domains.{DomainView}
+use Rattle.bridge.specs.Bridges.{Tree as Routes, of_platform}
+use Rattle.layout.specs.Platform.{Platform}
+use Rattle.layout.specs.Share.{is_guarded_port}
+use Rattle.link.specs.Channels.{Channel}
+use Rattle.port.specs.Turns.{PortView}
+use Rattle.topology.specs.Topologies.{Tree, tree_of}
+use Rattle.hierarchy.specs.Starts.{nodes_of, ports_of}
+use Rattle.hierarchy.specs.Views.{HierarchyView, channels, channels_of}
+use Rattle.edge.specs.Edges.{EdgeView, edge_of}
 
 pub record World : Type 0 where
-  pub domain : DomainView
-  pub waiting : List Descriptor  -- the packets in outboxes, oldest first
-  pub arriving : List Descriptor  -- the completions that arrive at functions, oldest first
+  pub tree : Tree  -- the ends of each link, and the places of the ports
+  pub routes : Routes  -- the switches and the downstream ports
+  pub channels : List (List Channel)  -- each direction of a link, by the end that it is sent from
+  pub ports : List PortView  -- in the order of the tree's places
+  pub edge : EdgeView  -- the domains, and what they have emitted
+  pub violations : List Violation  -- what ports reported, oldest first
+  pub strays : List Descriptor  -- what the host or a function took and has no case for, oldest first
 
--- the oldest item that passes a test, and the others
-abbrev pub with_front : {X : Type 0} → X → Option (X × List X) → Option (X × List X)
-with_front x None = None
-with_front x (Some taken) = Some (taken.0, x ∷ taken.1)
+-- the world of these parts
+abbrev pub world_over : HierarchyView → EdgeView → List Violation → List Descriptor → World
+world_over h edge violations strays = record {
+  tree = h.tree;
+  routes = h.routes;
+  channels = channels h;
+  ports = h.ports;
+  edge = edge;
+  violations = violations;
+  strays = strays;
+}
 
-abbrev pub take_first : {X : Type 0} → (X → Bool) → List X → Option (X × List X)
-take_first test [] = None
-take_first test (x ∷ xs) = if test x then Some (x, xs) else with_front x (take_first test xs)
+-- are all five controls set on each downstream port?
+abbrev pub is_guarded : World → Bool
+is_guarded w = list_all is_guarded_port w.routes.ports
 
-abbrev pub same_class : Class → Class → Bool
-same_class Posted Posted = true
-same_class NonPosted NonPosted = true
-same_class Completion Completion = true
-same_class _ _ = false
+abbrev pub with_channels : World → List (List Channel) → World
+with_channels w channels = record { tree = w.tree; routes = w.routes; channels = channels; ports = w.ports; edge = w.edge; violations = w.violations; strays = w.strays }
 
-abbrev pub is_of : Class → Descriptor → Bool
-is_of class frame = same_class frame.head.cost.class class
+abbrev pub with_edge : World → EdgeView → World
+with_edge w edge = record { tree = w.tree; routes = w.routes; channels = w.channels; ports = w.ports; edge = edge; violations = w.violations; strays = w.strays }
 
--- a packet of the class, or one that such a packet must not pass
-abbrev pub bars : Class → Descriptor → Bool
-bars class frame = is_of Posted frame || is_of class frame
+-- the directions and the edge are these
+abbrev pub with_both : World → List (List Channel) → EdgeView → World
+with_both w channels edge = with_edge (with_channels w channels) edge
 
-abbrev pub if_of : Class → Option (Descriptor × List Descriptor) → Option (Descriptor × List Descriptor)
-if_of class None = None
-if_of class (Some taken) = if is_of class taken.0 then Some taken else None
+-- the packet was taken, which leaves these directions, and nobody has a case for it
+abbrev pub with_stray : World → List (List Channel) → Descriptor → World
+with_stray w channels frame = record { tree = w.tree; routes = w.routes; channels = channels; ports = w.ports; edge = w.edge; violations = w.violations; strays = w.strays ++ frame ∷ [] }
 
--- the eligible head of a class, and the others: its oldest packet, unless an older posted one waits
-abbrev pub take_head : Class → List Descriptor → Option (Descriptor × List Descriptor)
-take_head class frames = if_of class (take_first (bars class) frames)
-
-abbrev pub leads_to : Option Origin → ℕ → Bool
-leads_to None function = false
-leads_to (Some (Function f)) function = f == function
-leads_to (Some (Host d)) function = false
-
-abbrev pub answers : Parties → ℕ → Bool
-answers (Upward f) function = false
-answers (Downward g) function = false
-answers (Answer answerer addressee) function = leads_to addressee function
-
--- a completion for this function
-abbrev pub goes_to : ℕ → Descriptor → Bool
-goes_to function frame = answers frame.head.parties function
+-- a layout's fabric, in which nothing was begun
+abbrev pub world_of : Platform → World
+world_of platform = record {
+  tree = tree_of platform;
+  routes = of_platform platform;
+  channels = channels_of (nodes_of platform);
+  ports = ports_of platform;
+  edge = edge_of platform;
+  violations = [];
+  strays = [];
+}

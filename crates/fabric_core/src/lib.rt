@@ -1,11 +1,19 @@
-//! The fabric: domains, the packets between them, and what each event does.
+//! The fabric: domains, the links and switches between them, and what each event does.
 #![tactic(auto)]
 
+mod begins;
+mod ending;
+mod ends;
 mod event;
 mod fabric;
 mod laws;
-mod queue;
+mod pass;
+mod step;
+mod wires;
 
 pub use event::Event;
 pub use fabric::Fabric;
-pub use laws::guarded_ports_do_what_fates_say;
+pub use laws::{every_event_keeps_the_invariant, only_non_posted_are_answered};
+
+#[cfg(test)]
+mod tests;

@@ -1,0 +1,323 @@
+-- The begins that events leave in the journals of a fabric's domains.
+use Rattle.std.proofs.Common.{◌≡◌, ◌≢◌, ℕ, zero, suc, ◌<◌, Bool, true, false, cond, eqb, List, [], ◌∷◌, ◌++◌, length, map, get_or, set, Option, Some, None, refl, sym, ap, ◌∙◌, subst, arith}
+use Rattle.std.specs.Prelude.{◌==◌, slice_get}
+use Rattle.std.specs.List.{position}
+use Rattle.std.specs.Option.{is_some, option_and_then, option_map}
+use Rattle.std.proofs.lemmas.Bool.{eq-eqb, eqb-true}
+use Rattle.std.proofs.lemmas.List.{append-nil, append_assoc, get_or-set_other, get_or-set_same, length-map, map-set, set-get_or}
+use Rattle.edge.proofs.Lists.{position_map}
+use Rattle.fab_types.specs.declared.class.Class.{Class}
+use Rattle.fab_types.specs.declared.faults.begin.BeginFault.{BeginFault}
+use Rattle.fab_types.specs.declared.outcome.Outcome.{Outcome}
+use Rattle.fab_types.specs.declared.outcome.Outcome.TheVariants.{Moved, Idle, Refused, NoMemory}
+use Rattle.fab_types.specs.declared.place.Origin.{Origin}
+use Rattle.fab_types.specs.declared.violation.Violation.{Violation}
+use Rattle.frame_log.specs.Descriptor.{Descriptor}
+use Rattle.layout.specs.Owners.{is_own_function}
+use Rattle.layout.specs.Share.{Share}
+use Rattle.domain.specs.declared.entry.Entry.{Entry}
+use Rattle.domain.specs.declared.entry.Entry.TheVariants as entry
+use Rattle.domain.specs.Domains.{DomainView}
+use Rattle.domain.specs.Machine.{change}
+use Rattle.domain.specs.State.{Change}
+use Rattle.link.specs.Channels.{Channel, receive, send, tell}
+use Rattle.port.specs.declared.course.Course.{Course}
+use Rattle.port.specs.declared.course.Course.TheVariants.{Forward, Stop, Stray}
+use Rattle.port.specs.Courses.{course_of}
+use Rattle.port.specs.Lanes.{eligible}
+use Rattle.tenants.specs.Tenants.{Made, after, made, made_at, made_by, made_of, place_of, place_of_function}
+use Rattle.topology.specs.Links.{sender_of}
+use Rattle.topology.specs.declared.nodes.LinkEnd.{LinkEnd}
+use Rattle.hierarchy.specs.Moves.{on_channel}
+use Rattle.hierarchy.specs.Passes.{index_of, no_place}
+use Rattle.edge.specs.Edges.{EdgeView, carried_by_function, carried_by_host, delivered, emitted, emitted_if, is_function_of, waiting_of}
+use Rattle.fabric_core.specs.declared.event.Event.{Event}
+use Rattle.fabric_core.specs.declared.event.Event.TheVariants.{Submit, Tick, Mmio, Enter, Pass, Send, Take, Credit, Root, Arrive}
+use Rattle.fabric_core.specs.Endings.{Carry, Deliver, Ending, Nobody, Relay, Taken, arrived, arrived_by, ended, ending_at_function, ending_at_host, from_host, relayed, rooted, rooted_by, taken, taken_at, to_function, to_host}
+use Rattle.fabric_core.specs.Events.{StepsTo, effect, entered_at, link_of}
+use Rattle.fabric_core.specs.Passing.{Site, answer_waits, passed, passed_by, passed_number, refused_by, site_at}
+use Rattle.fabric_core.specs.Runs.{Grow, HaveBegun, Run, accepted, accepted_one, begins_of, begun_at, is_home, share_of}
+use Rattle.fabric_core.specs.World.{World, with_channels, with_edge}
+
+-- ---- begins in a journal
+
+begins_of-append : (js ks : List Entry) → begins_of (js ++ ks) ≡ begins_of js ++ begins_of ks
+begins_of-append [] ks = refl
+begins_of-append (entry.Submit f b ∷ js) ks = ap (λ (bs : List Entry). entry.Submit f b ∷ bs) (begins_of-append js ks)
+begins_of-append (entry.Tick f ∷ js) ks = ap (λ (bs : List Entry). entry.Tick f ∷ bs) (begins_of-append js ks)
+begins_of-append (entry.Mmio access ∷ js) ks = ap (λ (bs : List Entry). entry.Mmio access ∷ bs) (begins_of-append js ks)
+begins_of-append (entry.Refuse n ∷ js) ks = begins_of-append js ks
+begins_of-append (entry.Carry n ∷ js) ks = begins_of-append js ks
+begins_of-append (entry.Deliver n ∷ js) ks = begins_of-append js ks
+begins_of-append (entry.Alien place sender bytes ∷ js) ks = begins_of-append js ks
+
+-- ---- an entry of one domain
+
+-- these begins, at the place of their home alone
+abbrev at_home : List Entry → Option ℕ → ℕ → List Entry
+at_home begun home place = cond (is_home place home) begun []
+
+pub same_grow : (domains : List DomainView) → Grow (λ _. []) domains domains
+same_grow domains = record { shares = refl; begins = λ place d within. sym (append-nil (begins_of (get_or domains place d).journal)) }
+
+true_false : true ≡ false → ⊥
+true_false e = absurd cc
+
+by_place : (domains : List DomainView) (p place : ℕ) (x y d : DomainView) (begun : List Entry) (here : Bool) → eqb p place ≡ here → place < length domains → x ≡ get_or domains p d → begins_of y.journal ≡ begins_of x.journal ++ begun
+    → begins_of (get_or (set domains p y) place d).journal ≡ begins_of (get_or domains place d).journal ++ cond here begun []
+by_place domains p place x y d begun true here within is grown =
+    let same : p ≡ place = eqb-true p place here in
+    let now : get_or (set domains p y) place d ≡ y = ap (λ (n : ℕ). get_or (set domains n y) place d) same ∙ get_or-set_same domains place y d within in
+    let was : x ≡ get_or domains place d = is ∙ ap (λ (n : ℕ). get_or domains n d) same in
+    ap (λ (v : DomainView). begins_of v.journal) now ∙ (grown ∙ ap (λ (v : DomainView). begins_of v.journal ++ begun) was)
+by_place domains p place x y d begun false here within is grown =
+    let other : place ≢ p = λ e. absurd (true_false (sym (eq-eqb p place (sym e)) ∙ here)) in
+    ap (λ (v : DomainView). begins_of v.journal) (get_or-set_other domains p place y d other) ∙ sym (append-nil (begins_of (get_or domains place d).journal))
+
+slice_get_is : (domains : List DomainView) (p : ℕ) (x d : DomainView) → slice_get domains p ≡ Some x → x ≡ get_or domains p d
+slice_get_is [] p x d e = absurd cc
+slice_get_is (y ∷ domains) zero x d e = (let same : y ≡ x = cc in sym same)
+slice_get_is (y ∷ domains) (suc p) x d e = slice_get_is domains p x d e
+
+share_at : (domains : List DomainView) (p : ℕ) (x : DomainView) → slice_get domains p ≡ Some x → x.share ≡ get_or (map share_of domains) p x.share
+share_at [] p x e = absurd cc
+share_at (y ∷ domains) zero x e = (let same : y ≡ x = cc in ap share_of (sym same))
+share_at (y ∷ domains) (suc p) x e = share_at domains p x e
+
+made_grow : (domains : List DomainView) (p : ℕ) (e : Entry) (x : DomainView) (c : Change) → slice_get domains p ≡ Some x → Grow (at_home (begins_of (e ∷ [])) (Some p)) domains (made_by domains p e x c).domains
+made_grow domains p e x c there = record {
+  shares =
+      map-set share_of domains p (after x e c)
+      ∙ (ap (set (map share_of domains) p) (share_at domains p x there) ∙ set-get_or (map share_of domains) p x.share);
+  begins = λ place d within. by_place domains p place x (after x e c) d (begins_of (e ∷ [])) (eqb p place) refl within (slice_get_is domains p x d there) (begins_of-append x.journal (e ∷ []));
+}
+
+some_is : {X : Type 0} (x y : X) → Some x ≡ Some y → x ≡ y
+some_is x y e = cc
+
+by_change : (domains : List DomainView) (p : ℕ) (e : Entry) (x : DomainView) (o : Option Change) (m : Made) → slice_get domains p ≡ Some x → option_map (made_by domains p e x) o ≡ Some m → Grow (at_home (begins_of (e ∷ [])) (Some p)) domains m.domains
+by_change domains p e x None m there is = absurd cc
+by_change domains p e x (Some c) m there is =
+    subst (λ (n : Made). Grow (at_home (begins_of (e ∷ [])) (Some p)) domains n.domains) (some_is (made_by domains p e x c) m is) (made_grow domains p e x c there)
+
+by_domain : (domains : List DomainView) (p : ℕ) (e : Entry) (o : Option DomainView) (m : Made) → o ≡ slice_get domains p → made_of domains p e o ≡ Some m → Grow (at_home (begins_of (e ∷ [])) (Some p)) domains m.domains
+by_domain domains p e None m there is = absurd cc
+by_domain domains p e (Some x) m there is = by_change domains p e x (change x.share x.state e) m (sym there) is
+
+pub made_grows : (domains : List DomainView) (e : Entry) (home : Option ℕ) (m : Made) → made_at domains e home ≡ Some m → Grow (at_home (begins_of (e ∷ [])) home) domains m.domains
+made_grows domains e None m is = absurd cc
+made_grows domains e (Some p) m is = by_domain domains p e (slice_get domains p) m refl is
+
+-- an entry that is no begin adds none
+no_begin : (b : Bool) → ◌≡◌ {A = List Entry} (cond b [] []) []
+no_begin true = refl
+no_begin false = refl
+
+pub ended_grows : (domains : List DomainView) (e : Entry) (home : Option ℕ) (m : Made) → begins_of (e ∷ []) ≡ [] → made_at domains e home ≡ Some m → Grow (λ _. []) domains m.domains
+ended_grows domains e home m none is =
+    let g = made_grows domains e home m is in
+    record {
+      shares = g.shares;
+      begins = λ place d within. g.begins place d within
+          ∙ (ap (λ (bs : List Entry). begins_of (get_or domains place d).journal ++ cond (is_home place home) bs []) none ∙ ap (λ (bs : List Entry). begins_of (get_or domains place d).journal ++ bs) (no_begin (is_home place home)));
+    }
+
+-- ---- what an event leaves
+
+-- what the domains become
+abbrev Leaves : List DomainView → (ℕ → List Entry) → Option World → Type 0
+Leaves domains begun all = (v : World) → all ≡ Some v → Grow begun domains v.edge.domains
+
+abbrev Nothing : ℕ → List Entry
+Nothing place = []
+
+-- the domains are the same
+still : (w v u : World) → ◌≡◌ {A = Option World} (Some u) (Some v) → u.edge.domains ≡ w.edge.domains → Grow Nothing w.edge.domains v.edge.domains
+still w v u is same = subst (λ (ds : List DomainView). Grow Nothing w.edge.domains ds) (sym same ∙ ap (λ (x : World). x.edge.domains) (some_is u v is)) (same_grow w.edge.domains)
+
+-- of an entry whose packet waits in an outbox
+emitted_grow : (edge : EdgeView) (origin : Origin) (begun : ℕ → List Entry) (o : Option Made) → ((m : Made) → o ≡ Some m → Grow begun edge.domains m.domains) → (e : EdgeView) → emitted_if edge origin o ≡ Some e → Grow begun edge.domains e.domains
+emitted_grow edge origin begun None grow e is = absurd cc
+emitted_grow edge origin begun (Some m) grow e is = subst (λ (x : EdgeView). Grow begun edge.domains x.domains) (some_is (emitted edge origin m) e is) (grow m refl)
+
+begin_grow : (w : World) (begun : ℕ → List Entry) (o : Option EdgeView) → ((e : EdgeView) → o ≡ Some e → Grow begun w.edge.domains e.domains) → Leaves w.edge.domains begun (option_map (with_edge w) o)
+begin_grow w begun None grow v is = absurd cc
+begin_grow w begun (Some e) grow v is = subst (λ (x : World). Grow begun w.edge.domains x.edge.domains) (some_is (with_edge w e) v is) (grow e refl)
+
+-- a packet moves on a link
+wire_grow : (w : World) (o : Option (List (List Channel))) → Leaves w.edge.domains Nothing (option_map (with_channels w) o)
+wire_grow w None v is = absurd cc
+wire_grow w (Some cs) v is = still w v (with_channels w cs) is refl
+
+one_if : (w v u : World) (b : Bool) → cond b None (Some u) ≡ Some v → u.edge.domains ≡ w.edge.domains → Grow Nothing w.edge.domains v.edge.domains
+one_if w v u true is same = absurd cc
+one_if w v u false is same = still w v u is same
+
+enter_at_grow : (w : World) (origin : Origin) (class : Class) (o : Option LinkEnd) (t : Descriptor × List Descriptor) → Leaves w.edge.domains Nothing (entered_at w origin class o t)
+enter_at_grow w origin class None t v is = absurd cc
+enter_at_grow w origin class (Some end) t v is = one_if w v _ _ is refl
+
+enter_grow : (w : World) (origin : Origin) (class : Class) (o : Option LinkEnd) (t : Option (Descriptor × List Descriptor)) → Leaves w.edge.domains Nothing (option_and_then (entered_at w origin class o) t)
+enter_grow w origin class o None v is = absurd cc
+enter_grow w origin class o (Some t) v is = enter_at_grow w origin class o t v is
+
+-- a packet ends
+ended_grow : (w : World) (t : Taken) (o : Option EdgeView) → ((e : EdgeView) → o ≡ Some e → Grow Nothing w.edge.domains e.domains) → Grow Nothing w.edge.domains (ended w t o).edge.domains
+ended_grow w t None grow = same_grow w.edge.domains
+ended_grow w t (Some e) grow = grow e refl
+
+end_grow : (edge : EdgeView) (entry : Entry) (home : Option ℕ) → begins_of (entry ∷ []) ≡ [] → (m : Made) → made_at edge.domains entry home ≡ Some m → Grow Nothing edge.domains m.domains
+end_grow edge entry home none m is = ended_grows edge.domains entry home m none is
+
+host_grow : (w : World) (t : Taken) → Grow Nothing w.edge.domains (ended w t (carried_by_host w.edge t.frame)).edge.domains
+host_grow w t = ended_grow w t (carried_by_host w.edge t.frame) (emitted_grow w.edge _ Nothing _ (end_grow w.edge (entry.Carry t.frame.number) (place_of w.edge.domains t.frame.domain) refl))
+
+carried_if : (edge : EdgeView) (entry : Entry) (home : Option ℕ) (b : Bool) → begins_of (entry ∷ []) ≡ [] → (m : Made) → cond b (made_at edge.domains entry home) None ≡ Some m → Grow Nothing edge.domains m.domains
+carried_if edge entry home true none m is = end_grow edge entry home none m is
+carried_if edge entry home false none m is = absurd cc
+
+function_grow : (w : World) (f : ℕ) (t : Taken) → Grow Nothing w.edge.domains (ended w t (carried_by_function w.edge f t.frame)).edge.domains
+function_grow w f t = ended_grow w t (carried_by_function w.edge f t.frame) (emitted_grow w.edge _ Nothing _ (carried_if w.edge (entry.Carry t.frame.number) (place_of w.edge.domains t.frame.domain) (is_function_of w.edge.domains f t.frame.domain) refl))
+
+delivered_of : (edge : EdgeView) (o : Option Made) → ((m : Made) → o ≡ Some m → Grow Nothing edge.domains m.domains) → (e : EdgeView) → option_map (λ m. record { domains = m.domains; outboxes = edge.outboxes }) o ≡ Some e → Grow Nothing edge.domains e.domains
+delivered_of edge None grow e is = absurd cc
+delivered_of edge (Some m) grow e is = subst (λ (x : EdgeView). Grow Nothing edge.domains x.domains) (some_is (record { domains = m.domains; outboxes = edge.outboxes }) e is) (grow m refl)
+
+deliver_grow : (w : World) (t : Taken) → Grow Nothing w.edge.domains (ended w t (delivered w.edge t.frame)).edge.domains
+deliver_grow w t = ended_grow w t (delivered w.edge t.frame) (delivered_of w.edge _ (end_grow w.edge (entry.Deliver t.frame.number) (place_of w.edge.domains t.frame.domain) refl))
+
+only : (w v u : World) → ◌≡◌ {A = Option World} (Some u) (Some v) → Grow Nothing w.edge.domains u.edge.domains → Grow Nothing w.edge.domains v.edge.domains
+only w v u is grow = subst (λ (x : World). Grow Nothing w.edge.domains x.edge.domains) (some_is u v is) grow
+
+relay_grow : (w : World) (t : Taken) (class : Class) (o : Option LinkEnd) → Leaves w.edge.domains Nothing (relayed w t class o)
+relay_grow w t class None v is = absurd cc
+relay_grow w t class (Some end) v is = one_if w v _ _ is refl
+
+root_by_grow : (w : World) (class : Class) (t : Taken) (e : Ending) → Leaves w.edge.domains Nothing (rooted_by w class t e)
+root_by_grow w class t Relay v is = relay_grow w t class (sender_of w.tree.links from_host) v is
+root_by_grow w class t Carry v is = only w v (ended w t (carried_by_host w.edge t.frame)) is (host_grow w t)
+root_by_grow w class t Deliver v is = only w v (ended w t (delivered w.edge t.frame)) is (deliver_grow w t)
+root_by_grow w class t Nobody v is = only w v (ended w t None) is (same_grow w.edge.domains)
+
+root_grow : (w : World) (class : Class) (o : Option Taken) → Leaves w.edge.domains Nothing (rooted w class o)
+root_grow w class None v is = absurd cc
+root_grow w class (Some t) v is = root_by_grow w class t (ending_at_host t.frame) v is
+
+arrive_by_grow : (w : World) (f : ℕ) (t : Taken) (e : Ending) → Grow Nothing w.edge.domains (arrived_by w f t e).edge.domains
+arrive_by_grow w f t Relay = same_grow w.edge.domains
+arrive_by_grow w f t Carry = function_grow w f t
+arrive_by_grow w f t Deliver = deliver_grow w t
+arrive_by_grow w f t Nobody = same_grow w.edge.domains
+
+arrived_grow : (w : World) (f : ℕ) (o : Option Taken) → Leaves w.edge.domains Nothing (arrived w f o)
+arrived_grow w f None v is = absurd cc
+arrived_grow w f (Some t) v is = only w v (arrived_by w f t (ending_at_function w f t.frame)) is (arrive_by_grow w f t (ending_at_function w f t.frame))
+
+arrive_grow : (w : World) (f : ℕ) (o : Option Taken) (b : Bool) → Leaves w.edge.domains Nothing (cond b (arrived w f o) None)
+arrive_grow w f o true v is = arrived_grow w f o v is
+arrive_grow w f o false v is = absurd cc
+
+-- a port takes a packet
+refused_grow : (w : World) (site : Site) (report : Option Violation) (t : Taken) (o : Option Made) → ((m : Made) → o ≡ Some m → Grow Nothing w.edge.domains m.domains) → Grow Nothing w.edge.domains (refused_by w site report t o).edge.domains
+refused_grow w site report t None grow = same_grow w.edge.domains
+refused_grow w site report t (Some m) grow = grow m refl
+
+stop_grow : (w : World) (site : Site) (report : Option Violation) (t : Taken) (b : Bool) → Leaves w.edge.domains Nothing (cond b None (Some (refused_by w site report t (made w.edge.domains t.frame.domain (entry.Refuse t.frame.number)))))
+stop_grow w site report t true v is = absurd cc
+stop_grow w site report t false v is =
+    only w v (refused_by w site report t (made w.edge.domains t.frame.domain (entry.Refuse t.frame.number))) is
+    (refused_grow w site report t (made w.edge.domains t.frame.domain (entry.Refuse t.frame.number)) (end_grow w.edge (entry.Refuse t.frame.number) (place_of w.edge.domains t.frame.domain) refl))
+
+forward_grow : (w v x y : World) (a b : Bool) → cond a None (cond b (Some x) (Some y)) ≡ Some v → x.edge.domains ≡ w.edge.domains → y.edge.domains ≡ w.edge.domains → Grow Nothing w.edge.domains v.edge.domains
+forward_grow w v x y true b is first second = absurd cc
+forward_grow w v x y false true is first second = still w v x is first
+forward_grow w v x y false false is first second = still w v y is second
+
+pass_by_grow : (w : World) (site : Site) (class : Class) (t : Taken) (c : Course) → Leaves w.edge.domains Nothing (passed_by w site class t c)
+pass_by_grow w site class t (Forward lane) v is = forward_grow w v _ _ _ _ is refl refl
+pass_by_grow w site class t (Stop report) v is = stop_grow w site report t (answer_waits w site class) v is
+pass_by_grow w site class t Stray v is = still w v _ is refl
+
+pass_at_grow : (w : World) (site : Site) (class : Class) (o : Option Taken) → Leaves w.edge.domains Nothing (option_and_then (passed w site class) o)
+pass_at_grow w site class None v is = absurd cc
+pass_at_grow w site class (Some t) v is = pass_by_grow w site class t (course_of w.routes site.config t.frame.head) v is
+
+pass_grow : (w : World) (class : Class) (o : Option ℕ) → Leaves w.edge.domains Nothing (passed_number w class o)
+pass_grow w class None v is = absurd cc
+pass_grow w class (Some i) v is = let place = get_or w.tree.places i no_place in pass_at_grow w (site_at w i place) class (taken_at w.channels class place.input) v is
+
+-- ---- each event
+
+effect_grow : (w : World) (event : Event) → Leaves w.edge.domains (λ place. begun_at w.edge.domains place event) (effect w event)
+effect_grow w (Submit f b) = begin_grow w _ _ (emitted_grow w.edge _ _ _ (made_grows w.edge.domains (entry.Submit f b) (place_of_function w.edge.domains f)))
+effect_grow w (Tick f) = begin_grow w _ _ (emitted_grow w.edge _ _ _ (made_grows w.edge.domains (entry.Tick f) (place_of_function w.edge.domains f)))
+effect_grow w (Mmio domain access) = begin_grow w _ _ (emitted_grow w.edge _ _ _ (made_grows w.edge.domains (entry.Mmio access) (place_of w.edge.domains domain)))
+effect_grow w (Enter origin class) = enter_grow w origin class (sender_of w.tree.links (link_of origin)) (eligible class (waiting_of w.edge.outboxes origin))
+effect_grow w (Pass port class) = pass_grow w class (index_of w.tree.places port)
+effect_grow w (Send direction class) = wire_grow w (on_channel w.channels (sender_of w.tree.links direction) (send class))
+effect_grow w (Take direction) = wire_grow w (on_channel w.channels (sender_of w.tree.links direction) receive)
+effect_grow w (Credit direction) = wire_grow w (on_channel w.channels (sender_of w.tree.links direction) tell)
+effect_grow w (Root class) = root_grow w class (taken w to_host class)
+effect_grow w (Arrive f class) = arrive_grow w f (taken w (to_function f) class) (is_some (place_of_function w.edge.domains f))
+
+same_world : (w v : World) → v ≡ w → Grow Nothing w.edge.domains v.edge.domains
+same_world w v e = subst (λ (x : World). Grow Nothing w.edge.domains x.edge.domains) (sym e) (same_grow w.edge.domains)
+
+step_grow : (w v : World) (event : Event) (o : Outcome) → StepsTo w event o v → Grow (λ place. accepted_one w.edge.domains place event o) w.edge.domains v.edge.domains
+step_grow w v event Moved s = effect_grow w event v s
+step_grow w v event Idle s = same_world w v s.2
+step_grow w v event (Refused fault) s = same_world w v s.1
+step_grow w v event NoMemory s = same_world w v s.1
+
+-- ---- a run
+
+module _ (old new : List DomainView) (shares : map share_of new ≡ map share_of old) where
+  function_same : (f : ℕ) → place_of_function new f ≡ place_of_function old f
+  unfolding place_of_function
+  function_same f =
+      sym (position_map (λ s. is_own_function s f) share_of new)
+      ∙ (ap (position (λ s. is_own_function s f)) shares ∙ position_map (λ s. is_own_function s f) share_of old)
+
+  domain_same : (n : ℕ) → place_of new n ≡ place_of old n
+  unfolding place_of
+  domain_same n = sym (position_map (λ (s : Share). s.domain == n) share_of new) ∙ (ap (position (λ (s : Share). s.domain == n)) shares ∙ position_map (λ (s : Share). s.domain == n) share_of old)
+
+  begun_same : (place : ℕ) (event : Event) → begun_at new place event ≡ begun_at old place event
+  begun_same place (Submit f b) = ap (λ (o : Option ℕ). cond (is_home place o) (entry.Submit f b ∷ []) []) (function_same f)
+  begun_same place (Tick f) = ap (λ (o : Option ℕ). cond (is_home place o) (entry.Tick f ∷ []) []) (function_same f)
+  begun_same place (Mmio domain access) = ap (λ (o : Option ℕ). cond (is_home place o) (entry.Mmio access ∷ []) []) (domain_same domain)
+  begun_same place (Enter origin class) = refl
+  begun_same place (Pass port class) = refl
+  begun_same place (Send direction class) = refl
+  begun_same place (Take direction) = refl
+  begun_same place (Credit direction) = refl
+  begun_same place (Root class) = refl
+  begun_same place (Arrive f class) = refl
+
+  one_same : (place : ℕ) (event : Event) (o : Outcome) → accepted_one new place event o ≡ accepted_one old place event o
+  one_same place event Moved = begun_same place event
+  one_same place event Idle = refl
+  one_same place event (Refused fault) = refl
+  one_same place event NoMemory = refl
+
+  accepted_same : (place : ℕ) (es : List Event) (os : List Outcome) → accepted new place es os ≡ accepted old place es os
+  accepted_same place [] os = refl
+  accepted_same place (e ∷ es) [] = refl
+  accepted_same place (e ∷ es) (o ∷ os) = ap (λ (l : List Entry). l ++ accepted new place es os) (one_same place e o) ∙ ap (λ (l : List Entry). accepted_one old place e o ++ l) (accepted_same place es os)
+
+-- to the begins in each journal a run adds the accepted ones
+pub run_grow : (w v : World) (es : List Event) (os : List Outcome) → Run w es os v → HaveBegun es os w.edge.domains v.edge.domains
+run_grow w v [] [] r = same_world w v r
+run_grow w v (e ∷ es) (o ∷ os) r =
+    let one = step_grow w r.0 e o r.1 in
+    let more = run_grow r.0 v es os r.2 in
+    let long : length r.0.edge.domains ≡ length w.edge.domains = sym (length-map r.0.edge.domains share_of) ∙ (ap length one.shares ∙ length-map w.edge.domains share_of) in
+    record {
+      shares = more.shares ∙ one.shares;
+      begins = λ place d within. more.begins place d (omega arith)
+          ∙ (ap (λ (bs : List Entry). bs ++ accepted r.0.edge.domains place es os) (one.begins place d within)
+          ∙ (append_assoc (begins_of (get_or w.edge.domains place d).journal) (accepted_one w.edge.domains place e o) (accepted r.0.edge.domains place es os)
+          ∙ ap (λ (bs : List Entry). begins_of (get_or w.edge.domains place d).journal ++ (accepted_one w.edge.domains place e o ++ bs)) (accepted_same w.edge.domains r.0.edge.domains one.shares place es os)));
+    }
+run_grow w v [] (o ∷ os) r = absurd r
+run_grow w v (e ∷ es) [] r = absurd r

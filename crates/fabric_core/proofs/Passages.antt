@@ -1,0 +1,146 @@
+-- The turn of the port of an ID, in a fabric.
+use Rattle.std.proofs.Common.{◌≡◌, ◌≢◌, ℕ, zero, suc, ◌+◌, ◌<◌, ◌≤◌, Bool, true, List, [], ◌∷◌, ◌++◌, All, length, map, get_or, Option, Some, None, refl, sym, ap, ◌∙◌, subst, arith}
+use Rattle.std.specs.List.{flat_map}
+use Rattle.std.specs.Option.{IsSome, option_and_then}
+use Rattle.std.specs.Prelude.{◌==◌}
+use Rattle.std.proofs.lemmas.List.{get_or-map, length-map}
+use Rattle.std.proofs.lemmas.List.Elements.{All-cons, All-get_or, All-head, All-nil, All-tail}
+use Rattle.std.proofs.lemmas.List.Quantifiers.{position-Some}
+use Rattle.fab_types.specs.declared.class.Class.{Class}
+use Rattle.fab_types.specs.declared.outcome.Outcome.{Outcome}
+use Rattle.fab_types.specs.declared.outcome.Outcome.TheVariants.{Moved, Idle, Refused, NoMemory}
+use Rattle.fab_types.specs.declared.violation.Violation.{Violation}
+use Rattle.frame_log.specs.Descriptor.{Descriptor}
+use Rattle.ordering.proofs.Leaving.{taken_leaves}
+use Rattle.domain.specs.Domains.{DomainView}
+use Rattle.edge.specs.Edges.{EdgeView}
+use Rattle.link.specs.Channels.{Channel}
+use Rattle.port.specs.Lanes.{class_of, eligible}
+use Rattle.port.specs.Turns.{PortView}
+use Rattle.topology.specs.Topologies.{IsFromElsewhere, IsPlace}
+use Rattle.topology.specs.declared.nodes.LinkEnd.{LinkEnd}
+use Rattle.topology.specs.declared.places.PortPlace.{PortPlace}
+use Rattle.hierarchy.specs.Moves.{channel_at, no_channel}
+use Rattle.hierarchy.specs.Passes.{IsIdle, Passes, PassesFrom, index_of, no_place, no_port, place_number, port_at}
+use Rattle.hierarchy.specs.Views.{HierarchyView, channels}
+use Rattle.fabric_core.specs.declared.event.Event.TheVariants.{Pass}
+use Rattle.fabric_core.specs.Endings.{taken_at}
+use Rattle.fabric_core.specs.Events.{StepsTo}
+use Rattle.fabric_core.specs.Invariant.{IsFree, IsKept, IsPlaced}
+use Rattle.fabric_core.specs.Passing.{passed, passed_at, passed_number, site_at}
+use Rattle.fabric_core.specs.Places.{IsFlown, frames_from, frames_of, frames_on}
+use Rattle.fabric_core.specs.World.{World, world_over}
+use Rattle.fabric_core.proofs.Courses.{course_within}
+use Rattle.fabric_core.proofs.Over.{over_parts}
+use Rattle.fabric_core.proofs.Turns.{HasLanes, refuses, turns, unknown, wants}
+
+-- ---- all packets of a fabric, and those that wait at a receiver
+
+module _ {X : Type 0} (P : X → Type 0) where
+  all_left : (xs ys : List X) → All P (xs ++ ys) → All P xs
+  all_left [] ys h = All-nil P
+  all_left (x ∷ xs) ys h = All-cons P x xs (All-head P x (xs ++ ys) h) (all_left xs ys (All-tail P x (xs ++ ys) h))
+
+  all_right : (xs ys : List X) → All P (xs ++ ys) → All P ys
+  all_right [] ys h = h
+  all_right (x ∷ xs) ys h = all_right xs ys (All-tail P x (xs ++ ys) h)
+
+module _ (P : Descriptor → Type 0) where
+  in_row : (row : List Channel) (lane : ℕ) → All P (frames_from row) → All P (get_or row lane no_channel).ingress
+  in_row [] lane h = All-nil P
+  in_row (c ∷ row) zero h = all_right P c.wire c.ingress (all_right P c.egress (c.wire ++ c.ingress) (all_left P (frames_on c) (frames_from row) h))
+  in_row (c ∷ row) (suc lane) h = in_row row lane (all_right P (frames_on c) (frames_from row) h)
+
+  in_rows : (cs : List (List Channel)) (n lane : ℕ) → All P (flat_map frames_from cs) → All P (get_or (get_or cs n []) lane no_channel).ingress
+  in_rows [] n lane h = All-nil P
+  in_rows (row ∷ cs) zero lane h = in_row row lane (all_left P (frames_from row) (flat_map frames_from cs) h)
+  in_rows (row ∷ cs) (suc n) lane h = in_rows cs n lane (all_right P (frames_from row) (flat_map frames_from cs) h)
+
+  taken_has : (class : Class) (waiting left : List Descriptor) (frame : Descriptor) → All P waiting → eligible class waiting ≡ Some (frame, left) → P frame
+  taken_has class waiting left frame h found =
+      let l = taken_leaves class_of class waiting frame left found in
+      All-head P frame l.newer (all_right P l.older (frame ∷ l.newer) (subst (All P) l.queue h))
+
+flown_at : (w : World) (class : Class) (input : LinkEnd) (frame : Descriptor) (left : List Descriptor) → All (IsFlown w.edge.domains) (frames_of w) → eligible class (channel_at w.channels input).ingress ≡ Some (frame, left)
+    → IsFlown w.edge.domains frame
+flown_at w class input frame left all found =
+    taken_has (IsFlown w.edge.domains) class (channel_at w.channels input).ingress left frame
+    (in_rows (IsFlown w.edge.domains) w.channels input.node input.lane (all_left (IsFlown w.edge.domains) (flat_map frames_from w.channels) _ all)) found
+
+-- ---- by the port's place
+
+-- what a world becomes by an outcome that refuses no begin
+abbrev Gives : Option World → World → World → Outcome → Type 0
+Gives all old new Moved = all ≡ Some new
+Gives all old new Idle = (all ≡ None) × (new ≡ old)
+Gives all old new (Refused fault) = ⊥
+Gives all old new NoMemory = IsSome all × (new ≡ old)
+
+module _ (h new : HierarchyView) (edge edge' : EdgeView) (violations violations' : List Violation) (strays : List Descriptor) (class : Class) (outcome : Outcome) (kept : IsKept (world_over h edge violations strays)) where
+  abbrev here : World
+  here = world_over h edge violations strays
+
+  abbrev there : World
+  there = world_over new edge' violations' strays
+
+  abbrev Passed : Option ℕ → Type 0
+  Passed o = Passes refuses unknown wants true class outcome edge edge' violations violations' h new o
+
+  idle : (all : Option World) → all ≡ None → IsIdle refuses unknown wants true class outcome edge edge' violations violations' h new → Gives all here there outcome
+  idle all none i = subst (Gives all here there) (sym i.idle) (none, over_parts h new (channels h) h.ports edge edge' violations violations' strays i.rest.tree i.rest.routes i.same i.rest.ports i.known_same i.reported_same)
+
+  module _ (i : ℕ) (within : i < length h.tree.places) where
+    abbrev place : PortPlace
+    place = get_or h.tree.places i no_place
+
+    abbrev port : PortView
+    port = port_at h i
+
+    is_place : IsPlace h.tree.lanes place
+    is_place = All-get_or (IsPlace h.tree.lanes) h.tree.places i no_place within kept.built.sound.places
+
+    within_ports : i < length h.ports
+    within_ports = let many = kept.built.many in omega (arith, many)
+
+    placed : IsPlaced h.tree.lanes place port
+    placed = kept.built.placed i no_place no_port within_ports
+
+    free : IsFree port
+    free = All-get_or IsFree h.ports i no_port within_ports kept.free
+
+    lanes : HasLanes (channels h) place.node port.config
+    lanes =
+        let long : length (channels h) ≡ length h.tree.lanes = sym (length-map (channels h) (length {A = Channel})) ∙ ap length kept.built.lanes in
+        let there_is : place.node < length (channels h) = (let node = is_place.node in omega arith) in
+        let many : length (get_or (channels h) place.node []) ≡ get_or h.tree.lanes place.node 0 = sym (get_or-map (length {A = Channel}) (channels h) place.node [] 0 there_is) ∙ ap (λ (ls : List ℕ). get_or ls place.node 0) kept.built.lanes in
+        record { ways = many ∙ placed.fits.ways; own = placed.own }
+
+    by_turn : (input : LinkEnd) → PassesFrom refuses unknown wants true class outcome edge edge' violations violations' h new i place.node (Some input) → input.node ≢ place.node → (o : Outcome) → outcome ≡ o
+        → Gives (option_and_then (passed here (site_at here i place) class) (taken_at (channels h) class (Some input))) here there o
+    by_turn input t apart o is =
+        turns h new edge edge' violations violations' strays class outcome i place.node input t free.held free.kept apart lanes (λ head. course_within h.routes port.config head) (λ frame left found. flown_at here class input frame left kept.placed.flown found) o is
+
+    by_input : (o : Option LinkEnd) → o ≡ place.input → PassesFrom refuses unknown wants true class outcome edge edge' violations violations' h new i place.node o → Gives (passed_at here class i place) here there outcome
+    by_input None is passes = idle (passed_at here class i place) (ap (λ (o : Option LinkEnd). option_and_then (passed here (site_at here i place) class) (taken_at (channels h) class o)) (sym is)) passes
+    by_input (Some input) is passes =
+        let elsewhere : IsFromElsewhere h.tree.lanes place.node (Some input) = subst (IsFromElsewhere h.tree.lanes place.node) (sym is) is_place.input in
+        let all : ◌≡◌ {A = Option World} (option_and_then (passed here (site_at here i place) class) (taken_at (channels h) class (Some input))) (passed_at here class i place) =
+        (ap (λ (o : Option LinkEnd). option_and_then (passed here (site_at here i place) class) (taken_at (channels h) class o)) is) in
+        subst (λ (a : Option World). Gives a here there outcome) all
+        (by_turn input passes elsewhere.1 outcome refl)
+
+  by_index : (id : ℕ) (o : Option ℕ) → o ≡ index_of h.tree.places id → Passed o → Gives (passed_number here class o) here there outcome
+  by_index id None is passes = idle None refl passes
+  by_index id (Some i) is passes =
+      let found = position-Some (λ (place : PortPlace). place.id == id) h.tree.places i no_place (sym is) in
+      by_input i found.0 (place_number h i).input refl passes
+
+  step_of : (id : ℕ) (o : Outcome) → Gives (passed_number here class (index_of h.tree.places id)) here there o → StepsTo here (Pass id class) o there
+  step_of id Moved g = g
+  step_of id Idle g = (g.0, refl, g.1)
+  step_of id (Refused fault) g = absurd g
+  step_of id NoMemory g = g
+
+  -- the turn of a port is what its event does
+  pub pass_step : (id : ℕ) → Passed (index_of h.tree.places id) → StepsTo here (Pass id class) outcome there
+  pass_step id passes = step_of id outcome (by_index id (index_of h.tree.places id) refl passes)

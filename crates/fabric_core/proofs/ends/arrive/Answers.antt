@@ -1,0 +1,27 @@
+use Rattle.std.proofs.Common.{sym, ◌∙◌}
+use Rattle.fabric_core.specs.declared.event.Event.TheVariants.{Arrive}
+use Rattle.fabric_core.specs.Endings.{ending_in}
+use Rattle.fabric_core.specs.Settling.{edge_by_function}
+use Rattle.fabric_core.proofs.Settled.{Took, arrive_ends, ends_step, settled, took_after}
+use Rattle.fabric_core.proofs.ends.arrive.Goals as goal
+
+pub returns : goal.returns
+returns g c violations =
+    let h = c.args.hierarchy.now in
+    let edge = c.args.edge.now in
+    let end = c.in-Some.end in
+    let class = c.args.class in
+    let function = c.args.function in
+    let strays = c.args.strays.now.items in
+    let frame = c.in-Some-take_at.frame in
+    let taking = c.take_at.new.self in
+    let new = c.settle.new.hierarchy in
+    let edge' = c.end_at_function-ended.new.edge in
+    let all = edge_by_function edge function frame (ending_in edge.domains function frame) in
+    let t : Took h taking end class frame =
+    took_after h c.head_at.new.self taking end class frame c.head_at.ensures.same c.head_at.ensures.rest
+    (record { left = c.in-Some-take_at.ensures.taken.0; found = c.in-Some-take_at.ensures.taken.1; now = c.in-Some-take_at.ensures.taken.2; restores = c.in-Some-take_at.ensures.restores; rest = c.take_at.ensures.rest }) in
+    let has = sym c.has_function.ensures ∙ c.if-not-has_function.false in
+    ends_step h taking new edge edge' violations strays c.settle.new.strays.items end class frame all t (Arrive function class) c.settle.result
+    (arrive_ends h taking edge violations strays function end class frame t c.in-Some.ensures.value has)
+    (settled h taking new edge edge' violations strays c.settle.new.strays.items end class frame all t c.settle.result c.end_at_function-ended.result c.end_at_function-ended.ensures c.settle.ensures)

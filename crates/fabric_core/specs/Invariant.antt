@@ -1,0 +1,33 @@
+-- What a fabric keeps: its packets are placed, its links and ports are those of its tree, and between events no port holds
+-- a report or an answer.
+use Rattle.std.specs.Prelude.{◌≡◌, ℕ, ◌<◌, ◌≤◌, List, length, map, slice_index_or, All, None}
+use Rattle.edge.specs.Edges.{IsSettled}
+use Rattle.port.specs.Turns.{PortView}
+use Rattle.topology.specs.Topologies.{IsSound}
+use Rattle.topology.specs.declared.places.PortPlace.{PortPlace}
+use Rattle.hierarchy.specs.Kept.{Fits}
+use Rattle.fabric_core.specs.Places.{ArePlaced}
+use Rattle.fabric_core.specs.World.{World}
+
+-- it holds no report and keeps no answer
+pub record IsFree (port : PortView) : Type 0 where
+  pub held : port.held ≡ None
+  pub kept : port.kept ≡ None
+
+-- a port's own lane is one of its switch, which has as many as the tree says
+pub record IsPlaced (lanes : List ℕ) (place : PortPlace) (port : PortView) : Type 0 where
+  pub fits : Fits lanes place port
+  pub own : port.config.own ≤ length port.config.exits
+
+-- the directions of links and the ports are those that the tree says
+pub record IsBuilt (w : World) : Type 0 where
+  pub sound : IsSound w.tree
+  pub lanes : map length w.channels ≡ w.tree.lanes
+  pub many : length w.ports ≡ length w.tree.places
+  pub placed : (i : ℕ) (place : PortPlace) (port : PortView) → i < length w.ports → IsPlaced w.tree.lanes (slice_index_or w.tree.places i place) (slice_index_or w.ports i port)
+
+pub record IsKept (w : World) : Type 0 where
+  pub built : IsBuilt w
+  pub settled : IsSettled w.edge
+  pub placed : ArePlaced w
+  pub free : All IsFree w.ports

@@ -1,0 +1,122 @@
+-- What a port does with a packet that came into it (PCIe 4.0, 6.12.1.1).
+use Rattle.std.specs.Prelude.{ℕ, Bool, false, List, [], ◌∷◌, ◌++◌, slice_index_or, slice_set, Option, Some, None, option_to_list, if◌then◌else◌}
+use Rattle.std.specs.Option.{option_and_then}
+use Rattle.fab_types.specs.declared.class.Class.{Class}
+use Rattle.fab_types.specs.declared.class.Class.TheVariants.{Posted, NonPosted, Completion}
+use Rattle.fab_types.specs.declared.violation.Violation.{Violation}
+use Rattle.frame_log.specs.Descriptor.{Descriptor}
+use Rattle.domain.specs.declared.entry.Entry.TheVariants.{Refuse}
+use Rattle.edge.specs.Edges.{EdgeView}
+use Rattle.link.specs.Channels.{Channel, is_full}
+use Rattle.port.specs.Configs.{Config}
+use Rattle.port.specs.Courses.{course_of}
+use Rattle.port.specs.Turns.{PortView}
+use Rattle.port.specs.Vetted.{may_go_on, requester_owner}
+use Rattle.port.specs.declared.course.Course.{Course}
+use Rattle.port.specs.declared.course.Course.TheVariants.{Forward, Stop, Stray}
+use Rattle.tenants.specs.Tenants.{Made, made}
+use Rattle.topology.specs.declared.nodes.LinkEnd.{LinkEnd}
+use Rattle.topology.specs.declared.places.PortPlace.{PortPlace}
+use Rattle.hierarchy.specs.Moves.{channel_at, put_at}
+use Rattle.hierarchy.specs.Passes.{index_of, no_place, no_port}
+use Rattle.fabric_core.specs.Endings.{Taken, taken_at}
+use Rattle.fabric_core.specs.World.{World, with_channels}
+
+-- a port of the fabric: its number among all, its switch, and what it is
+pub record Site : Type 0 where
+  pub number : ℕ
+  pub node : ℕ
+  pub config : Config
+
+-- the lane of its switch with this number
+abbrev pub lane_end : Site → ℕ → LinkEnd
+lane_end site lane = record { node = site.node; lane = lane }
+
+-- has the lane of its switch no place for a packet of the class?
+abbrev pub is_full_at : World → Site → ℕ → Class → Bool
+is_full_at w site lane class = is_full class (channel_at w.channels (lane_end site lane))
+
+-- ---- on
+
+abbrev pub kept_by : PortView → Descriptor → PortView
+kept_by port frame = record { config = port.config; held = port.held; kept = port.kept; strays = port.strays ++ frame ∷ [] }
+
+abbrev pub port_number : World → ℕ → PortView
+port_number w i = slice_index_or w.ports i no_port
+
+-- the port keeps the packet as one that it has no case for
+abbrev pub strayed : World → Site → Taken → World
+strayed w site t = record {
+  tree = w.tree;
+  routes = w.routes;
+  channels = t.channels;
+  ports = slice_set w.ports site.number (kept_by (port_number w site.number) t.frame);
+  edge = w.edge;
+  violations = w.violations;
+  strays = w.strays;
+}
+
+abbrev pub may_pass : World → Site → Descriptor → Bool
+may_pass w site frame = may_go_on site.config.is_guarded (requester_owner w.routes.ports frame.head.header) frame
+
+-- it goes on in a lane, if that has a place for it
+abbrev pub forwarded : World → Site → Class → ℕ → Taken → Option World
+forwarded w site class lane t =
+    if is_full_at w site lane class then None
+    else (if may_pass w site t.frame then Some (with_channels w (put_at t.channels (lane_end site lane) t.frame))
+    else Some (strayed w site t))
+
+-- ---- stopped
+
+-- has the port's own lane no place for what answers a packet of the class? Only a non-posted request is answered.
+abbrev pub answer_waits : World → Site → Class → Bool
+answer_waits w site Posted = false
+answer_waits w site NonPosted = is_full_at w site site.config.own Completion
+answer_waits w site Completion = false
+
+-- the answer leaves by the port itself
+abbrev pub answered_at : List (List Channel) → LinkEnd → Option Descriptor → List (List Channel)
+answered_at channels end None = channels
+answered_at channels end (Some answer) = put_at channels end answer
+
+abbrev pub refused_by : World → Site → Option Violation → Taken → Option Made → World
+refused_by w site report t None = strayed w site t
+refused_by w site report t (Some m) = record {
+  tree = w.tree;
+  routes = w.routes;
+  channels = answered_at t.channels (lane_end site site.config.own) m.sent;
+  ports = w.ports;
+  edge = record { domains = m.domains; outboxes = w.edge.outboxes };
+  violations = w.violations ++ option_to_list report;
+  strays = w.strays;
+}
+
+-- its home has it refused, and a violation is reported
+abbrev pub stopped : World → Site → Class → Option Violation → Taken → Option World
+stopped w site class report t =
+    if answer_waits w site class then None
+    else Some (refused_by w site report t (made w.edge.domains t.frame.domain (Refuse t.frame.number)))
+
+-- ---- by its course
+
+abbrev pub passed_by : World → Site → Class → Taken → Course → Option World
+passed_by w site class t (Forward lane) = forwarded w site class lane t
+passed_by w site class t (Stop report) = stopped w site class report t
+passed_by w site class t Stray = Some (strayed w site t)
+
+abbrev pub passed : World → Site → Class → Taken → Option World
+passed w site class t = passed_by w site class t (course_of w.routes site.config t.frame.head)
+
+abbrev pub site_at : World → ℕ → PortPlace → Site
+site_at w i place = record { number = i; node = place.node; config = (port_number w i).config }
+
+abbrev pub passed_at : World → Class → ℕ → PortPlace → Option World
+passed_at w class i place = option_and_then (passed w (site_at w i place) class) (taken_at w.channels class place.input)
+
+abbrev pub passed_number : World → Class → Option ℕ → Option World
+passed_number w class None = None
+passed_number w class (Some i) = passed_at w class i (slice_index_or w.tree.places i no_place)
+
+-- the port of this ID takes the eligible packet of a class
+abbrev pub pass : World → ℕ → Class → Option World
+pass w port class = passed_number w class (index_of w.tree.places port)
