@@ -1,3 +1,6 @@
+pub mod Asking
 pub mod CommandWords
-pub mod Shares
+pub mod Events
+pub mod Parts
+pub mod Running
 pub mod Writing

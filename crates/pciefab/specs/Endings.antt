@@ -1,5 +1,5 @@
 -- How the program ends.
-use Rattle.std.specs.Prelude.{◌≡◌, ◌≢◌, ◌⊎◌, ℕ}
+use Rattle.std.specs.Prelude.{◌≡◌, ◌≢◌, ◌⊎◌, ℕ, ⊤}
 use Rattle.std.specs.IoError.{error_kind}
 use Rattle.std.specs.declared.io.Error.{Error}
 use Rattle.std.specs.declared.io.ErrorKind.TheVariants as error_kinds
@@ -16,10 +16,14 @@ exit_code exit_status.NoMemory = 2
 
 -- the exit status after a fault: want of memory has its own
 abbrev pub status_of : Fault → ExitStatus
-status_of fault.Usage = exit_status.Stopped
-status_of (fault.ScriptLine _) = exit_status.Stopped
 status_of fault.NoMemory = exit_status.NoMemory
-status_of fault.Unwritable = exit_status.Stopped
+status_of _ = exit_status.Stopped
+
+-- what may stop a run: want of memory, or an output that takes no more
+abbrev pub IsRunFault : Fault → Type 0
+IsRunFault fault.NoMemory = ⊤
+IsRunFault fault.Unwritable = ⊤
+IsRunFault _ = ⊥
 
 -- what the failure of a writer comes to
 abbrev pub IsWriterFault : Error → Fault → Type 0

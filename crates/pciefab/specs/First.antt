@@ -1,37 +1,31 @@
 -- What the command `first` prints.
-use Rattle.std.specs.Prelude.{◌≡◌, ℕ, List, [], ◌∷◌, Option, Some, None}
-use Rattle.fab_types.specs.declared.class.Class.TheVariants.{Posted}
-use Rattle.fab_types.specs.declared.faults.begin.BeginFault.{BeginFault}
-use Rattle.fab_types.specs.declared.outcome.Outcome.{Outcome}
-use Rattle.layout.specs.First.{first_share}
-use Rattle.domain.specs.Domains.{DomainView}
-use Rattle.domain.specs.State.{start_state}
-use Rattle.fabric_core.specs.declared.event.Event.{Event}
-use Rattle.fabric_core.specs.declared.event.Event.TheVariants.{Submit, Root}
-use Rattle.fabric_core.specs.Runs.{Run}
-use Rattle.fabric_core.specs.World.{World}
-use Rattle.pciefab.specs.Outcomes.{first_refusal}
+use Rattle.std.specs.Prelude.{◌≡◌, ℕ, List, [], ◌∷◌, ◌++◌, Ok, codes}
+use Rattle.std.specs.List.{flat_map}
+use Rattle.layout.specs.Platform.{Platform}
+use Rattle.layout.specs.Reading.{reading}
 use Rattle.script.specs.PacketWord.{StandsFor}
-use Rattle.pciefab.specs.Report.{memory_lines, refusal_line}
+use Rattle.script.specs.declared.lines.Command.TheVariants.{Submit, Sweep}
+use Rattle.script.specs.declared.lines.Line.{Line}
+use Rattle.fabric_core.specs.World.{World}
+use Rattle.pciefab.specs.Driving.{IsDriven}
+use Rattle.pciefab.specs.Report.{memory_lines}
 
--- the smallest fabric at its start
-abbrev pub first_world : World
-first_world = record { domain = record { share = first_share; state = start_state first_share; journal = [] }; waiting = []; arriving = [] }
+-- one switch, and below it one function, whose page 1 is mapped to frame 0
+abbrev pub first_text : List ℕ
+first_text = codes "pciefab 1\nframes 1\nswitch 01:00.0 root\nport 02:00.0 03 03 90000000 900fffff 1f 1\nfunction 03:00.0 90000000\nmap 03:00.0 1 frame 0 rw\n"
 
--- function 03:00.0 submits the bytes, and the host takes a posted packet
-abbrev pub first_events : List ℕ → List Event
-first_events bytes = Submit 0x0300 bytes ∷ Root Posted ∷ []
+-- function 03:00.0 submits the bytes, and up to 1,000 sweeps follow
+abbrev pub first_lines : List ℕ → List Line
+first_lines bytes = record { number = 1; command = Submit 0x0300 bytes } ∷ record { number = 2; command = Sweep 1000 } ∷ []
 
--- the line of the refusal, or else the lines of the memory
-abbrev pub ending_lines : Option BeginFault → DomainView → List ℕ
-ending_lines (Some fault) domain = refusal_line 1 fault
-ending_lines None domain = memory_lines domain
-
--- The word stands for bytes. The fabric runs with them, and the text is what that run ends in.
+-- The word stands for bytes. The fabric is driven by these lines, and the text is the refusal of the submit, if it was
+-- refused, and then the memory of the domains.
 pub record Prints (word text : List ℕ) : Type 0 where
   pub bytes : List ℕ
   pub stands : StandsFor word bytes
-  pub outcomes : List Outcome
+  pub platform : Platform
+  pub reads : reading first_text ≡ Ok platform
   pub world : World
-  pub run : Run first_world (first_events bytes) outcomes world
-  pub lines : text ≡ ending_lines (first_refusal outcomes) world.domain
+  pub refused : List ℕ
+  pub driven : IsDriven platform (first_lines bytes) world refused
+  pub lines : text ≡ refused ++ flat_map memory_lines world.edge.domains

@@ -1,5 +1,8 @@
 pub mod CommandLine
+pub mod Driving
 pub mod Endings
 pub mod First
-pub mod Outcomes
 pub mod Report
+pub mod Rising
+pub mod Runs
+pub mod Sweeps

@@ -1,5 +1,7 @@
 //! Where the bytes of files come from.
 
+ghost use Rattle.std.specs.Prelude.{ℕ, List, IfOk};
+
 use std::fs;
 use std::io::ErrorKind;
 use std::rt::Files;
@@ -14,7 +16,11 @@ pub enum FileFault {
 
 /// Gives the bytes of files by their names.
 pub trait FileGiver {
-    fn bytes_of(&self, name: &str) -> Result<Vec<u8>, FileFault>;
+    /// May the file of this name have these bytes?
+    ghost holds: { Self → List ℕ → List ℕ → Type 0 };
+
+    fn bytes_of(&self, name: &str) -> Result<Vec<u8>, FileFault>
+        ensures { IfOk result (λ bytes. holds self.now name.now bytes.items) };
 }
 
 /// The files of the host.
@@ -30,6 +36,11 @@ impl<'a, R: Files + AllocGlobal> HostFiles<'a, R> {
 }
 
 impl<R: Files + AllocGlobal> FileGiver for HostFiles<'_, R> {
+    ghost use Rattle.std.specs.Prelude.{⊤};
+
+    // Of what the host gives nothing is known.
+    ghost holds = { λ files name bytes. ⊤ };
+
     fn bytes_of(&self, name: &str) -> Result<Vec<u8>, FileFault> {
         match fs::read(self.rt, name) {
             Ok(bytes) => Ok(bytes),

@@ -5,20 +5,27 @@
 #[cfg(test)]
 mod aliens;
 mod command_line;
+mod drive;
 mod fault;
 mod files;
 mod first;
 mod host;
+#[cfg(test)]
+mod host_requests;
+mod inputs;
 mod program;
 #[cfg(test)]
 mod programs;
 mod report;
+mod rows;
+mod run;
 #[cfg(test)]
-mod scenes;
-#[cfg(test)]
-mod tenants;
+mod runs;
+mod sweep;
 #[cfg(test)]
 mod tests;
+#[cfg(test)]
+mod texts;
 #[cfg(test)]
 mod turns;
 

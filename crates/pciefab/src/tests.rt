@@ -1,6 +1,7 @@
 use crate::fault::ExitStatus;
 use crate::files::{FileFault, FileGiver, HostFiles};
 use crate::program::command;
+use crate::texts::{Ending, PLATFORM, Texts, ended};
 use std::alloc::Global;
 use std::io;
 use std::io::Write;
@@ -12,6 +13,10 @@ use std::test::Fail;
 struct NoFiles;
 
 impl FileGiver for NoFiles {
+    ghost use Rattle.std.specs.Prelude.{⊥};
+
+    ghost holds = { λ files name bytes. ⊥ };
+
     fn bytes_of(&self, _name: &str) -> Result<Vec<u8>, FileFault> {
         Err(FileFault::Unreadable)
     }
@@ -31,23 +36,8 @@ impl Write for Failing {
     }
 }
 
-/// What a command wrote, and its exit status.
-#[derive(Debug, PartialEq, Drop)]
-struct Ending {
-    status: u8,
-    out: String,
-    err: String,
-}
-
 fn run_words(rt: &impl Wait, alloc: Global, words: &[&str]) -> Result<Ending, Fail> {
-    let mut out = Vec::new(alloc);
-    let mut err = Vec::new(alloc);
-    let status = command(rt, alloc, words, &NoFiles, &mut out, &mut err).code();
-    Ok(Ending {
-        status,
-        out: String::from_utf8(out)?,
-        err: String::from_utf8(err)?,
-    })
+    ended(rt, alloc, words, &NoFiles)
 }
 
 const WRITE: &str = "400000010300000f0000100011223344";
@@ -100,7 +90,7 @@ fn a_word_that_is_no_lower_case_hexadecimal_of_whole_bytes_is_refused(
 fn words_that_are_no_command_are_refused_before_the_packet_is_looked_at(
     rt: HostRuntime,
 ) -> Result<(), Fail> {
-    let cases: [&[&str]; 9] = [
+    let cases: [&[&str]; 20] = [
         &[],
         &[""],
         &["first"],
@@ -110,6 +100,18 @@ fn words_that_are_no_command_are_refused_before_the_packet_is_looked_at(
         &["first", "4A", "4A"],
         &["first", "-x"],
         &["--version"],
+        &["run"],
+        &["run", "layout"],
+        &["run", "layout", "script", "1"],
+        &["run", "--all", "layout", "script"],
+        &["alone", "layout", "script"],
+        // A domain that is no decimal number of one to nine digits is seen before the file is opened.
+        &["alone", "no file", "script", ""],
+        &["alone", "no file", "script", "one"],
+        &["alone", "no file", "script", "+1"],
+        &["alone", "no file", "script", "0x1"],
+        &["alone", "no file", "script", "0000000001"],
+        &["alone", "no file", "script", "1", "1"],
     ];
     for words in cases {
         let end = run_words(&rt, rt.alloc(), words)?;
@@ -132,13 +134,16 @@ fn words_after_two_dashes_are_no_options(rt: HostRuntime) -> Result<(), Fail> {
 
 #[test]
 fn help_is_printed_with_an_example_that_can_be_run(rt: HostRuntime) -> Result<(), Fail> {
-    let cases: [&[&str]; 6] = [
+    let cases: [&[&str]; 9] = [
         &["--help"],
         &["-h"],
         &["help"],
         &["first", "--help"],
         &["first", "-h"],
         &["help", "first"],
+        &["run", "--help"],
+        &["alone", "-h"],
+        &["help", "alone"],
     ];
     for words in cases {
         let end = run_words(&rt, rt.alloc(), words)?;
@@ -149,6 +154,10 @@ fn help_is_printed_with_an_example_that_can_be_run(rt: HostRuntime) -> Result<()
             "{words:?}"
         );
         assert!(rt; help.contains(ROW), "{words:?}");
+        assert!(rt;
+            help.contains("docs/LAYOUT.md") && help.contains("docs/FORMATS.md"),
+            "{words:?}"
+        );
         assert_eq!(rt; end.err.as_str(), "", "{words:?}");
         assert_eq!(rt; end.status, 0, "{words:?}");
     }
@@ -189,5 +198,153 @@ fn the_files_of_the_host_are_read_whole(rt: HostRuntime) -> Result<(), Fail> {
     let files = HostFiles::new(&rt);
     assert_eq!(rt; files.bytes_of("/dev/null").map(|bytes| bytes.len()), Ok(0));
     assert!(rt; files.bytes_of("no such file") == Err(FileFault::Unreadable));
+    Ok(())
+}
+
+#[test]
+fn help_names_each_command_and_each_word(rt: HostRuntime) -> Result<(), Fail> {
+    let cases: [(&[&str], &[&str]); 4] = [
+        (&["--help"], &["first", "run", "alone", "help"]),
+        (
+            &["first", "--help"],
+            &["pciefab first <HEX>", "hexadecimal"],
+        ),
+        (
+            &["run", "--help"],
+            &["pciefab run <LAYOUT> <SCRIPT>", "switches", "hosts"],
+        ),
+        (
+            &["alone", "--help"],
+            &["pciefab alone <LAYOUT> <SCRIPT> <DOMAIN>", "1 to 31"],
+        ),
+    ];
+    for (words, parts) in cases {
+        let end = run_words(&rt, rt.alloc(), words)?;
+        for part in parts {
+            assert!(rt; end.out.as_str().contains(*part), "{part}: {end:?}");
+        }
+    }
+    Ok(())
+}
+
+/// The line of each fault of a file, in their precedence, and the exit status.
+#[test]
+fn the_first_fault_has_one_line(rt: HostRuntime) -> Result<(), Fail> {
+    let alloc = rt.alloc();
+    let no_text: &[u8] = &[0xff, b'\n'];
+    let bad_layout = "pciefab 1\nswitch\n".as_bytes();
+    let bad_script = "# \ntick 03:00.0\nsweep 0\n".as_bytes();
+    let good = PLATFORM.as_bytes();
+    let cases: [(&[&str], &[u8], &[u8], &str); 11] = [
+        (
+            &["run", "none", "nor this"],
+            good,
+            good,
+            "file none: unreadable\n",
+        ),
+        (
+            &["run", "layout", "none"],
+            bad_layout,
+            good,
+            "layout 2: 1 Line\n",
+        ),
+        (
+            &["run", "layout", "none"],
+            no_text,
+            good,
+            "file layout: unreadable\n",
+        ),
+        (
+            &["run", "layout", "none"],
+            good,
+            bad_script,
+            "file none: unreadable\n",
+        ),
+        (
+            &["run", "layout", "script"],
+            good,
+            no_text,
+            "file script: unreadable\n",
+        ),
+        (
+            &["run", "layout", "script"],
+            good,
+            bad_script,
+            "script 3: Line\n",
+        ),
+        (
+            &["alone", "layout", "script", "99"],
+            good,
+            bad_script,
+            "script 3: Line\n",
+        ),
+        (
+            &["alone", "layout", "script", "00000"],
+            good,
+            b"",
+            "domain 0: none\n",
+        ),
+        (
+            &["alone", "layout", "script", "003"],
+            good,
+            b"",
+            "domain 3: none\n",
+        ),
+        (
+            &["alone", "layout", "script", "32"],
+            good,
+            b"",
+            "domain 32: none\n",
+        ),
+        (
+            &["alone", "layout", "script", "999999999"],
+            good,
+            b"",
+            "domain 999999999: none\n",
+        ),
+    ];
+    for (words, layout, script, line) in cases {
+        let files = Texts {
+            alloc,
+            layout,
+            script,
+        };
+        let end = ended(&rt, alloc, words, &files)?;
+        assert_eq!(rt; end.err.as_str(), line, "{words:?}");
+        assert_eq!(rt; end.out.as_str(), "", "{words:?}");
+        assert_eq!(rt; end.status, 1, "{words:?}");
+    }
+    Ok(())
+}
+
+#[test]
+fn a_faulty_layout_is_named_by_its_line_and_cause(rt: HostRuntime) -> Result<(), Fail> {
+    let alloc = rt.alloc();
+    let cases = [
+        (
+            "06 06 90100000 901fffff 1f 2",
+            "06 06 90100000 901fffff 1f 1",
+            "layout 8: 7 OwnerMixed\n",
+        ),
+        ("peer 08:00.0", "peer 06:00.0", "layout 15: 9 MapForeign\n"),
+    ];
+    for (old, new, line) in cases {
+        let (front, back) = PLATFORM.split_once(old).ok_or("the line")?;
+        let text = format!(in alloc; "{front}{new}{back}")?;
+        let files = Texts {
+            alloc,
+            layout: text.as_str().as_bytes(),
+            script: b"",
+        };
+        let end = ended(&rt, alloc, &["run", "layout", "script"], &files)?;
+        assert_eq!(rt; (end.err.as_str(), end.status), (line, 1));
+    }
+    let files = Texts {
+        alloc,
+        layout: b"",
+        script: b"",
+    };
+    let end = ended(&rt, alloc, &["alone", "layout", "script", "1"], &files)?;
+    assert_eq!(rt; (end.err.as_str(), end.status), ("layout 1: 1 Line\n", 1));
     Ok(())
 }

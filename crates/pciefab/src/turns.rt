@@ -47,6 +47,8 @@ impl Desk for OneDomain {
 
     ghost unknown = { λ known frame port. ⊤ };
 
+    ghost wants = { λ known frame port. ⊤ };
+
     fn refuse<W: Wait>(
         &mut self,
         rt: &W,
@@ -294,96 +296,6 @@ const SPOOFED_WRITE: &str = "400000010300000f00001000deadbeef";
 const SPOOFED_READ: &str = "000000010300200f00001000";
 
 const WRITE_TO_A_PEER: &str = "400000010600000f9000000000000001";
-
-#[test]
-fn a_write_with_anothers_requester_id_is_discarded_and_reported(
-    rt: HostRuntime,
-) -> Result<(), Fail> {
-    let mut scene = port_with(rt.alloc(), 0x0500, 2, 16).ok_or("a port")?;
-    assert!(rt; scene.submit(&rt, 0x0600, SPOOFED_WRITE));
-    assert!(rt; scene.moves(&rt, Class::Posted));
-    let report = violation(0x0500, Check::SourceValidation, 0x0600, 0x0300, true);
-    assert!(rt; scene.has_reported(&[report]));
-    assert_eq!(rt; scene.desk.domain.journal().len(), 2);
-    Ok(())
-}
-
-#[test]
-fn a_report_is_one_line(rt: HostRuntime) -> Result<(), Fail> {
-    let report = violation(0x0500, Check::SourceValidation, 0x0600, 0x0300, true);
-    let line = monitor::line(rt.alloc(), &report)?;
-    assert!(rt; line.as_str() == "acs 05:00.0 V from 06:00.0 as 03:00.0 posted");
-    Ok(())
-}
-
-#[test]
-fn a_read_with_anothers_requester_id_is_answered_with_completer_abort(
-    rt: HostRuntime,
-) -> Result<(), Fail> {
-    let mut scene = port_with(rt.alloc(), 0x0500, 2, 16).ok_or("a port")?;
-    assert!(rt; scene.submit(&rt, 0x0600, SPOOFED_READ));
-    assert!(rt; scene.moves(&rt, Class::NonPosted));
-    let report = violation(0x0500, Check::SourceValidation, 0x0600, 0x0300, false);
-    assert!(rt; scene.has_reported(&[report]));
-    assert_eq!(rt; scene.delivers(1, "0a0000000500800403002000"), Some(true));
-    Ok(())
-}
-
-#[test]
-fn a_write_that_claims_translation_is_a_violation(rt: HostRuntime) -> Result<(), Fail> {
-    let mut scene = port_with(rt.alloc(), 0x0500, 2, 16).ok_or("a port")?;
-    assert!(rt; scene.submit(&rt, 0x0600, "400008010600000f00001000deadbeef"));
-    assert!(rt; scene.moves(&rt, Class::Posted));
-    let report = violation(0x0500, Check::TranslationBlocking, 0x0600, 0x0600, true);
-    assert!(rt; scene.has_reported(&[report]));
-    Ok(())
-}
-
-#[test]
-fn a_request_for_a_peer_goes_up_at_each_port(rt: HostRuntime) -> Result<(), Fail> {
-    let mut scene = port_with(rt.alloc(), 0x0500, 2, 16).ok_or("a port")?;
-    assert!(rt; scene.submit(&rt, 0x0600, WRITE_TO_A_PEER));
-    assert!(rt; scene.moves(&rt, Class::Posted));
-    assert!(rt; scene.go_on(0x0208, Class::Posted).is_some());
-    assert!(rt; scene.moves(&rt, Class::Posted));
-    assert!(rt; scene.has_sent(0, Class::Posted));
-    assert_eq!(rt; scene.desk.domain.journal().len(), 1);
-    Ok(())
-}
-
-#[test]
-fn a_read_of_the_neighbour_goes_up_past_the_window_that_has_it(
-    rt: HostRuntime,
-) -> Result<(), Fail> {
-    let mut scene = port_with(rt.alloc(), 0x0500, 2, 16).ok_or("a port")?;
-    assert!(rt; scene.submit(&rt, 0x0600, "000000010600310f90200000"));
-    assert!(rt; scene.moves(&rt, Class::NonPosted));
-    assert!(rt; scene.go_on(0x0208, Class::NonPosted).is_some());
-    assert!(rt; scene.moves(&rt, Class::NonPosted));
-    assert!(rt; scene.has_sent(0, Class::NonPosted));
-    assert!(rt; scene.has_reported(&[]));
-    Ok(())
-}
-
-#[test]
-fn any_bus_below_the_port_passes_source_validation(rt: HostRuntime) -> Result<(), Fail> {
-    let mut scene = port_with(rt.alloc(), 0x0210, 1, 16).ok_or("a port")?;
-    assert!(rt; scene.submit(&rt, 0x0800, "000000010900300f00001000"));
-    assert!(rt; scene.moves(&rt, Class::NonPosted));
-    assert!(rt; scene.has_sent(0, Class::NonPosted));
-    assert!(rt; scene.has_reported(&[]));
-    Ok(())
-}
-
-#[test]
-fn a_request_of_another_kind_is_answered_by_its_first_port(rt: HostRuntime) -> Result<(), Fail> {
-    let mut scene = port_with(rt.alloc(), 0x0200, 1, 16).ok_or("a port")?;
-    assert!(rt; scene.submit(&rt, 0x0300, "020000010300400f00001000"));
-    assert!(rt; scene.moves(&rt, Class::NonPosted));
-    assert_eq!(rt; scene.delivers(1, "0a0000000200200403004000"), Some(true));
-    assert!(rt; scene.has_reported(&[]));
-    Ok(())
-}
 
 #[test]
 fn a_packet_that_the_lane_gives_back_stays_where_it_was(rt: HostRuntime) -> Result<(), Fail> {

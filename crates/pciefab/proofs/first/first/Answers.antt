@@ -1,23 +1,23 @@
-use Rattle.std.proofs.Common.{◌≡◌, ◌∙◌, Option, ap}
-use Rattle.fab_types.specs.declared.faults.begin.BeginFault.{BeginFault}
-use Rattle.pciefab.specs.First.{ending_lines}
-use Rattle.pciefab.specs.Outcomes.{first_refusal}
+use Rattle.std.proofs.Common.{◌++◌, refl}
+use Rattle.std.specs.List.{flat_map}
+use Rattle.pciefab.specs.Report.{memory_lines}
+use Rattle.pciefab.proofs.Writing.{joined}
 use Rattle.pciefab.proofs.first.first.Goals as goal
 
--- the text is what the run of the fabric ends in
+-- the refusal, if any, and then the memory
 pub returns-clause-printed : goal.returns-clause-printed
 returns-clause-printed g c =
-    let domain = c.in_ok-fabric.fabric.domain in
-    let refused : c.in_ok-refused.refused ≡ first_refusal c.in_ok-fabric.outcomes.items =
-    c.in_ok-refused.ensures.first ∙ ap first_refusal c.deref.ensures.value in (
-      ending_lines c.in_ok-refused.refused domain,
+    let written = c.in_ok-fabric.ensures.ok in (
+      written.0 ++ flat_map memory_lines c.in_ok-fabric.fabric.edge.domains,
       record {
         bytes = c.in-Ok.bytes;
         stands = rw c.as_bytes.ensures.value at c.in-Ok.ensures;
-        outcomes = c.in_ok-fabric.outcomes.items;
+        platform = c.in-Ok-read.layout;
+        reads = c.in-Ok-read.ensures.exact;
         world = c.in_ok-fabric.fabric;
-        run = c.in_ok-fabric.ensures.run;
-        lines = ap (λ (r : Option BeginFault). ending_lines r domain) refused;
+        refused = written.0;
+        driven = rw c.from_bits.ensures at written.1;
+        lines = refl;
       },
-      c.in_ok-write_ending.ensures,
+      joined _ _ _ _ _ written.2 (rw c.domains.ensures at c.in_ok-write_memory.ensures),
     )

@@ -1,0 +1,56 @@
+//! The texts of files: layouts and scripts.
+
+ghost use Rattle.std.specs.Prelude.{◌≡◌, ℕ, List, IfOk, Ok, string_bytes};
+ghost use Rattle.layout.specs.Reading as layouts;
+ghost use Rattle.script.specs.Reading as scripts;
+
+use crate::fault::Fault;
+use crate::files::{FileFault, FileGiver};
+use layout::Layout;
+use script::Script;
+use std::alloc::Global;
+
+/// The text of a file. A file that is no UTF-8 is as one that cannot be read.
+fn text_of<'a, F: FileGiver>(files: &F, name: &'a str) -> Result<String, Fault<'a>>
+    ensures { IfOk result (λ text. F.holds files.now name.entry.now (string_bytes text)) }
+{
+    let bytes = match files.bytes_of(name) {
+        Ok(bytes) => bytes,
+        Err(FileFault::Unreadable) => return Err(Fault::Unreadable { name }),
+        Err(FileFault::NoMemory) => return Err(Fault::NoMemory),
+    };
+    match String::from_utf8(bytes) {
+        Ok(text) => Ok(text),
+        Err(_) => Err(Fault::Unreadable { name }),
+    }
+}
+
+/// Reads the layout of a file.
+pub fn layout_of<'a, F: FileGiver>(
+    alloc: Global,
+    files: &F,
+    name: &'a str,
+) -> Result<Layout, Fault<'a>>
+    ensures { IfOk result (λ layout. (text : List ℕ) × F.holds files.now name.entry.now text × (layouts.reading text ≡ Ok layout)) }
+{
+    let text = text_of(files, name)?;
+    match Layout::read(alloc, text.as_str()) {
+        Ok(layout) => Ok(layout),
+        Err(fault) => Err(Fault::of_layout(fault)),
+    }
+}
+
+/// Reads the script of a file.
+pub fn script_of<'a, F: FileGiver>(
+    alloc: Global,
+    files: &F,
+    name: &'a str,
+) -> Result<Script, Fault<'a>>
+    ensures { IfOk result (λ script. (text : List ℕ) × F.holds files.now name.entry.now text × (scripts.reading text ≡ Ok script)) }
+{
+    let text = text_of(files, name)?;
+    match Script::read(alloc, text.as_str()) {
+        Ok(script) => Ok(script),
+        Err(fault) => Err(Fault::at_line(fault.line, fault.cause)),
+    }
+}
