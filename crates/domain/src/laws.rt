@@ -33,5 +33,4 @@ pub fn guarded_journals_have_no_alien_entry(domain: &Domain)
 pub fn begins_bound_what_is_emitted()
     ensures packets { (share : Share) (journal : List Entry) (state : Alone) → replay share journal ≡ Some state → length state.flight ≤ 3 * state.counts.begins + 2 * aliens_in journal }
     ensures begins { (share : Share) (journal : List Entry) (state : Alone) → replay share journal ≡ Some state → state.counts.begins ≤ share.budget }
-{
-}
+{}
