@@ -1,5 +1,5 @@
 -- Runs that go on: events of a sweep, sweeps, and lines of a script.
-use Rattle.std.proofs.Common.{◌≡◌, ℕ, zero, suc, ◌+◌, ◌-◌, ◌<◌, ◌≤◌, Bool, true, false, List, [], ◌∷◌, ◌++◌, length, take, refl, sym, ap, ◌∙◌, subst, arith, append_assoc}
+use Rattle.std.proofs.Common.{◌≡◌, ℕ, zero, suc, ◌+◌, ◌-◌, ◌<◌, ◌≤◌, Bool, true, false, List, [], ◌∷◌, ◌++◌, length, take, refl, sym, ap, ap₂, ◌∙◌, subst, arith, append_assoc}
 use Rattle.std.specs.Prelude.{◌||◌, slice_index_or}
 use Rattle.std.specs.List.{list_any}
 use Rattle.std.proofs.lemmas.List.{append-nil, take_more}
@@ -12,7 +12,7 @@ use Rattle.fabric_core.specs.Events.{StepsTo}
 use Rattle.fabric_core.specs.Runs.{Run}
 use Rattle.fabric_core.specs.World.{World}
 use Rattle.pciefab.specs.Driving.{Does, Drives}
-use Rattle.pciefab.specs.Sweeps.{Sweeps, SweepsUpTo, is_moved}
+use Rattle.pciefab.specs.Sweeps.{Sweeps, SweepsUpTo, is_moved, lacks_memory}
 
 pub take_all : {X : Type 0} (xs : List X) (i : ℕ) → length xs ≤ i → take i xs ≡ xs
 take_all [] zero le = refl
@@ -37,24 +37,31 @@ one Idle = refl
 one (Refused fault) = refl
 one NoMemory = refl
 
-sweep_more : (w v u : World) (es : List Event) (e : Event) (m : Bool) (o : Outcome) → Sweeps es w m v → StepsTo v e o u → Sweeps (es ++ e ∷ []) w (m || is_moved o) u
-sweep_more w v u es e m o s step = record {
+only : (o : Outcome) → list_any lacks_memory (o ∷ []) ≡ lacks_memory o
+only Moved = refl
+only Idle = refl
+only (Refused fault) = refl
+only NoMemory = refl
+
+sweep_more : (w v u : World) (es : List Event) (e : Event) (m : Bool) (o : Outcome) → lacks_memory o ≡ false → Sweeps es w m v → StepsTo v e o u → Sweeps (es ++ e ∷ []) w (m || is_moved o) u
+sweep_more w v u es e m o enough s step = record {
   outcomes = s.outcomes ++ o ∷ [];
   run = run_more w v u es s.outcomes e o s.run step;
+  memory = list_any-append lacks_memory s.outcomes (o ∷ []) ∙ ap₂ (λ (a b : Bool). a || b) s.memory (only o ∙ enough);
   moves =
       ap (λ (b : Bool). b || is_moved o) s.moves
       ∙ (ap (λ (b : Bool). list_any is_moved s.outcomes || b) (sym (one o)) ∙ sym (list_any-append is_moved s.outcomes (o ∷ [])));
 }
 
 pub sweep_start : (w : World) (es : List Event) → Sweeps (take 0 es) w false w
-sweep_start w es = record { outcomes = []; run = refl; moves = refl }
+sweep_start w es = record { outcomes = []; run = refl; memory = refl; moves = refl }
 
 -- one event more of a list
 pub sweep_next : (w v u : World) (es : List Event) (i : ℕ) (e : Event) (m n : Bool) (o : Outcome) → i < length es → e ≡ slice_index_or es i e → n ≡ (m || is_moved o)
-    → Sweeps (take i es) w m v → StepsTo v e o u → Sweeps (take (i + 1) es) w n u
-sweep_next w v u es i e m n o lt is both s step =
+    → lacks_memory o ≡ false → Sweeps (take i es) w m v → StepsTo v e o u → Sweeps (take (i + 1) es) w n u
+sweep_next w v u es i e m n o lt is both enough s step =
     subst (λ (xs : List Event). Sweeps xs w n u) (sym (take_next es i e lt is))
-    (subst (λ (b : Bool). Sweeps (take i es ++ e ∷ []) w b u) (sym both) (sweep_more w v u (take i es) e m o s step))
+    (subst (λ (b : Bool). Sweeps (take i es ++ e ∷ []) w b u) (sym both) (sweep_more w v u (take i es) e m o enough s step))
 
 -- the sweep of all events, once the loop has gone through them
 pub sweep_whole : (w v : World) (es : List Event) (m : Bool) (i : ℕ) → length es ≤ i → Sweeps (take i es) w m v → Sweeps es w m v

@@ -1,5 +1,5 @@
 -- A fabric that is driven by the lines of a script.
-use Rattle.std.specs.Prelude.{◌≡◌, ℕ, List, [], ◌∷◌, ◌++◌, Option}
+use Rattle.std.specs.Prelude.{◌≡◌, ℕ, false, List, [], ◌∷◌, ◌++◌, Option}
 use Rattle.std.specs.Io.KnownBytes.{Appends}
 use Rattle.fab_types.specs.declared.outcome.Outcome.{Outcome}
 use Rattle.fab_types.specs.declared.outcome.Outcome.TheVariants.{Refused}
@@ -12,7 +12,7 @@ use Rattle.fabric_core.specs.declared.event.Event.TheVariants.{Submit, Tick, Mmi
 use Rattle.fabric_core.specs.Events.{StepsTo}
 use Rattle.fabric_core.specs.World.{World, world_of}
 use Rattle.pciefab.specs.Report.{refusal_line}
-use Rattle.pciefab.specs.Sweeps.{IsSweep, SweepsUpTo}
+use Rattle.pciefab.specs.Sweeps.{IsSweep, SweepsUpTo, lacks_memory}
 
 -- a writer whose bytes are known grew by a text of which this holds
 abbrev pub Wrote : Option (List ℕ) → Option (List ℕ) → (List ℕ → Type 0) → Type 0
@@ -23,10 +23,11 @@ abbrev pub refused_text : ℕ → Outcome → List ℕ
 refused_text line (Refused fault) = refusal_line line fault
 refused_text line outcome = []
 
--- the event was made, and this was written of it
+-- the event was made, memory was not lacking, and this was written of it
 pub record Begins (line : ℕ) (old : World) (event : Event) (new : World) (text : List ℕ) : Type 0 where
   pub outcome : Outcome
   pub step : StepsTo old event outcome new
+  pub memory : lacks_memory outcome ≡ false
   pub written : text ≡ refused_text line outcome
 
 -- what the command of a line of a script does, and what is written of it, by the events of a sweep

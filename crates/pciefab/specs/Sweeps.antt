@@ -4,7 +4,7 @@ use Rattle.std.specs.List.{flat_map, list_any}
 use Rattle.fab_types.specs.declared.class.Class.{Class}
 use Rattle.fab_types.specs.declared.class.Class.TheVariants.{Posted, NonPosted, Completion}
 use Rattle.fab_types.specs.declared.outcome.Outcome.{Outcome}
-use Rattle.fab_types.specs.declared.outcome.Outcome.TheVariants.{Moved}
+use Rattle.fab_types.specs.declared.outcome.Outcome.TheVariants.{Moved, NoMemory}
 use Rattle.fab_types.specs.declared.place.Direction.{Direction}
 use Rattle.fab_types.specs.declared.place.Origin.{Origin}
 use Rattle.fab_types.specs.declared.place.Origin.TheVariants.{Function, Host}
@@ -66,10 +66,15 @@ abbrev pub is_moved : Outcome → Bool
 is_moved Moved = true
 is_moved outcome = false
 
--- the events were made in turn, and it is said whether one of them moved something
+abbrev pub lacks_memory : Outcome → Bool
+lacks_memory NoMemory = true
+lacks_memory outcome = false
+
+-- the events were made in turn, none lacked memory, and it is said whether one of them moved something
 pub record Sweeps (events : List Event) (old : World) (moved : Bool) (new : World) : Type 0 where
   pub outcomes : List Outcome
   pub run : Run old events outcomes new
+  pub memory : list_any lacks_memory outcomes ≡ false
   pub moves : moved ≡ list_any is_moved outcomes
 
 -- so many sweeps, or fewer: the last one is the first in which nothing moves

@@ -40,15 +40,17 @@ struct Row<'a> {
 }
 
 /// A run in which nothing happens.
-const NOTHING: Row<'static> = Row {
-    script: "",
-    before: "",
-    counts_1: NOTHING_BEGAN,
-    memory: "",
-    records_1: "",
-    counts_2: NOTHING_BEGAN,
-    records_2: "",
-};
+fn nothing<'a>() -> Row<'a> {
+    Row {
+        script: "",
+        before: "",
+        counts_1: NOTHING_BEGAN,
+        memory: "",
+        records_1: "",
+        counts_2: NOTHING_BEGAN,
+        records_2: "",
+    }
+}
 
 /// The part of the report that domain 1 has.
 fn part_of_1(alloc: Global, row: &Row<'_>) -> Result<String, Fail> {
@@ -141,7 +143,7 @@ fn what_a_function_reads_is_what_it_wrote(rt: HostRuntime) -> Result<(), Fail> {
             counts_1: counts.as_str(),
             memory: WRITTEN,
             records_1: records.as_str(),
-            ..NOTHING
+            ..nothing()
         };
         assert_eq!(rt; unlike(&rt, alloc, PLATFORM, &row)?, None);
     }
@@ -169,7 +171,7 @@ record 03:00.0 20 SC 4a000001000000040300200011223344
 record 03:00.0 21 SC 4a000001000000020300210111223344
 record 03:00.0 22 SC 4a000001000000010300220000000000
 ",
-        ..NOTHING
+        ..nothing()
     };
     assert_eq!(rt; unlike(&rt, rt.alloc(), PLATFORM, &row)?, None);
     Ok(())
@@ -178,12 +180,12 @@ record 03:00.0 22 SC 4a000001000000010300220000000000
 #[test]
 fn what_domain_1_begins_is_printed(rt: HostRuntime) -> Result<(), Fail> {
     let rows = [
-        NOTHING,
+        nothing(),
         Row {
             script: WRITE,
             counts_1: ONE_BEGAN,
             memory: WRITTEN,
-            ..NOTHING
+            ..nothing()
         },
         // A read waits for an older write.
         Row {
@@ -191,26 +193,26 @@ fn what_domain_1_begins_is_printed(rt: HostRuntime) -> Result<(), Fail> {
             counts_1: "begins 2 blocked 0 unexpected 0 open 0",
             memory: WRITTEN,
             records_1: "record 03:00.0 20 SC 4a000001000000040300200011223344\n",
-            ..NOTHING
+            ..nothing()
         },
         // It crosses a boundary of 4,096 bytes.
         Row {
             script: "submit 03:00.0 40000002030000ff00001ffc0102030405060708\nsweep 1000\n",
             counts_1: ONE_BEGAN,
-            ..NOTHING
+            ..nothing()
         },
         // A peer by way of the host, and through the switch alone.
         Row {
             script: "submit 03:00.0 000000010300240f00002000\nsweep 1000\nsubmit 03:00.0 000020010300250f00002000\nsweep 1000\n",
             counts_1: "begins 2 blocked 0 unexpected 0 open 0",
             records_1: "record 03:00.0 24 SC 4a000001080000040300240008004642\nrecord 03:00.0 25 SC 4a002001080000040300250008004642\n",
-            ..NOTHING
+            ..nothing()
         },
         // The other bus of the port: the Tag of 08:00.0 stays open.
         Row {
             script: "submit 08:00.0 000000010900300f00001000\nsweep 1000\n",
             counts_1: "begins 1 blocked 1 unexpected 1 open 1",
-            ..NOTHING
+            ..nothing()
         },
         // In the name of 06:00.0.
         Row {
@@ -218,20 +220,20 @@ fn what_domain_1_begins_is_printed(rt: HostRuntime) -> Result<(), Fail> {
             before: "acs 02:00.0 V from 03:00.0 as 06:00.0 nonposted\n",
             counts_1: ONE_BEGAN,
             records_1: "record 03:00.0 20 CA 0a0000000200800406002000\n",
-            ..NOTHING
+            ..nothing()
         },
         // No bytes, and three of them.
         Row {
             script: "submit 03:00.0 -\nsubmit 03:00.0 400000\nsweep 1000\n",
             counts_1: "begins 2 blocked 0 unexpected 0 open 0",
-            ..NOTHING
+            ..nothing()
         },
         // The Tag is open.
         Row {
             script: "submit 03:00.0 000000010300200f00001000\nsubmit 03:00.0 000000010300200f00001000\n",
             before: "refused 2 3 TagBusy\n",
             counts_1: "begins 1 blocked 0 unexpected 0 open 1",
-            ..NOTHING
+            ..nothing()
         },
         // The host reads a register page of its own, and one of domain 2.
         Row {
@@ -239,7 +241,7 @@ fn what_domain_1_begins_is_printed(rt: HostRuntime) -> Result<(), Fail> {
             before: "refused 3 1 NotYours\n",
             counts_1: ONE_BEGAN,
             records_1: "record 00:01.0 00 SC 4a000001030000040008000003004642\n",
-            ..NOTHING
+            ..nothing()
         },
     ];
     for row in &rows {
@@ -256,34 +258,34 @@ fn what_domain_2_begins_leaves_domain_1_as_it_was(rt: HostRuntime) -> Result<(),
             script: "submit 06:00.0 400000010300000f00001000deadbeef\nsweep 1000\n",
             before: "acs 05:00.0 V from 06:00.0 as 03:00.0 posted\n",
             counts_2: ONE_BEGAN,
-            ..NOTHING
+            ..nothing()
         },
         Row {
             script: "submit 06:00.0 000000010300200f00001000\nsweep 1000\n",
             before: "acs 05:00.0 V from 06:00.0 as 03:00.0 nonposted\n",
             counts_2: ONE_BEGAN,
             records_2: "record 06:00.0 20 CA 0a0000000500800403002000\n",
-            ..NOTHING
+            ..nothing()
         },
         // An address that claims to be translated.
         Row {
             script: "submit 06:00.0 400008010600000f00001000deadbeef\nsweep 1000\n",
             before: "acs 05:00.0 B from 06:00.0 as 06:00.0 posted\n",
             counts_2: ONE_BEGAN,
-            ..NOTHING
+            ..nothing()
         },
         // The register page of 03:00.0.
         Row {
             script: "submit 06:00.0 400000010600000f9000000000000001\nsweep 1000\n",
             counts_2: "begins 1 blocked 1 unexpected 0 open 0",
-            ..NOTHING
+            ..nothing()
         },
         // That of 07:00.0, the neighbour.
         Row {
             script: "submit 06:00.0 000000010600310f90200000\nsweep 1000\n",
             counts_2: "begins 1 blocked 1 unexpected 0 open 0",
             records_2: "record 06:00.0 31 UR 0a0000000000200406003100\n",
-            ..NOTHING
+            ..nothing()
         },
     ];
     for row in &rows {
@@ -316,7 +318,7 @@ sweep 1000
         counts_1: "begins 2 blocked 0 unexpected 0 open 0",
         memory: WRITTEN,
         counts_2: "begins 1 blocked 1 unexpected 0 open 0",
-        ..NOTHING
+        ..nothing()
     };
     assert_eq!(rt; unlike(&rt, rt.alloc(), layout.as_str(), &row)?, None);
     Ok(())
@@ -356,7 +358,7 @@ fn packets_wait_for_credits_and_arrive_in_order(rt: HostRuntime) -> Result<(), F
         script: script.as_str(),
         counts_1: "begins 300 blocked 0 unexpected 0 open 0",
         memory: memory.as_str(),
-        ..NOTHING
+        ..nothing()
     };
     assert_eq!(rt; unlike(&rt, alloc, layout.as_str(), &row)?, None);
     Ok(())
@@ -379,7 +381,7 @@ fn a_sweep_goes_on_while_something_moves(rt: HostRuntime) -> Result<(), Fail> {
             script: script.as_str(),
             counts_1: ONE_BEGAN,
             memory,
-            ..NOTHING
+            ..nothing()
         };
         assert_eq!(rt; unlike(&rt, alloc, PLATFORM, &row)?, None);
     }

@@ -1,10 +1,10 @@
 //! Sweeps: each event of a fabric once, in a fixed order.
 
-ghost use Rattle.std.specs.Prelude.{◌≡◌, ◌++◌, IfOk, OnOk, map};
+ghost use Rattle.std.specs.Prelude.{◌≡◌, ◌++◌, IfOk, OnOk, false, map};
 ghost use Rattle.std.specs.List.{flat_map};
 ghost use Rattle.fab_types.specs.declared.place.Origin.TheVariants as origin;
 ghost use Rattle.pciefab.specs.Rising.{IsRising};
-ghost use Rattle.pciefab.specs.Sweeps.{IsSweep, Sweeps, SweepsUpTo, arrivals, direction_events, enters, is_moved, link_events, passes, roots};
+ghost use Rattle.pciefab.specs.Sweeps.{IsSweep, Sweeps, SweepsUpTo, arrivals, direction_events, enters, is_moved, lacks_memory, link_events, passes, roots};
 
 use domain::Domain;
 use fab_types::{Bdf, Class, Direction, NoMemory, Origin, Outcome, PortId, Way};
@@ -174,9 +174,9 @@ fn add_arrivals(events: &mut Vec<Event>, functions: &[Bdf]) -> Result<(), AllocE
     Ok(())
 }
 
-/// Did the event move something?
+/// Did the event move something? `NoMemory` where it was refused memory.
 fn has_moved(outcome: Outcome) -> Result<bool, NoMemory>
-    ensures { IfOk result (λ moved. moved ≡ is_moved outcome) }
+    ensures { IfOk result (λ moved. (moved ≡ is_moved outcome) × (lacks_memory outcome ≡ false)) }
 {
     match outcome {
         Outcome::Moved => Ok(true),

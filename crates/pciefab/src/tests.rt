@@ -13,8 +13,6 @@ use std::test::Fail;
 struct NoFiles;
 
 impl FileGiver for NoFiles {
-    ghost use Rattle.std.specs.Prelude.{⊥};
-
     ghost holds = { λ files name bytes. ⊥ };
 
     fn bytes_of(&self, _name: &str) -> Result<Vec<u8>, FileFault> {
