@@ -156,7 +156,7 @@ pub made_from : (ds : List DomainView) (entry : Entry) (place : Option ℕ) (m :
 made_from ds entry None m e = absurd cc
 made_from ds entry (Some number) m e = made_if ds entry number (slice_get ds number) m refl e
 
-is_home : (ds : List DomainView) (domain number : ℕ) (d : DomainView) → slice_get ds number ≡ Some d → place_of ds domain ≡ Some number → domain ≡ d.share.domain
+pub is_home : (ds : List DomainView) (domain number : ℕ) (d : DomainView) → slice_get ds number ≡ Some d → place_of ds domain ≡ Some number → domain ≡ d.share.domain
 unfolding place_of
 is_home ds domain number d at found =
     let there = position-Some (λ (x : DomainView). x.share.domain == domain) ds number d found in

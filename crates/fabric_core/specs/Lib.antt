@@ -6,4 +6,5 @@ pub mod Events
 pub mod Runs
 pub mod Places
 pub mod Invariant
+pub mod Soundness
 pub mod Kept

@@ -13,7 +13,10 @@ mod wires;
 
 pub use event::Event;
 pub use fabric::Fabric;
-pub use laws::{every_event_keeps_the_invariant, only_non_posted_are_answered};
+pub use laws::{
+    every_event_keeps_the_invariant, fabrics_start_sound, guarded_fabrics_stay_sound,
+    only_non_posted_are_answered,
+};
 
 #[cfg(test)]
 mod tests;

@@ -1,0 +1,5 @@
+use Rattle.fabric_core.proofs.GuardedStart as law
+use Rattle.fabric_core.proofs.laws.fabrics_start_sound.Goals as goal
+
+pub returns : goal.returns
+returns c = law.guarded_start
