@@ -10,31 +10,10 @@ here=$(cd "$(dirname "$0")/.." && pwd)
 
 # texts FOLDER
 texts() {
-    python3 - "$1" <<'GENERATOR'
+    PYTHONPATH="$here/bench" PYTHONDONTWRITEBYTECODE=1 python3 - "$1" <<'GENERATOR'
 import sys
 
-# A switch is the list of what its eight ports lead to: a switch, or None for a function. Here are 8 switches
-# on three levels, 64 ports and 57 functions.
-LOW = [None] * 8
-MIDDLE = [LOW] + [None] * 7
-ROOT = [MIDDLE, MIDDLE, MIDDLE, LOW] + [None] * 4
-
-
-# The lines of a switch and of all that is below it; buses and windows of 1 MB are dealt out in order. It
-# answers the first bus and the first address that are free.
-def switch_lines(switch, above, bus, base, owners, lines, functions):
-    lines.append(f'switch {bus:02x}:00.0 {above}')
-    inner, bus = bus + 1, bus + 2
-    for device, (below, owner) in enumerate(zip(switch, owners)):
-        port, place, first, low = f'{inner:02x}:{device:02x}.0', len(lines), bus, base
-        if below is None:
-            functions.append((f'{bus:02x}:00.0', owner))
-            lines.append(f'function {bus:02x}:00.0 {base:08x}')
-            bus, base = bus + 1, base + 0x100000
-        else:
-            bus, base = switch_lines(below, port, bus, base, [owner] * 8, lines, functions)
-        lines.insert(place, f'port {port} {first:02x} {bus - 1:02x} {low:08x} {base - 1:08x} 1f {owner}')
-    return bus, base
+from switches import ROOT, switch_lines, text
 
 
 # A platform with so many map lines of each function. The owners are those of the root switch's ports, and
@@ -42,9 +21,9 @@ def switch_lines(switch, above, bus, base, owners, lines, functions):
 def platform(name, owners, count, frame):
     lines, functions, maps = ['pciefab 1', 'frames 1024'], [], dict.fromkeys(owners, 0)
     switch_lines(ROOT, 'root', 1, 0x90000000, owners, lines, functions)
-    for function, owner in functions:
+    for function, owner, _ in functions:
         for page in range(1, count + 1):
-            lines.append(f'map {function} {page:x} frame {frame(owner, maps[owner])} rw')
+            lines.append(f'map {text(function)} {page:x} frame {frame(owner, maps[owner])} rw')
             maps[owner] += 1
     lines += [f'budget {owner} 16384' for owner in sorted(set(owners))]
     ends = [line.split()[1] for line in lines if line.startswith(('switch', 'function'))]

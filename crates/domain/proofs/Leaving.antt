@@ -1,13 +1,18 @@
 -- What an end leaves in flight: all but the packet that ends, and the answer to it, if any.
 use Rattle.std.proofs.Common.{◌≡◌, ◌≢◌, ℕ, Bool, true, false, cond, List, [], ◌∷◌, ◌++◌, Option, Some, None, refl, sym, ap, ◌∙◌, subst, slice_set}
 use Rattle.std.specs.Prelude.{option_map}
+use Rattle.fab_types.specs.declared.head.Parties.{Parties}
 use Rattle.fab_types.specs.declared.head.Parties.TheVariants.{Upward}
+use Rattle.fab_types.specs.declared.place.Place.{Place}
 use Rattle.layout.specs.Share.{Share}
 use Rattle.domain.specs.declared.deliver.Arrival.{Arrival}
 use Rattle.domain.specs.declared.ending.Deed.{Deed}
 use Rattle.domain.specs.declared.ending.Deed.TheVariants.{Leave, Block, Store, Access}
 use Rattle.domain.specs.declared.ending.Ending.{Ending}
-use Rattle.domain.specs.declared.entry.Entry.TheVariants.{Refuse, Carry, Deliver}
+use Rattle.domain.specs.declared.entry.Entry.TheVariants.{Refuse, Carry, Deliver, Alien}
+use Rattle.domain.specs.declared.reception.Reception.{Reception}
+use Rattle.domain.specs.declared.reception.Reception.TheVariants.{Ends, Arrives}
+use Rattle.domain.specs.Aliens.{received, received_if, reception_of}
 use Rattle.domain.specs.Carries.{carriage_end, refusal_end}
 use Rattle.domain.specs.Deliveries.{arrival, arrived, recorded, unexpected}
 use Rattle.domain.specs.Ends.{done, replied}
@@ -31,7 +36,7 @@ done_flight s b Block = refl
 done_flight s b (Store k first) = refl
 done_flight s b (Access g) = refl
 
-replied_flight : (s : Alone) (o : Option Emission) → (replied s o).flight ≡ joined s.flight o
+pub replied_flight : (s : Alone) (o : Option Emission) → (replied s o).flight ≡ joined s.flight o
 replied_flight s None = refl
 replied_flight s (Some e) = refl
 
@@ -67,3 +72,16 @@ upward_stays share s n c f b h = λ is.
     let none : arrival s.open_tags (item_at s.flight n) ≡ None = ap (arrival s.open_tags) is in
     let made : option_map (λ (a : Arrival). emits_nothing (arrived (without s n) a)) None ≡ Some c = ap (option_map (λ (a : Arrival). emits_nothing (arrived (without s n) a))) (sym none) ∙ h in
     absurd cc
+
+-- ---- an alien packet, whose number stays in flight at its home
+
+received_flight : (s : Alone) (b : List ℕ) (r : Reception) → (received s b r).state.flight ≡ joined s.flight (received s b r).emission
+received_flight s b (Ends a) = replied_flight (done s b a.deed) a.reply ∙ ap (λ (fl : List (Option Emission)). joined fl a.reply) (done_flight s b a.deed)
+received_flight s b (Arrives a) = arrived_flight s a.delivery a.is_awaited
+
+taken_flight : (s : Alone) (b : List ℕ) (r : Option Reception) (c : Change) → received_if s b r ≡ Some c → c.state.flight ≡ joined s.flight c.emission
+taken_flight s b None c h = absurd cc
+taken_flight s b (Some r) c h = subst (λ (x : Change). x.state.flight ≡ joined s.flight x.emission) (some_is _ c h) (received_flight s b r)
+
+pub alien_flight : (share : Share) (s : Alone) (place : Place) (sender : Parties) (b : List ℕ) (c : Change) → change share s (Alien place sender b) ≡ Some c → c.state.flight ≡ joined s.flight c.emission
+alien_flight share s place sender b c h = taken_flight s b (reception_of share s place sender b) c h

@@ -14,4 +14,10 @@ pub mod EndLemmas
 pub mod AlienLemmas
 pub mod Replaying
 pub mod Leaving
+pub mod PortAnswers
+pub mod Joining
+pub mod Consuming
+pub mod InTurn
+pub mod OneOutbox
+pub mod Sending
 pub mod Smallest

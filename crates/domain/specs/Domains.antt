@@ -1,5 +1,5 @@
 -- What a clause sees of a domain, and what a call makes of it.
-use Rattle.std.specs.Prelude.{◌≡◌, ℕ, List, [], ◌∷◌, ◌++◌, length, Option, Some, None, IsSome, option_map}
+use Rattle.std.specs.Prelude.{◌≡◌, ℕ, Bool, false, is_some, List, [], ◌∷◌, ◌++◌, length, Option, Some, None, IsSome, option_map}
 use Rattle.frame_log.specs.Descriptor.{Descriptor}
 use Rattle.frame_log.specs.declared.fault.FrameFault.{FrameFault}
 use Rattle.frame_log.specs.declared.fault.FrameFault.TheVariants.{Stray, NoMemory}
@@ -36,6 +36,11 @@ pub record Emits (old : DomainView) (entry : Entry) : Type 0 where
   pub made : Change
   pub legal : change old.share old.state entry ≡ Some made
   pub emits : IsSome made.emission
+
+-- the same as a test of what the machine makes of the entry
+abbrev pub is_emitting : Option Change → Bool
+is_emitting None = false
+is_emitting (Some c) = is_some c.emission
 
 -- Why a frame was not taken: it is of another domain, or the entry is illegal; or memory was refused to an
 -- entry that emits. The frame is given back.

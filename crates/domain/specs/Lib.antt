@@ -18,6 +18,9 @@ pub mod Takers
 pub mod Aliens
 pub mod Receptions
 pub mod Machine
+pub mod Consumed
+pub mod Sent
+pub mod Orders
 pub mod Domains
 pub mod Kept
 pub mod Replays

@@ -1,6 +1,6 @@
 -- Who takes a packet at a place, as far as this domain's journal may have to say so. A link is named by the ID at
 -- its lower end, and the ingress of a direction is the queue of the one that takes what came that way.
-use Rattle.std.specs.Prelude.{ℕ, ◌==◌, Bool, ◌&&◌, is_none, is_some, List, Option, Some, None, option_map, if◌then◌else◌}
+use Rattle.std.specs.Prelude.{ℕ, ◌==◌, Bool, true, false, ◌&&◌, is_none, is_some, List, Option, Some, None, option_map, if◌then◌else◌}
 use Rattle.std.specs.List.{list_any}
 use Rattle.fab_types.specs.declared.place.Place.{Place}
 use Rattle.fab_types.specs.declared.place.Place.TheVariants.{Outbox, Egress, Wire, Ingress}
@@ -38,6 +38,18 @@ taker_of share (Outbox origin) = None
 taker_of share (Egress direction) = None
 taker_of share (Wire direction) = None
 taker_of share (Ingress direction) = taker_on share direction.lower direction.way
+
+-- is it a port, and neither the host nor a function?
+abbrev pub is_port : Option Taker → Bool
+is_port None = false
+is_port (Some Host) = false
+is_port (Some (Function function)) = false
+is_port (Some (Port port)) = true
+is_port (Some Upstream) = true
+
+-- does a port take what waits there?
+abbrev pub is_at_port : Share → Place → Bool
+is_at_port share place = is_port (taker_of share place)
 
 -- may an entry of this domain say that an alien packet was taken there?
 abbrev pub takes : Share → Place → Bool

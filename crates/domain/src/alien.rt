@@ -1,15 +1,18 @@
 //! A packet that is taken where its home's machine has no case.
 
-ghost use Rattle.std.specs.Prelude.{◌≡◌, ◌+◌, ◌≤◌, false, true, vec_capacity, vec_len, IfErr, IfOk, None, OnErr, length};
+ghost use Rattle.std.specs.Prelude.{◌≡◌, ◌+◌, ◌≤◌, false, true, vec_capacity, vec_len, IfErr, IfOk, None, OnErr, is_some, length};
+ghost use Rattle.fab_types.specs.declared.head.Parties.{Parties};
 ghost use Rattle.frame_log.specs.declared.fault.FrameFault.{FrameFault};
 ghost use Rattle.layout.specs.Share.{is_guarded};
 ghost use Rattle.domain.specs.declared.consume.EndFault.TheVariants as end;
+ghost use Rattle.domain.specs.Domains.{is_emitting};
 ghost use Rattle.domain.specs.Machine.{change};
 ghost use Rattle.domain.specs.Takers.{takes};
 
 use crate::consume::EndFault;
 use crate::domain::Domain;
 use crate::entry::Entry;
+use crate::reception::Reception;
 use fab_types::{NoMemory, Parties, Place};
 use frame_log::{Frame, FrameFault, PacketBytes};
 use std::sync::Wait;
@@ -99,6 +102,27 @@ impl Domain {
             Ok(sent) => Ok(sent),
             Err(EndFault::Illegal) => unreachable!(),
             Err(EndFault::NoMemory) => Err(FrameFault::NoMemory(frame)),
+        }
+    }
+
+    /// May this domain have the entry that a packet of these bytes was taken at this place, whoever sent
+    /// it? Where it may, `alien` can be called.
+    pub fn has_alien(&self, place: Place, bytes: &[u8]) -> bool
+        ensures legal { (sender : Parties) → result ≡ is_some (change self.now.share self.now.state (Alien place sender bytes.now)) }
+        ensures unguarded { result ≡ true → is_guarded self.now.share ≡ false }
+        ensures taken { result ≡ true → takes self.now.share place ≡ true }
+        ensures short { result ≡ true → length bytes.now ≤ 272 }
+    {
+        !self.start.is_guarded() && bytes.len() <= 272 && self.takes(place)
+    }
+
+    /// Would the entry of this packet emit another? It takes no memory.
+    pub fn answers_alien(&self, place: Place, sender: Parties, bytes: &[u8]) -> bool
+        ensures { result ≡ is_emitting (change self.now.share self.now.state (Alien place sender bytes.now)) }
+    {
+        match self.reception(place, sender, bytes) {
+            Some(Reception::Ends(ending)) => ending.reply.is_some(),
+            Some(Reception::Arrives(_)) | None => false,
         }
     }
 }

@@ -38,6 +38,8 @@ pub use entry::Entry;
 pub use fate::Fate;
 pub use function::{OpenTag, TagUse};
 pub use laws::{
-    begins_bound_what_is_emitted, equal_journals_leave_equal_states,
-    guarded_journals_have_no_alien_entry,
+    begins_bound_what_is_emitted, emissions_are_consumed_once, equal_journals_leave_equal_states,
+    guarded_journals_have_no_alien_entry, order_is_kept_entry_by_entry,
+    packets_in_order_left_one_outbox, ports_answer_by_completions,
+    sent_packets_are_those_in_flight,
 };

@@ -2,7 +2,7 @@
 
 ghost use Rattle.std.specs.Prelude.{◌≡◌};
 ghost use Rattle.layout.specs.Tree.{is_switch};
-ghost use Rattle.domain.specs.Takers.{is_top, taker_above, taker_below, taker_of, takes};
+ghost use Rattle.domain.specs.Takers.{is_at_port, is_top, taker_above, taker_below, taker_of, takes};
 
 use crate::domain::Domain;
 use fab_types::{Bdf, Place, Way};
@@ -80,5 +80,18 @@ impl Domain {
         ensures { result ≡ takes self.now.share place }
     {
         taker_of(&self.start, place).is_some()
+    }
+
+    /// Does a port take what waits at this place, and neither the host nor a function of the domain?
+    pub fn is_at_port(&self, place: Place) -> bool
+        ensures { result ≡ is_at_port self.now.share place }
+    {
+        match taker_of(&self.start, place) {
+            Some(Taker::Port(_)) => true,
+            Some(Taker::Upstream) => true,
+            Some(Taker::Host) => false,
+            Some(Taker::Function(_)) => false,
+            None => false,
+        }
     }
 }

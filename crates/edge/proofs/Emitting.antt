@@ -1,8 +1,7 @@
 -- What an entry of one domain makes of the edge, by the place of that domain.
-use Rattle.std.proofs.Common.{◌≡◌, ℕ, ◌==◌, Bool, true, false, List, Option, Some, None, refl, sym, ap, ◌∙◌, subst, slice_get, eqb-true}
-use Rattle.std.specs.Prelude.{IfOk, IsSome, IsTrue, OnErr, Result, Ok, Err, is_some, option_map, if◌then◌else◌}
+use Rattle.std.proofs.Common.{◌≡◌, ℕ, Bool, true, List, Option, Some, None, refl, sym, ap, ◌∙◌, subst, slice_get, eqb-true}
+use Rattle.std.specs.Prelude.{IfOk, IsTrue, OnErr, Result, Ok, Err, if◌then◌else◌}
 use Rattle.fab_types.specs.declared.place.Origin.{Origin}
-use Rattle.fab_types.specs.declared.place.Origin.TheVariants.{Function}
 use Rattle.frame_log.specs.Descriptor.{Descriptor}
 use Rattle.port.specs.Lanes.{Class}
 use Rattle.domain.specs.declared.entry.Entry.{Entry}
@@ -10,10 +9,9 @@ use Rattle.domain.specs.declared.entry.Entry.TheVariants.{Carry}
 use Rattle.domain.specs.Domains.{DomainView}
 use Rattle.outboxes.specs.Outboxes.{BoxView, changed, has_place, with_put}
 use Rattle.tenants.specs.Tenants.{Made, domain_at, made, made_at, place_of, place_of_function}
-use Rattle.edge.proofs.Flights.{IsOwn}
-use Rattle.edge.proofs.Keeping.{emitted_keeps, room_for, silent_keeps}
+use Rattle.edge.proofs.Keeping.{IsOwn, emitted_keeps, own_ready, room_for, silent_keeps}
 use Rattle.edge.proofs.Viewing.{put_seen}
-use Rattle.edge.specs.Edges.{EdgeView, Outbox, carried_at, carried_by_function, emitted_if, home_of, is_function_of, is_of_domain}
+use Rattle.edge.specs.Edges.{EdgeView, Outbox, carried_at, emitted_if, home_of, is_function_of, is_of_domain}
 use Rattle.edge.specs.Kept.{Keeps, seen}
 
 -- all domains, and the packet that one of them emitted
@@ -32,12 +30,12 @@ sent_so o new sent other made same = subst (λ (x : Option Descriptor). o ≡ So
 pub has_room : (ds new : List DomainView) (boxes : List BoxView) (to : Origin) (entry : Entry) (place : Option ℕ) (frame : Descriptor) (class : Class) → IsOwn entry → Keeps ds boxes → home_of ds to ≡ place
     → Makes ds entry place new (Some frame) → IsTrue (has_place boxes to class)
 has_room ds new boxes to entry None frame class own k home made = absurd cc
-has_room ds new boxes to entry (Some i) frame class own k home made = room_for ds boxes to i entry (all new (Some frame)) frame class own k home made refl
+has_room ds new boxes to entry (Some i) frame class own k home made = room_for ds boxes to i entry (all new (Some frame)) frame class k (own_ready ds boxes i entry own k) home made refl
 
 pub keeps_put : (ds new : List DomainView) (boxes after : List BoxView) (to : Origin) (entry : Entry) (place : Option ℕ) (frame : Descriptor) → IsOwn entry → Keeps ds boxes → home_of ds to ≡ place
     → Makes ds entry place new (Some frame) → after ≡ changed (with_put frame) boxes to → Keeps new after
 keeps_put ds new boxes after to entry None frame own k home made put = absurd cc
-keeps_put ds new boxes after to entry (Some i) frame own k home made put = rw put (emitted_keeps ds boxes to i entry (all new (Some frame)) frame own k home made refl)
+keeps_put ds new boxes after to entry (Some i) frame own k home made put = rw put (emitted_keeps ds boxes to i entry (all new (Some frame)) frame k (own_ready ds boxes i entry own k) home made refl)
 
 pub put_made : (ds new : List DomainView) (boxes after : List BoxView) (to : Origin) (o : Option Made) (frame : Descriptor) → o ≡ Some (all new (Some frame)) → after ≡ changed (with_put frame) boxes to
     → emitted_if (seen ds boxes) to o ≡ Some (seen new after)
@@ -51,7 +49,7 @@ put_made ds new boxes after to o frame made put =
 
 pub keeps_silent : (ds new : List DomainView) (boxes : List BoxView) (entry : Entry) (place : Option ℕ) (sent : Option Descriptor) → IsOwn entry → Keeps ds boxes → Makes ds entry place new sent → Keeps new boxes
 keeps_silent ds new boxes entry None sent own k made = absurd cc
-keeps_silent ds new boxes entry (Some i) sent own k made = silent_keeps ds boxes i entry (all new sent) own k made
+keeps_silent ds new boxes entry (Some i) sent own k made = silent_keeps ds boxes i entry (all new sent) k (own_ready ds boxes i entry own k) made
 
 pub none_made : (ds new : List DomainView) (boxes : List BoxView) (to : Origin) (o : Option Made) → o ≡ Some (all new None) → emitted_if (seen ds boxes) to o ≡ Some (seen new boxes)
 none_made ds new boxes to o made = ap (emitted_if (seen ds boxes) to) made

@@ -1,14 +1,16 @@
 -- What a domain has emitted after an entry: what it had, and the packet of the entry, if any.
-use Rattle.std.proofs.Common.{◌≡◌, ℕ, ◌+◌, ◌*◌, ◌≤◌, List, [], ◌∷◌, ◌++◌, length, Option, Some, None, refl, sym, ap, ◌∙◌, subst, arith, slice_set, length-append, length-set}
+use Rattle.std.proofs.Common.{◌≡◌, ℕ, ◌+◌, ◌*◌, ◌≤◌, List, [], ◌∷◌, length, Option, Some, None, sym, ap, ◌∙◌, subst, arith, slice_set, length-append, length-set}
 use Rattle.std.specs.Prelude.{option_map}
 use Rattle.std.proofs.lemmas.Option.{same_Some}
 use Rattle.fab_types.specs.declared.faults.begin.SubmitFault.{SubmitFault}
 use Rattle.fab_types.specs.declared.faults.begin.TickFault.{TickFault}
 use Rattle.fab_types.specs.declared.faults.begin.MmioFault.{MmioFault}
+use Rattle.fab_types.specs.declared.head.Parties.{Parties}
+use Rattle.fab_types.specs.declared.place.Place.{Place}
 use Rattle.function.specs.Plans.{plan_of}
 use Rattle.layout.specs.Share.{Share}
 use Rattle.domain.proofs.Accounting.{accounted}
-use Rattle.domain.proofs.Leaving.{carry_flight, deliver_flight, joined, refuse_flight}
+use Rattle.domain.proofs.Leaving.{alien_flight, carry_flight, deliver_flight, joined, refuse_flight}
 use Rattle.domain.specs.declared.access.HostAccess.{HostAccess}
 use Rattle.domain.specs.declared.entry.Entry.{Entry}
 use Rattle.domain.specs.declared.entry.Entry.TheVariants.{Submit, Tick, Mmio, Refuse, Carry, Deliver, Alien}
@@ -16,7 +18,7 @@ use Rattle.domain.specs.Answers.{bar_of}
 use Rattle.domain.specs.Deliveries.{arrival, arrived}
 use Rattle.domain.specs.Ends.{replied}
 use Rattle.domain.specs.HostAccesses.{mmio_fault, mmio_unless, mmio_with, tag_for}
-use Rattle.domain.specs.Machine.{aliens_in, change, replay, with_alien}
+use Rattle.domain.specs.Machine.{aliens_in, change, replay}
 use Rattle.domain.specs.State.{Alone, Change, Emission, emits_nothing, item_at, without}
 use Rattle.domain.specs.Submits.{submit_fault, submit_unless}
 use Rattle.domain.specs.Ticks.{sent_by, tick_fault, tick_unless, ticked, ticks}
@@ -27,10 +29,6 @@ count (Some e) = 1
 
 abbrev pub Grows : Alone → Change → Type 0
 Grows s c = length c.state.flight ≡ length s.flight + count c.emission
-
--- an entry that is of no alien packet
-abbrev pub IsOwn : Entry → Type 0
-IsOwn entry = (n : ℕ) → with_alien entry n ≡ n
 
 joined_length : (flight : List (Option Emission)) (o : Option Emission) → length (joined flight o) ≡ length flight + count o
 joined_length flight None = omega arith
@@ -76,14 +74,18 @@ deliver_grows share s n c h =
     let none : c.emission ≡ None = none_emitted (arrived (without s n)) (arrival s.open_tags (item_at s.flight n)) c h in
     left_length s n c (deliver_flight share s n c h ∙ ap (joined (slice_set s.flight n None)) (sym none))
 
-pub grows : (share : Share) (s : Alone) (entry : Entry) (c : Change) → IsOwn entry → change share s entry ≡ Some c → Grows s c
-grows share s (Submit f b) c own h = submit_grows s f b (submit_fault share s f b) c h
-grows share s (Tick f) c own h = tick_grows s f (tick_fault share s f) c h
-grows share s (Mmio x) c own h = mmio_grows share s x (mmio_fault share s x) c h
-grows share s (Refuse n) c own h = left_length s n c (refuse_flight share s n c h)
-grows share s (Carry n) c own h = left_length s n c (carry_flight share s n c h)
-grows share s (Deliver n) c own h = deliver_grows share s n c h
-grows share s (Alien place sender b) c own h = absurd (omega (arith, own 0))
+-- nothing leaves flight with an alien packet
+alien_grows : (share : Share) (s : Alone) (place : Place) (sender : Parties) (b : List ℕ) (c : Change) → change share s (Alien place sender b) ≡ Some c → Grows s c
+alien_grows share s place sender b c h = ap length (alien_flight share s place sender b c h) ∙ joined_length s.flight c.emission
+
+pub grows : (share : Share) (s : Alone) (entry : Entry) (c : Change) → change share s entry ≡ Some c → Grows s c
+grows share s (Submit f b) c h = submit_grows s f b (submit_fault share s f b) c h
+grows share s (Tick f) c h = tick_grows s f (tick_fault share s f) c h
+grows share s (Mmio x) c h = mmio_grows share s x (mmio_fault share s x) c h
+grows share s (Refuse n) c h = left_length s n c (refuse_flight share s n c h)
+grows share s (Carry n) c h = left_length s n c (carry_flight share s n c h)
+grows share s (Deliver n) c h = deliver_grows share s n c h
+grows share s (Alien place sender b) c h = alien_grows share s place sender b c h
 
 -- what a journal leads to
 pub within_budget : (share : Share) (journal : List Entry) (s : Alone) → replay share journal ≡ Some s → length s.flight ≤ 3 * share.budget + 2 * aliens_in journal

@@ -1,5 +1,5 @@
 -- What every edge keeps, after an entry of one of its domains and after its packet was put.
-use Rattle.std.proofs.Common.{◌≡◌, ◌≢◌, ℕ, ◌+◌, ◌*◌, ◌<◌, ◌≤◌, ◌==◌, Bool, true, false, List, [], ◌∷◌, ◌++◌, length, Option, Some, None, refl, sym, ap, ◌∙◌, subst, arith, slice_get, slice_set, eqb-true, eq-eqb}
+use Rattle.std.proofs.Common.{◌≡◌, ◌≢◌, ℕ, ◌+◌, ◌*◌, ◌≤◌, ◌==◌, Bool, true, false, List, [], ◌∷◌, ◌++◌, length, Option, Some, None, refl, sym, ap, ◌∙◌, subst, arith, slice_get, slice_set, eqb-true}
 use Rattle.std.specs.Prelude.{IsTrue, option_map}
 use Rattle.std.proofs.lemmas.Bool.{lt-ltb}
 use Rattle.std.proofs.lemmas.Option.{same_Some}
@@ -17,12 +17,12 @@ use Rattle.domain.proofs.Accounting.{aliens_more}
 use Rattle.domain.proofs.Keeping.{replays_more}
 use Rattle.domain.specs.declared.entry.Entry.{Entry}
 use Rattle.domain.specs.Domains.{DomainView}
-use Rattle.domain.specs.Machine.{aliens_in, change, replay}
+use Rattle.domain.specs.Machine.{aliens_in, change, replay, with_alien}
 use Rattle.domain.specs.State.{Change, Emission}
 use Rattle.outboxes.proofs.Changing.{changed_there, others_stay}
 use Rattle.outboxes.specs.Outboxes.{BoxView, changed, has_place, has_place_in, with_put}
-use Rattle.tenants.specs.Tenants.{Made, after, made_at, made_by, made_of, place_of, place_of_function, sent_by}
-use Rattle.edge.proofs.Flights.{Grows, IsOwn, count, grows, within_budget}
+use Rattle.tenants.specs.Tenants.{Made, after, made_at, made_by, made_of, place_of, place_of_function}
+use Rattle.edge.proofs.Flights.{count, grows, within_budget}
 use Rattle.edge.proofs.Lists.{each_place, position_kept}
 use Rattle.edge.specs.Edges.{home_of}
 use Rattle.edge.specs.Kept.{HasBox, IsRoomy, Keeps}
@@ -53,18 +53,33 @@ unfolding place_of place_of_function
 home_kept ds i d new there same (Function f) = position_kept (λ (x : DomainView). is_own_function x.share f) ds i d new there (ap (λ (s : Share). is_own_function s f) same)
 home_kept ds i d new there same (Host n) = position_kept (λ (x : DomainView). x.share.domain == n) ds i d new there (ap (λ (s : Share). s.domain == n) same)
 
--- the entries of alien packets are as many as before
-same_aliens : (d : DomainView) (entry : Entry) (c : Change) → IsOwn entry → aliens_in (after d entry c).journal ≡ aliens_in d.journal
-same_aliens d entry c own = aliens_more d.journal (after d entry c).journal entry refl ∙ own (aliens_in d.journal)
+-- ---- places for what an entry leads to
+
+-- the domain as it is before an entry, which is the last of its journal already
+abbrev pub noted : DomainView → Entry → DomainView
+noted d entry = record { share = d.share; state = d.state; journal = d.journal ++ entry ∷ [] }
+
+-- the boxes of the domain at a place have places for what this entry leads to
+abbrev pub IsReady : List DomainView → List BoxView → ℕ → Entry → Type 0
+IsReady ds boxes i entry = (origin : Origin) (d : DomainView) → home_of ds origin ≡ Some i → slice_get ds i ≡ Some d → HasBox boxes (noted d entry) origin
+
+-- an entry that is of no alien packet
+abbrev pub IsOwn : Entry → Type 0
+IsOwn entry = (n : ℕ) → with_alien entry n ≡ n
+
+pub own_ready : (ds : List DomainView) (boxes : List BoxView) (i : ℕ) (entry : Entry) → IsOwn entry → Keeps ds boxes → IsReady ds boxes i entry
+own_ready ds boxes i entry own k origin d home there =
+    let h = k.roomy origin i d home there in
+    let same : aliens_in (noted d entry).journal ≡ aliens_in d.journal = aliens_more d.journal (noted d entry).journal entry refl ∙ own (aliens_in d.journal) in
+    record { box = h.box; is_there = h.is_there; roomy = record { puts = h.roomy.puts; places = omega (arith, h.roomy.places, same) } }
 
 replays_after : (d : DomainView) (entry : Entry) (c : Change) → replay d.share d.journal ≡ Some d.state → change d.share d.state entry ≡ Some c → replay d.share (after d entry c).journal ≡ Some c.state
 replays_after d entry c was legal = replays_more d.share d.state c.state d.journal (after d entry c).journal entry c.emission was refl legal
 
-roomy_after : (d : DomainView) (entry : Entry) (c : Change) (box : BoxView) → IsOwn entry → change d.share d.state entry ≡ Some c → IsRoomy d box → IsRoomy (after d entry c) box
-roomy_after d entry c box own legal r =
-    let more : length c.state.flight ≡ length d.state.flight + count c.emission = grows d.share d.state entry c own legal in
-    let same : aliens_in (after d entry c).journal ≡ aliens_in d.journal = same_aliens d entry c own in
-    record { puts = λ class. omega (arith, r.puts class, more); places = omega (arith, r.places, same) }
+roomy_after : (d : DomainView) (entry : Entry) (c : Change) (box : BoxView) → change d.share d.state entry ≡ Some c → IsRoomy (noted d entry) box → IsRoomy (after d entry c) box
+roomy_after d entry c box legal r =
+    let more : length c.state.flight ≡ length d.state.flight + count c.emission = grows d.share d.state entry c legal in
+    record { puts = λ class. omega (arith, r.puts class, more); places = r.places }
 
 -- ---- no packet is put
 
@@ -84,17 +99,17 @@ kept_with ds boxes others i d entry c k there legal here elsewhere =
           (sym (home_kept ds i d new there refl origin) ∙ home);
     }
 
-pub silent_keeps : (ds : List DomainView) (boxes : List BoxView) (i : ℕ) (entry : Entry) (m : Made) → IsOwn entry → Keeps ds boxes → made_at ds entry (Some i) ≡ Some m → Keeps m.domains boxes
-silent_keeps ds boxes i entry m own k made =
+pub silent_keeps : (ds : List DomainView) (boxes : List BoxView) (i : ℕ) (entry : Entry) (m : Made) → Keeps ds boxes → IsReady ds boxes i entry → made_at ds entry (Some i) ≡ Some m → Keeps m.domains boxes
+silent_keeps ds boxes i entry m k ready made =
     let s = stepped ds i entry m made in
     subst (λ (x : Made). Keeps x.domains boxes) s.is
     (kept_with ds boxes boxes i s.old entry s.made k s.there s.legal
-    (λ origin home. let h = k.roomy origin i s.old home s.there in record { box = h.box; is_there = h.is_there; roomy = roomy_after s.old entry s.made h.box own s.legal h.roomy })
+    (λ origin home. let h = ready origin s.old home s.there in record { box = h.box; is_there = h.is_there; roomy = roomy_after s.old entry s.made h.box s.legal h.roomy })
     (λ origin place x apart home at. k.roomy origin place x home at))
 
 -- ---- a packet is put
 
-one_origin : (a b : Origin) → same_origin a b ≡ true → a ≡ b
+pub one_origin : (a b : Origin) → same_origin a b ≡ true → a ≡ b
 one_origin (Function f) (Function g) h = ap Function (eqb-true f g h)
 one_origin (Function f) (Host d) h = absurd cc
 one_origin (Host d) (Function g) h = absurd cc
@@ -117,17 +132,16 @@ sent_counts f None frame is = absurd cc
 sent_counts f (Some e) frame is = refl
 
 -- the box of the packet's origin
-own_box : (boxes : List BoxView) (to : Origin) (frame : Descriptor) (d : DomainView) (entry : Entry) (c : Change) → IsOwn entry → change d.share d.state entry ≡ Some c → count c.emission ≡ 1 → HasBox boxes d to
+own_box : (boxes : List BoxView) (to : Origin) (frame : Descriptor) (d : DomainView) (entry : Entry) (c : Change) → change d.share d.state entry ≡ Some c → count c.emission ≡ 1 → HasBox boxes (noted d entry) to
     → HasBox (changed (with_put frame) boxes to) (after d entry c) to
-own_box boxes to frame d entry c own legal one h =
-    let more : length c.state.flight ≡ length d.state.flight + count c.emission = grows d.share d.state entry c own legal in
-    let same : aliens_in (after d entry c).journal ≡ aliens_in d.journal = same_aliens d entry c own in
+own_box boxes to frame d entry c legal one h =
+    let more : length c.state.flight ≡ length d.state.flight + count c.emission = grows d.share d.state entry c legal in
     record {
       box = with_put frame h.box;
       is_there = changed_there (with_put frame) boxes to (λ b. refl) ∙ ap (option_map (with_put frame)) h.is_there;
       roomy = record {
         puts = λ class. omega (arith, puts_more h.box.puts frame.head.cost.class class, h.roomy.puts class, more, one);
-        places = omega (arith, h.roomy.places, same);
+        places = h.roomy.places;
       };
     }
 
@@ -136,15 +150,15 @@ other_box : (change : BoxView → BoxView) (boxes : List BoxView) (to origin : O
     → HasBox (changed change boxes to) d origin
 other_box change boxes to origin d keeps apart h = record { box = h.box; is_there = others_stay change boxes to keeps origin apart ∙ h.is_there; roomy = h.roomy }
 
-put_here : (b : Bool) (ds : List DomainView) (boxes : List BoxView) (to origin : Origin) (frame : Descriptor) (i : ℕ) (d : DomainView) (entry : Entry) (c : Change) → same_origin origin to ≡ b → IsOwn entry → Keeps ds boxes
+put_here : (b : Bool) (ds : List DomainView) (boxes : List BoxView) (to origin : Origin) (frame : Descriptor) (i : ℕ) (d : DomainView) (entry : Entry) (c : Change) → same_origin origin to ≡ b → IsReady ds boxes i entry
     → slice_get ds i ≡ Some d → change d.share d.state entry ≡ Some c → count c.emission ≡ 1 → home_of ds origin ≡ Some i → HasBox (changed (with_put frame) boxes to) (after d entry c) origin
-put_here true ds boxes to origin frame i d entry c same own k there legal one home =
+put_here true ds boxes to origin frame i d entry c same ready there legal one home =
     let is : origin ≡ to = one_origin origin to same in
     subst (λ (o : Origin). HasBox (changed (with_put frame) boxes to) (after d entry c) o) (sym is)
-    (own_box boxes to frame d entry c own legal one (subst (HasBox boxes d) is (k.roomy origin i d home there)))
-put_here false ds boxes to origin frame i d entry c same own k there legal one home =
-    let h = k.roomy origin i d home there in
-    other_box (with_put frame) boxes to origin (after d entry c) (λ b. refl) same (record { box = h.box; is_there = h.is_there; roomy = roomy_after d entry c h.box own legal h.roomy })
+    (own_box boxes to frame d entry c legal one (subst (HasBox boxes (noted d entry)) is (ready origin d home there)))
+put_here false ds boxes to origin frame i d entry c same ready there legal one home =
+    let h = ready origin d home there in
+    other_box (with_put frame) boxes to origin (after d entry c) (λ b. refl) same (record { box = h.box; is_there = h.is_there; roomy = roomy_after d entry c h.box legal h.roomy })
 
 put_elsewhere : (b : Bool) (ds : List DomainView) (boxes : List BoxView) (to origin : Origin) (frame : Descriptor) (i place : ℕ) (x : DomainView) → same_origin origin to ≡ b → Keeps ds boxes → home_of ds to ≡ Some i → place ≢ i
     → home_of ds origin ≡ Some place → slice_get ds place ≡ Some x → HasBox (changed (with_put frame) boxes to) x origin
@@ -152,28 +166,27 @@ put_elsewhere true ds boxes to origin frame i place x same k to_home apart home 
     absurd (apart (same_Some place i (sym home ∙ ap (home_of ds) (one_origin origin to same) ∙ to_home)))
 put_elsewhere false ds boxes to origin frame i place x same k to_home apart home at = other_box (with_put frame) boxes to origin x (λ b. refl) same (k.roomy origin place x home at)
 
-pub emitted_keeps : (ds : List DomainView) (boxes : List BoxView) (to : Origin) (i : ℕ) (entry : Entry) (m : Made) (frame : Descriptor) → IsOwn entry → Keeps ds boxes → home_of ds to ≡ Some i → made_at ds entry (Some i) ≡ Some m
+pub emitted_keeps : (ds : List DomainView) (boxes : List BoxView) (to : Origin) (i : ℕ) (entry : Entry) (m : Made) (frame : Descriptor) → Keeps ds boxes → IsReady ds boxes i entry → home_of ds to ≡ Some i → made_at ds entry (Some i) ≡ Some m
     → m.sent ≡ Some frame → Keeps m.domains (changed (with_put frame) boxes to)
-emitted_keeps ds boxes to i entry m frame own k home made sent =
+emitted_keeps ds boxes to i entry m frame k ready home made sent =
     let s = stepped ds i entry m made in
     let one = sent_counts _ s.made.emission frame (ap (λ (x : Made). x.sent) s.is ∙ sent) in
     subst (λ (x : Made). Keeps x.domains (changed (with_put frame) boxes to)) s.is
     (kept_with ds boxes (changed (with_put frame) boxes to) i s.old entry s.made k s.there s.legal
-    (λ origin at_home. put_here (same_origin origin to) ds boxes to origin frame i s.old entry s.made refl own k s.there s.legal one at_home)
+    (λ origin at_home. put_here (same_origin origin to) ds boxes to origin frame i s.old entry s.made refl ready s.there s.legal one at_home)
     (λ origin place x apart at_home at. put_elsewhere (same_origin origin to) ds boxes to origin frame i place x refl k home apart at_home at))
 
 -- and there was a place for it
-pub room_for : (ds : List DomainView) (boxes : List BoxView) (to : Origin) (i : ℕ) (entry : Entry) (m : Made) (frame : Descriptor) (class : Class) → IsOwn entry → Keeps ds boxes → home_of ds to ≡ Some i
+pub room_for : (ds : List DomainView) (boxes : List BoxView) (to : Origin) (i : ℕ) (entry : Entry) (m : Made) (frame : Descriptor) (class : Class) → Keeps ds boxes → IsReady ds boxes i entry → home_of ds to ≡ Some i
     → made_at ds entry (Some i) ≡ Some m → m.sent ≡ Some frame → IsTrue (has_place boxes to class)
-room_for ds boxes to i entry m frame class own k home made sent =
+room_for ds boxes to i entry m frame class k ready home made sent =
     let s = stepped ds i entry m made in
     let d = s.old in
-    let h = k.roomy to i d home s.there in
+    let h = ready to d home s.there in
     let one : count s.made.emission ≡ 1 = sent_counts _ s.made.emission frame (ap (λ (x : Made). x.sent) s.is ∙ sent) in
-    let more : length s.made.state.flight ≡ length d.state.flight + count s.made.emission = grows d.share d.state entry s.made own s.legal in
+    let more : length s.made.state.flight ≡ length d.state.flight + count s.made.emission = grows d.share d.state entry s.made s.legal in
     let most = within_budget d.share (after d entry s.made).journal s.made.state (replays_after d entry s.made (k.replayed i d s.there) s.legal) in
-    let same : aliens_in (after d entry s.made).journal ≡ aliens_in d.journal = same_aliens d entry s.made own in
-    ap (λ (o : Option BoxView). has_place_in o class) h.is_there ∙ lt-ltb (lane_of h.box.puts class) h.box.places (omega (arith, h.roomy.puts class, h.roomy.places, one, more, most, same))
+    ap (λ (o : Option BoxView). has_place_in o class) h.is_there ∙ lt-ltb (lane_of h.box.puts class) h.box.places (omega (arith, h.roomy.puts class, h.roomy.places, one, more, most))
 
 -- ---- what waits of an origin changes
 

@@ -1,8 +1,10 @@
 pub mod Emitting
+pub mod Entering
 pub mod Flights
 pub mod Keeping
 pub mod Lists
 pub mod Owners
+pub mod Places
 pub mod Settling
 pub mod Starting
 pub mod Viewing

@@ -1,5 +1,5 @@
 -- Ports that lead to one bus have one owner: that of the port of the top switch that the bus is below.
-use Rattle.std.proofs.Common.{◌≡◌, ◌≢◌, ℕ, zero, suc, ◌+◌, ◌*◌, ◌/◌, ◌<◌, ◌≤◌, ◌==◌, Bool, true, false, cond, List, [], ◌∷◌, Option, Some, None, refl, sym, ap, ◌∙◌, subst, arith, slice_get, eqb-true, eq-eqb}
+use Rattle.std.proofs.Common.{◌≡◌, ℕ, zero, suc, ◌+◌, ◌*◌, ◌<◌, ◌≤◌, ◌==◌, Bool, true, false, cond, List, [], ◌∷◌, Option, Some, None, refl, sym, ap, ◌∙◌, subst, arith, slice_get, eqb-true, eq-eqb}
 use Rattle.std.specs.Prelude.{◌&&◌, not, nat_le, nat_lt, option_and_then}
 use Rattle.std.specs.List.{find, list_all, position_or_len}
 use mathlib.Core.Logic.{◌⊎◌, inl, inr, ⊎_elim}
@@ -13,7 +13,7 @@ use Rattle.layout.specs.Laws.{IsPlatform, are_apart, each_pair, is_hung, is_hung
 use Rattle.layout.specs.Platform.{Platform}
 use Rattle.layout.specs.Rules.{is_on_bus}
 use Rattle.layout.specs.Tree.{id_below, internal_bus, port_above, port_at, switch_on}
-use Rattle.layout.proofs.Bools.{all-found, and-both, and-first, and-second, not-true}
+use Rattle.layout.proofs.Bools.{all-found, and-both, and-first, and-second}
 
 -- ---- elements of a list
 

@@ -1,5 +1,5 @@
 -- An edge is settled, as its invariant says.
-use Rattle.std.proofs.Common.{◌≡◌, ℕ, zero, suc, ◌<◌, ◌==◌, Bool, true, false, Bor, List, [], ◌∷◌, length, Option, Some, None, arith, refl, sym, ap, ◌∙◌, get_or, slice_get}
+use Rattle.std.proofs.Common.{◌≡◌, ℕ, zero, suc, ◌<◌, ◌==◌, Bool, Bor, List, [], ◌∷◌, length, Option, Some, None, arith, refl, sym, ap, ◌∙◌, slice_get}
 use Rattle.std.specs.Prelude.{IsSome, is_some, map}
 use Rattle.std.specs.List.{position}
 use Rattle.std.specs.Option.{option_copied}
@@ -8,11 +8,11 @@ use Rattle.fab_types.specs.declared.place.Origin.{Origin}
 use Rattle.fab_types.specs.declared.place.Origin.TheVariants.{Function, Host}
 use Rattle.layout.specs.Owners.{is_own_function}
 use Rattle.domain.specs.Domains.{DomainView}
-use Rattle.outboxes.specs.Outboxes.{BoxView, box_at, box_of, box_place}
+use Rattle.outboxes.specs.Outboxes.{BoxView, box_at, box_place}
 use Rattle.tenants.specs.Tenants.{domain_at, place_of, place_of_function}
 use Rattle.edge.proofs.Viewing.{same_place}
 use Rattle.edge.specs.Edges.{IsSettled, home_of, outbox_place}
-use Rattle.edge.specs.Kept.{HasBox, Keeps, outbox_of, seen}
+use Rattle.edge.specs.Kept.{Keeps, outbox_of, seen}
 
 -- ---- what was found is there
 

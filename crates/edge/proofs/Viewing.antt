@@ -1,5 +1,5 @@
 -- What waits of an origin, as the outboxes have it and as a clause of the edge sees it.
-use Rattle.std.proofs.Common.{◌≡◌, ℕ, ◌+◌, Bool, true, List, [], ◌∷◌, ◌++◌, map, Option, Some, None, refl, sym, ap, ◌∙◌, slice_get, slice_set}
+use Rattle.std.proofs.Common.{◌≡◌, ℕ, List, [], ◌∷◌, ◌++◌, map, Option, Some, None, refl, sym, ap, ◌∙◌, slice_get, slice_set}
 use Rattle.std.specs.Prelude.{MatchOption, option_map}
 use Rattle.std.proofs.lemmas.List.{map-append}
 use Rattle.fab_types.specs.declared.place.Origin.{Origin}
@@ -7,7 +7,6 @@ use Rattle.frame_log.specs.Descriptor.{Descriptor}
 use Rattle.function.specs.Tags.{same_origin}
 use Rattle.port.specs.Lanes.{Class, class_of, eligible}
 use Rattle.port.specs.Queues.{frames_of}
-use Rattle.port_queue.specs.Queue.{Queue}
 use Rattle.domain.specs.Domains.{DomainView}
 use Rattle.outboxes.specs.Outboxes.{BoxView, box_at, box_of, box_place, changed, changed_at, changed_in, queue_in, queue_of, waiting_in as waiting_in_box, with_put, with_queue}
 use Rattle.outboxes.specs.Outboxes as outboxes

@@ -3,6 +3,7 @@ use Rattle.std.specs.Prelude.{◌≡◌, ℕ, ◌==◌, Bool, false, List, [], �
 use Rattle.std.specs.List.{position}
 use Rattle.fab_types.specs.declared.place.Origin.{Origin}
 use Rattle.fab_types.specs.declared.place.Origin.TheVariants.{Function, Host}
+use Rattle.fab_types.specs.declared.place.Place.{Place}
 use Rattle.frame_log.specs.Descriptor.{Descriptor}
 use Rattle.function.specs.Tags.{same_origin}
 use Rattle.layout.specs.Platform.{Platform}
@@ -11,7 +12,7 @@ use Rattle.domain.specs.declared.entry.Entry.TheVariants as entry
 use Rattle.domain.specs.Domains.{DomainView}
 use Rattle.domain.specs.Machine.{replay}
 use Rattle.outboxes.specs.Outboxes.{BoxView, boxes_of}
-use Rattle.outboxes.specs.Outboxes as outboxes
+use Rattle.tenants.specs.Aliens.{aliened, aliened_at}
 use Rattle.tenants.specs.Tenants.{Made, domain_at, made, made_at, place_of, place_of_function, tenants_of}
 
 -- what an origin has waiting, oldest first
@@ -103,6 +104,14 @@ carried_by_function edge function frame = emitted_if edge (Function function) (c
 -- whom a completion answers takes it
 abbrev pub delivered : EdgeView → Descriptor → Option EdgeView
 delivered edge frame = option_map (λ m. record { domains = m.domains; outboxes = edge.outboxes }) (made edge.domains frame.domain (entry.Deliver frame.number))
+
+-- the domain with this number gets the entry of a packet that the host took, and what answers it waits of that host
+abbrev pub aliened_at_host : EdgeView → ℕ → Place → Descriptor → Option EdgeView
+aliened_at_host edge domain place frame = emitted_if edge (Host domain) (aliened edge.domains domain place frame)
+
+-- the domain of a function gets the entry of a packet that the function took, and what answers it waits of that function
+abbrev pub aliened_at_function : EdgeView → ℕ → Place → Descriptor → Option EdgeView
+aliened_at_function edge function place frame = emitted_if edge (Function function) (aliened_at edge.domains (place_of_function edge.domains function) place frame)
 
 -- the edge without the packet that was taken from an origin, which leaves this waiting
 abbrev pub taken_from : EdgeView → Origin → List Descriptor → EdgeView

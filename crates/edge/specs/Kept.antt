@@ -1,6 +1,6 @@
 -- What a clause sees of an edge, and what each keeps: every origin has a place for each packet that it may yet emit.
 -- No more were put under a class than its domain emitted, and the budget bounds what a domain may emit.
-use Rattle.std.specs.Prelude.{◌≡◌, ℕ, ◌+◌, ◌*◌, ◌≤◌, List, length, map, slice_get, Option, Some}
+use Rattle.std.specs.Prelude.{◌≡◌, ℕ, ◌+◌, ◌*◌, ◌≤◌, List, length, map, slice_get, Some}
 use Rattle.fab_types.specs.declared.place.Origin.{Origin}
 use Rattle.domain.specs.Domains.{DomainView}
 use Rattle.domain.specs.Machine.{aliens_in, replay}

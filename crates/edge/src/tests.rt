@@ -1,7 +1,9 @@
 use crate::Edge;
 use domain::{HostAccess, Operation, Record};
 use fab_types::Class::{self, Completion, NonPosted, Posted};
-use fab_types::{Bdf, DomainId, MmioFault, Origin, PortId, Status, SubmitFault, TickFault};
+use fab_types::{
+    Bdf, Direction, DomainId, MmioFault, Origin, Place, PortId, Status, SubmitFault, TickFault, Way,
+};
 use frame_log::{Frame, FrameFault};
 use layout::Layout;
 use port::Desk;
@@ -18,6 +20,17 @@ function 03:00.0 90000000
 function 04:00.0 90100000
 map 03:00.0 1 frame 0 rw
 budget 1 3
+";
+
+/// The same, but the port above 04:00.0 lets any Requester ID pass, and no budget is named.
+const OPEN: &str = "pciefab 1
+frames 4
+switch 01:00.0 root
+port 02:00.0 03 03 90000000 900fffff 1f 1
+port 02:01.0 04 04 90100000 901fffff 1e 2
+function 03:00.0 90000000
+function 04:00.0 90100000
+map 03:00.0 1 frame 0 rw
 ";
 
 /// A write of 03:00.0 to its page 1.
@@ -167,5 +180,88 @@ fn what_answers_at_a_port_waits_in_no_outbox(rt: HostRuntime) -> Result<(), Fail
     assert!(rt; edge.head(of(other()), Completion).is_none());
     let record = edge.deliver(answer).ok().ok_or("a record")?;
     assert_eq!(rt; told(record), Some((of(other()), 5, Status::CA)));
+    Ok(())
+}
+
+/// The queue at the end of the link above this switch or function that a packet of this way comes to.
+fn queue(lower: u16, way: Way) -> Place {
+    Place::Ingress(Direction {
+        lower: Bdf::from_bits(lower),
+        way,
+    })
+}
+
+/// The function of domain 2 reads with the ID of the function of domain 1.
+fn spoofed<R: Wait>(rt: &R, edge: &mut Edge) -> Option<Frame> {
+    edge.submit(rt, other(), &READ).ok()?;
+    edge.take(of(other()), NonPosted)
+}
+
+/// How many entries each domain's journal has.
+fn entries(edge: &Edge) -> [usize; 2] {
+    match edge.domains() {
+        [first, second] => [first.journal().len(), second.journal().len()],
+        _ => [0, 0],
+    }
+}
+
+#[test]
+fn a_foreign_read_is_answered_by_the_host_of_its_owner(rt: HostRuntime) -> Result<(), Fail> {
+    let layout = Layout::read(rt.alloc(), OPEN).ok().ok_or("a layout")?;
+    let mut edge = Edge::new(rt.alloc(), &layout)?;
+    let victim = edge.owner_of_frame(0).ok_or("an owner")?;
+    assert_eq!(rt; victim, domain()?);
+    assert!(rt; edge.owner_of_frame(1).is_none());
+
+    let read = spoofed(&rt, &mut edge).ok_or("a read")?;
+    assert!(rt;
+        edge.alien_at_host(&rt, victim, queue(0x0100, Way::Up), read)
+            .is_ok()
+    );
+    assert_eq!(rt; entries(&edge), [1, 1]);
+    assert!(rt; edge.head(of(other()), Completion).is_none());
+    assert!(rt; edge.head(of(one()), Completion).is_none());
+    let answer = edge.take(host()?, Completion).ok_or("an answer")?;
+    assert_eq!(rt; answer.domain(), victim);
+
+    // In a guarded layout there is no such entry.
+    let layout = Layout::read(rt.alloc(), PLATFORM).ok().ok_or("a layout")?;
+    let mut edge = Edge::new(rt.alloc(), &layout)?;
+    let read = spoofed(&rt, &mut edge).ok_or("a read")?;
+    assert!(rt; !edge.has_alien(queue(0x0100, Way::Up), &read));
+    let taken = edge.alien_at_host(&rt, victim, queue(0x0100, Way::Up), read);
+    assert!(rt; matches!(taken, Err(FrameFault::Stray(_))));
+    assert_eq!(rt; entries(&edge), [0, 1]);
+    Ok(())
+}
+
+#[test]
+fn a_foreign_read_is_answered_by_the_function_that_takes_it(rt: HostRuntime) -> Result<(), Fail> {
+    let layout = Layout::read(rt.alloc(), OPEN).ok().ok_or("a layout")?;
+    let mut edge = Edge::new(rt.alloc(), &layout)?;
+
+    // Page 1 is no register page: the function answers that it knows no such address.
+    let read = spoofed(&rt, &mut edge).ok_or("a read")?;
+    let at = queue(0x0300, Way::Down);
+    assert!(rt; edge.alien_at_function(&rt, one(), at, read).is_ok());
+    assert_eq!(rt; entries(&edge), [1, 1]);
+    let answer = edge.take(of(one()), Completion).ok_or("an answer")?;
+    assert_eq!(rt; answer.domain(), domain()?);
+    Ok(())
+}
+
+#[test]
+fn a_read_at_a_port_is_an_entry_of_its_home(rt: HostRuntime) -> Result<(), Fail> {
+    let layout = Layout::read(rt.alloc(), OPEN).ok().ok_or("a layout")?;
+    let mut edge = Edge::new(rt.alloc(), &layout)?;
+    let read = spoofed(&rt, &mut edge).ok_or("a read")?;
+    assert!(rt; edge.has_alien(queue(0x0400, Way::Up), &read));
+    let is_answered = edge.answers_alien(queue(0x0400, Way::Up), &read);
+    let sent = edge.alien_at_port(&rt, queue(0x0400, Way::Up), read);
+    let sent = sent.ok().ok_or("a legal entry")?;
+    assert_eq!(rt; sent.is_some(), is_answered);
+    assert_eq!(rt; entries(&edge), [0, 2]);
+    // What answers it waits in no outbox.
+    assert!(rt; edge.head(of(other()), Completion).is_none());
     Ok(())
 }

@@ -1,5 +1,5 @@
 -- A port answers no packet but a non-posted request, and its answer is a completion.
-use Rattle.std.proofs.Common.{◌≡◌, ℕ, Bool, true, false, cond, List, [], length, Option, Some, None, refl, sym, ap, ◌∙◌, subst, arith}
+use Rattle.std.proofs.Common.{◌≡◌, ℕ, Bool, true, false, cond, List, length, Option, Some, None, refl, sym, ap, ◌∙◌, subst}
 use Rattle.std.specs.Prelude.{option_map, slice_get}
 use Rattle.fab_types.specs.declared.class.Class.{Class}
 use Rattle.fab_types.specs.declared.class.Class.TheVariants.{Posted, NonPosted, Completion}
@@ -12,14 +12,11 @@ use Rattle.frame_log.specs.Descriptor.{Descriptor}
 use Rattle.layout.specs.declared.lines.PortLine.{PortLine}
 use Rattle.layout.specs.Owners.{first_port}
 use Rattle.layout.specs.Share.{Share}
-use Rattle.tlp_view.specs.declared.completion.CompletionHead.{CompletionHead}
 use Rattle.tlp_view.specs.Bytes.{packet_of}
-use Rattle.tlp_view.specs.Completions.{completion_bytes, refusal as refused_with}
 use Rattle.tlp_view.specs.Costs.{cost_of, cost_unless}
-use Rattle.tlp_view.specs.Kinds.{class_of_kind, is_memory, kind_at}
+use Rattle.tlp_view.specs.Kinds.{class_of_kind}
 use Rattle.tlp_view.specs.Malformed.{malformed}
 use Rattle.tlp_view.specs.Packet.{Packet}
-use Rattle.tlp_view.proofs.Completed.{completion_well_formed}
 use Rattle.domain.specs.declared.entry.Entry.TheVariants.{Refuse}
 use Rattle.domain.specs.declared.fate.Fate.{Fate}
 use Rattle.domain.specs.declared.fate.Fate.TheVariants.{Vanish, Refused, ToHost}
@@ -27,12 +24,13 @@ use Rattle.domain.specs.Answers.{port_answer}
 use Rattle.domain.specs.Carries.{port_id, refusal_by, refusal_of}
 use Rattle.domain.specs.Domains.{DomainView}
 use Rattle.domain.specs.Ends.{conclude}
-use Rattle.domain.specs.Fates.{fails_source, fails_translation, fate, fate_below, fate_unless, packet_fate, returns_to_sender, stopped}
+use Rattle.domain.specs.Fates.{fate, fate_below, fate_unless, packet_fate, stopped}
 use Rattle.domain.specs.Heads.{descriptor_of}
 use Rattle.domain.specs.Machine.{change, refuse}
+use Rattle.domain.proofs.PortAnswers.{answer_class}
 use Rattle.domain.specs.State.{Alone, Change, Emission, item_at}
 use Rattle.port.specs.Lanes.{class_of}
-use Rattle.tenants.specs.Tenants.{Made, domain_at, made, made_at, made_by, made_of, place_of, sent_by}
+use Rattle.tenants.specs.Tenants.{Made, domain_at, made, made_at, made_by, made_of, place_of}
 use Rattle.fabric_core.specs.Places.{IsFlown, flown_by}
 
 abbrev some : {A : Type 0} → A → Option A
@@ -65,21 +63,6 @@ refused_below None bytes status e = absurd cc
 refused_below (Some port) bytes status e = refused_unless (malformed bytes) port bytes status e
 
 -- ---- what answers it
-
-answer_class : (completer : ℕ) (status : Status) (t : Packet) → (cost_of (completion_bytes (refused_with completer status t))).class ≡ Completion
-unfolding kind_at
-answer_class completer status t =
-    let head : CompletionHead = record {
-      completer = completer;
-      status = status;
-      byte_count = 4;
-      requester = t.requester;
-      tag = t.tag;
-      lower_address = 0;
-      attributes = t.attributes;
-    } in
-    let fine : malformed (completion_bytes (refused_with completer status t)) ≡ None = completion_well_formed head [] (record { byte_count = omega arith; lower_address = omega arith }) 0 (omega arith) refl in
-    ap (λ (m : Option Malformed). (cost_unless m (completion_bytes (refused_with completer status t))).class) fine
 
 -- the classes of a packet and of what answers it
 abbrev AreClasses : List ℕ → Emission → Type 0

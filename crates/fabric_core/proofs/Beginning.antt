@@ -1,5 +1,5 @@
 -- What a fabric keeps through a begin: what is emitted waits in the outbox of its origin.
-use Rattle.std.proofs.Common.{◌≡◌, ℕ, List, [], ◌∷◌, ◌++◌, Option, Some, None, refl, sym, ap, ◌∙◌, subst}
+use Rattle.std.proofs.Common.{◌≡◌, ℕ, List, [], Option, Some, None, refl, ◌∙◌, subst}
 use Rattle.std.specs.Prelude.{IsSome, option_map, option_to_list}
 use Rattle.std.specs.List.{flat_map}
 use Rattle.fab_types.specs.declared.place.Origin.{Origin}
@@ -19,7 +19,7 @@ use Rattle.fabric_core.proofs.Changing.{Changed}
 use Rattle.fabric_core.proofs.Flying.{Begins, mmio_begins, submit_begins, tick_begins}
 use Rattle.fabric_core.proofs.Placing.{placed_after}
 use Rattle.fabric_core.proofs.Renewing.{kept_with, placed_of}
-use Rattle.fabric_core.proofs.Settling.{begin_reflown, edge_settled, joined_origins, made_from}
+use Rattle.fabric_core.proofs.Settling.{begin_reflown, edge_settled, joined_origins, made_from, shares_stay}
 use Rattle.fabric_core.proofs.Standing.{held, in_outboxes, joined_waiting}
 
 abbrev some : {A : Type 0} → A → Option A
@@ -46,6 +46,7 @@ begun_with w w' origin entry place (Some m) kept home begins e is =
     let c = in_outboxes w.channels w.edge.outboxes edge.outboxes w.ports w.strays [] (option_to_list m.sent) (joins_outbox w.edge origin entry place m kept.settled home e) in
     subst IsKept (some_is (with_edge w edge) w' is)
     (kept_with w w.channels edge w.violations w.strays kept refl (edge_settled w.edge edge.outboxes entry place m kept.settled (joined_origins w.edge.outboxes origin m.sent) e)
+    (shares_stay w.routes.ports w.edge.domains entry place m kept.shares e)
     (placed_after w.edge.domains m.domains (frames_of w) (held w.channels edge.outboxes w.ports w.strays) [] (option_to_list m.sent) (placed_of w kept) c
     (begin_reflown w.edge entry place m kept.settled begins e)))
 

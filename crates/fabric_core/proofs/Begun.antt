@@ -1,16 +1,19 @@
 -- The begins that events leave in the journals of a fabric's domains.
 use Rattle.std.proofs.Common.{◌≡◌, ◌≢◌, ℕ, zero, suc, ◌<◌, Bool, true, false, cond, eqb, List, [], ◌∷◌, ◌++◌, length, map, get_or, set, Option, Some, None, refl, sym, ap, ◌∙◌, subst, arith}
-use Rattle.std.specs.Prelude.{◌==◌, slice_get}
+use Rattle.std.specs.Prelude.{◌==◌, ◌&&◌, slice_get}
 use Rattle.std.specs.List.{position}
 use Rattle.std.specs.Option.{is_some, option_and_then, option_map}
 use Rattle.std.proofs.lemmas.Bool.{eq-eqb, eqb-true}
 use Rattle.std.proofs.lemmas.List.{append-nil, append_assoc, get_or-set_other, get_or-set_same, length-map, map-set, set-get_or}
 use Rattle.edge.proofs.Lists.{position_map}
 use Rattle.fab_types.specs.declared.class.Class.{Class}
-use Rattle.fab_types.specs.declared.faults.begin.BeginFault.{BeginFault}
+use Rattle.fab_types.specs.declared.class.Class.TheVariants.{Completion}
 use Rattle.fab_types.specs.declared.outcome.Outcome.{Outcome}
 use Rattle.fab_types.specs.declared.outcome.Outcome.TheVariants.{Moved, Idle, Refused, NoMemory}
+use Rattle.fab_types.specs.declared.head.Parties.{Parties}
 use Rattle.fab_types.specs.declared.place.Origin.{Origin}
+use Rattle.fab_types.specs.declared.place.Place.{Place}
+use Rattle.fab_types.specs.declared.place.Place.TheVariants.{Ingress}
 use Rattle.fab_types.specs.declared.violation.Violation.{Violation}
 use Rattle.frame_log.specs.Descriptor.{Descriptor}
 use Rattle.layout.specs.Owners.{is_own_function}
@@ -19,22 +22,27 @@ use Rattle.domain.specs.declared.entry.Entry.{Entry}
 use Rattle.domain.specs.declared.entry.Entry.TheVariants as entry
 use Rattle.domain.specs.Domains.{DomainView}
 use Rattle.domain.specs.Machine.{change}
-use Rattle.domain.specs.State.{Change}
-use Rattle.link.specs.Channels.{Channel, receive, send, tell}
+use Rattle.domain.specs.State.{Change, Emission}
+use Rattle.link.specs.Channels.{Channel, is_full, receive, send, tell}
 use Rattle.port.specs.declared.course.Course.{Course}
 use Rattle.port.specs.declared.course.Course.TheVariants.{Forward, Stop, Stray}
 use Rattle.port.specs.Courses.{course_of}
 use Rattle.port.specs.Lanes.{eligible}
+use Rattle.tenants.specs.Aliens.{aliened, aliened_at, aliened_by, answers, flown}
 use Rattle.tenants.specs.Tenants.{Made, after, made, made_at, made_by, made_of, place_of, place_of_function}
 use Rattle.topology.specs.Links.{sender_of}
 use Rattle.topology.specs.declared.nodes.LinkEnd.{LinkEnd}
-use Rattle.hierarchy.specs.Moves.{on_channel}
+use Rattle.hierarchy.specs.declared.lost.Lost.{Lost}
+use Rattle.hierarchy.specs.Lost.{lost_among}
+use Rattle.hierarchy.specs.Moves.{channel_at, on_channel}
 use Rattle.hierarchy.specs.Passes.{index_of, no_place}
-use Rattle.edge.specs.Edges.{EdgeView, carried_by_function, carried_by_host, delivered, emitted, emitted_if, is_function_of, waiting_of}
+use Rattle.edge.specs.Edges.{EdgeView, delivered, emitted, emitted_if, is_function_of, waiting_of}
 use Rattle.fabric_core.specs.declared.event.Event.{Event}
 use Rattle.fabric_core.specs.declared.event.Event.TheVariants.{Submit, Tick, Mmio, Enter, Pass, Send, Take, Credit, Root, Arrive}
-use Rattle.fabric_core.specs.Endings.{Carry, Deliver, Ending, Nobody, Relay, Taken, arrived, arrived_by, ended, ending_at_function, ending_at_host, from_host, relayed, rooted, rooted_by, taken, taken_at, to_function, to_host}
+use Rattle.fabric_core.specs.Aliens.{alien_at_function, alien_at_host, or_else, receiver_at_host}
+use Rattle.fabric_core.specs.Endings.{Carry, Deliver, Ending, Nobody, Relay, Taken, arrived, arrived_by, edge_by_function, edge_by_host, ended, ending_at_function, ending_at_host, from_host, own_by_function, own_by_host, relayed, rooted, rooted_by, taken, taken_at, to_function, to_host}
 use Rattle.fabric_core.specs.Events.{StepsTo, effect, entered_at, link_of}
+use Rattle.fabric_core.specs.Losing.{Losing, is_at_port_of, losing, losing_by, losing_to, losing_with, passed_unless, without_lost}
 use Rattle.fabric_core.specs.Passing.{Site, answer_waits, passed, passed_by, passed_number, refused_by, site_at}
 use Rattle.fabric_core.specs.Runs.{Grow, HaveBegun, Run, accepted, accepted_one, begins_of, begun_at, is_home, share_of}
 use Rattle.fabric_core.specs.World.{World, with_channels, with_edge}
@@ -169,22 +177,57 @@ ended_grow w t (Some e) grow = grow e refl
 end_grow : (edge : EdgeView) (entry : Entry) (home : Option ℕ) → begins_of (entry ∷ []) ≡ [] → (m : Made) → made_at edge.domains entry home ≡ Some m → Grow Nothing edge.domains m.domains
 end_grow edge entry home none m is = ended_grows edge.domains entry home m none is
 
-host_grow : (w : World) (t : Taken) → Grow Nothing w.edge.domains (ended w t (carried_by_host w.edge t.frame)).edge.domains
-host_grow w t = ended_grow w t (carried_by_host w.edge t.frame) (emitted_grow w.edge _ Nothing _ (end_grow w.edge (entry.Carry t.frame.number) (place_of w.edge.domains t.frame.domain) refl))
-
 carried_if : (edge : EdgeView) (entry : Entry) (home : Option ℕ) (b : Bool) → begins_of (entry ∷ []) ≡ [] → (m : Made) → cond b (made_at edge.domains entry home) None ≡ Some m → Grow Nothing edge.domains m.domains
 carried_if edge entry home true none m is = end_grow edge entry home none m is
 carried_if edge entry home false none m is = absurd cc
-
-function_grow : (w : World) (f : ℕ) (t : Taken) → Grow Nothing w.edge.domains (ended w t (carried_by_function w.edge f t.frame)).edge.domains
-function_grow w f t = ended_grow w t (carried_by_function w.edge f t.frame) (emitted_grow w.edge _ Nothing _ (carried_if w.edge (entry.Carry t.frame.number) (place_of w.edge.domains t.frame.domain) (is_function_of w.edge.domains f t.frame.domain) refl))
 
 delivered_of : (edge : EdgeView) (o : Option Made) → ((m : Made) → o ≡ Some m → Grow Nothing edge.domains m.domains) → (e : EdgeView) → option_map (λ m. record { domains = m.domains; outboxes = edge.outboxes }) o ≡ Some e → Grow Nothing edge.domains e.domains
 delivered_of edge None grow e is = absurd cc
 delivered_of edge (Some m) grow e is = subst (λ (x : EdgeView). Grow Nothing edge.domains x.domains) (some_is (record { domains = m.domains; outboxes = edge.outboxes }) e is) (grow m refl)
 
-deliver_grow : (w : World) (t : Taken) → Grow Nothing w.edge.domains (ended w t (delivered w.edge t.frame)).edge.domains
-deliver_grow w t = ended_grow w t (delivered w.edge t.frame) (delivered_of w.edge _ (end_grow w.edge (entry.Deliver t.frame.number) (place_of w.edge.domains t.frame.domain) refl))
+-- of an entry of an alien packet
+aliened_of : (edge : EdgeView) (at : Option ℕ) (place : Place) (sender : Parties) (item : Option Emission) (m : Made) → aliened_by edge.domains at place sender item ≡ Some m → Grow Nothing edge.domains m.domains
+aliened_of edge at place sender None m is = absurd cc
+aliened_of edge at place sender (Some e) m is = end_grow edge (entry.Alien place sender e.bytes) at refl m is
+
+aliened_grow : (edge : EdgeView) (at : Option ℕ) (place : Place) (frame : Descriptor) (m : Made) → aliened_at edge.domains at place frame ≡ Some m → Grow Nothing edge.domains m.domains
+aliened_grow edge at place frame m is = aliened_of edge at place frame.head.parties (flown edge.domains frame.domain frame.number) m is
+
+-- what an edge becomes, where no begin is added
+abbrev EdgeLeaves : EdgeView → Option EdgeView → Type 0
+EdgeLeaves edge all = (e : EdgeView) → all ≡ Some e → Grow Nothing edge.domains e.domains
+
+or_grow : (edge : EdgeView) (own other : Option EdgeView) → EdgeLeaves edge own → EdgeLeaves edge other → EdgeLeaves edge (or_else own other)
+or_grow edge None other first second = second
+or_grow edge (Some e) other first second = first
+
+deliver_grow : (edge : EdgeView) (frame : Descriptor) → EdgeLeaves edge (delivered edge frame)
+deliver_grow edge frame = delivered_of edge _ (end_grow edge (entry.Deliver frame.number) (place_of edge.domains frame.domain) refl)
+
+own_host_grow : (edge : EdgeView) (frame : Descriptor) (ending : Ending) → EdgeLeaves edge (own_by_host edge frame ending)
+own_host_grow edge frame Relay e is = absurd cc
+own_host_grow edge frame Carry e is = emitted_grow edge _ Nothing _ (end_grow edge (entry.Carry frame.number) (place_of edge.domains frame.domain) refl) e is
+own_host_grow edge frame Deliver e is = deliver_grow edge frame e is
+own_host_grow edge frame Nobody e is = absurd cc
+
+host_grow : (w : World) (t : Taken) (ending : Ending) → Grow Nothing w.edge.domains (ended w t (edge_by_host w.routes.ports w.edge t.frame ending)).edge.domains
+host_grow w t ending =
+    ended_grow w t (edge_by_host w.routes.ports w.edge t.frame ending)
+    (or_grow w.edge (own_by_host w.edge t.frame ending) (alien_at_host w.routes.ports w.edge t.frame) (own_host_grow w.edge t.frame ending)
+    (emitted_grow w.edge _ Nothing _ (aliened_grow w.edge (place_of w.edge.domains (receiver_at_host w.routes.ports w.edge.domains t.frame)) (Ingress to_host) t.frame)))
+
+own_function_grow : (edge : EdgeView) (f : ℕ) (frame : Descriptor) (ending : Ending) → EdgeLeaves edge (own_by_function edge f frame ending)
+own_function_grow edge f frame Relay e is = absurd cc
+own_function_grow edge f frame Carry e is =
+    emitted_grow edge _ Nothing _ (carried_if edge (entry.Carry frame.number) (place_of edge.domains frame.domain) (is_function_of edge.domains f frame.domain) refl) e is
+own_function_grow edge f frame Deliver e is = deliver_grow edge frame e is
+own_function_grow edge f frame Nobody e is = absurd cc
+
+function_grow : (w : World) (f : ℕ) (t : Taken) (ending : Ending) → Grow Nothing w.edge.domains (arrived_by w f t ending).edge.domains
+function_grow w f t ending =
+    ended_grow w t (edge_by_function w.edge f t.frame ending)
+    (or_grow w.edge (own_by_function w.edge f t.frame ending) (alien_at_function w.edge f t.frame) (own_function_grow w.edge f t.frame ending)
+    (emitted_grow w.edge _ Nothing _ (aliened_grow w.edge (place_of_function w.edge.domains f) (Ingress (to_function f)) t.frame)))
 
 only : (w v u : World) → ◌≡◌ {A = Option World} (Some u) (Some v) → Grow Nothing w.edge.domains u.edge.domains → Grow Nothing w.edge.domains v.edge.domains
 only w v u is grow = subst (λ (x : World). Grow Nothing w.edge.domains x.edge.domains) (some_is u v is) grow
@@ -195,23 +238,17 @@ relay_grow w t class (Some end) v is = one_if w v _ _ is refl
 
 root_by_grow : (w : World) (class : Class) (t : Taken) (e : Ending) → Leaves w.edge.domains Nothing (rooted_by w class t e)
 root_by_grow w class t Relay v is = relay_grow w t class (sender_of w.tree.links from_host) v is
-root_by_grow w class t Carry v is = only w v (ended w t (carried_by_host w.edge t.frame)) is (host_grow w t)
-root_by_grow w class t Deliver v is = only w v (ended w t (delivered w.edge t.frame)) is (deliver_grow w t)
-root_by_grow w class t Nobody v is = only w v (ended w t None) is (same_grow w.edge.domains)
+root_by_grow w class t Carry v is = only w v (ended w t (edge_by_host w.routes.ports w.edge t.frame Carry)) is (host_grow w t Carry)
+root_by_grow w class t Deliver v is = only w v (ended w t (edge_by_host w.routes.ports w.edge t.frame Deliver)) is (host_grow w t Deliver)
+root_by_grow w class t Nobody v is = only w v (ended w t (edge_by_host w.routes.ports w.edge t.frame Nobody)) is (host_grow w t Nobody)
 
 root_grow : (w : World) (class : Class) (o : Option Taken) → Leaves w.edge.domains Nothing (rooted w class o)
 root_grow w class None v is = absurd cc
 root_grow w class (Some t) v is = root_by_grow w class t (ending_at_host t.frame) v is
 
-arrive_by_grow : (w : World) (f : ℕ) (t : Taken) (e : Ending) → Grow Nothing w.edge.domains (arrived_by w f t e).edge.domains
-arrive_by_grow w f t Relay = same_grow w.edge.domains
-arrive_by_grow w f t Carry = function_grow w f t
-arrive_by_grow w f t Deliver = deliver_grow w t
-arrive_by_grow w f t Nobody = same_grow w.edge.domains
-
 arrived_grow : (w : World) (f : ℕ) (o : Option Taken) → Leaves w.edge.domains Nothing (arrived w f o)
 arrived_grow w f None v is = absurd cc
-arrived_grow w f (Some t) v is = only w v (arrived_by w f t (ending_at_function w f t.frame)) is (arrive_by_grow w f t (ending_at_function w f t.frame))
+arrived_grow w f (Some t) v is = only w v (arrived_by w f t (ending_at_function w f t.frame)) is (function_grow w f t (ending_at_function w f t.frame))
 
 arrive_grow : (w : World) (f : ℕ) (o : Option Taken) (b : Bool) → Leaves w.edge.domains Nothing (cond b (arrived w f o) None)
 arrive_grow w f o true v is = arrived_grow w f o v is
@@ -242,9 +279,36 @@ pass_at_grow : (w : World) (site : Site) (class : Class) (o : Option Taken) → 
 pass_at_grow w site class None v is = absurd cc
 pass_at_grow w site class (Some t) v is = pass_by_grow w site class t (course_of w.routes site.config t.frame.head) v is
 
-pass_grow : (w : World) (class : Class) (o : Option ℕ) → Leaves w.edge.domains Nothing (passed_number w class o)
-pass_grow w class None v is = absurd cc
-pass_grow w class (Some i) v is = let place = get_or w.tree.places i no_place in pass_at_grow w (site_at w i place) class (taken_at w.channels class place.input) v is
+turn_grow : (w : World) (class : Class) (o : Option ℕ) → Leaves w.edge.domains Nothing (passed_number w class o)
+turn_grow w class None v is = absurd cc
+turn_grow w class (Some i) v is = let place = get_or w.tree.places i no_place in pass_at_grow w (site_at w i place) class (taken_at w.channels class place.input) v is
+
+-- or loses it
+losing_with_grow : (w : World) (lost : Lost) (t : Taken) (o : Option Made) → ((m : Made) → o ≡ Some m → Grow Nothing w.edge.domains m.domains) → (l : Losing) → losing_with lost t o ≡ Some l → Grow Nothing w.edge.domains l.made.domains
+losing_with_grow w lost t None grow l is = absurd cc
+losing_with_grow w lost t (Some m) grow l is = subst (λ (x : Losing). Grow Nothing w.edge.domains x.made.domains) (some_is (record { lost = lost; taken = t; made = m }) l is) (grow m refl)
+
+losing_there_grow : (w : World) (lost : Lost) (t : Taken) (is_there : Bool) (l : Losing) → cond is_there (losing_with lost t (aliened w.edge.domains t.frame.domain lost.place t.frame)) None ≡ Some l → Grow Nothing w.edge.domains l.made.domains
+losing_there_grow w lost t true l is =
+    losing_with_grow w lost t (aliened w.edge.domains t.frame.domain lost.place t.frame) (aliened_grow w.edge (place_of w.edge.domains t.frame.domain) lost.place t.frame) l is
+losing_there_grow w lost t false l is = absurd cc
+
+losing_taken_grow : (w : World) (lost : Lost) (o : Option Taken) (l : Losing) → option_and_then (losing_to w lost) o ≡ Some l → Grow Nothing w.edge.domains l.made.domains
+losing_taken_grow w lost None l is = absurd cc
+losing_taken_grow w lost (Some t) l is = losing_there_grow w lost t (is_at_port_of w.edge.domains t.frame.domain lost.place) l is
+
+losing_by_grow : (w : World) (class : Class) (o : Option Lost) (l : Losing) → losing_by w class o ≡ Some l → Grow Nothing w.edge.domains l.made.domains
+losing_by_grow w class None l is = absurd cc
+losing_by_grow w class (Some lost) l is = losing_taken_grow w lost (taken_at w.channels class (Some lost.input)) l is
+
+lose_grow : (w v : World) (l : Losing) (b : Bool) → Grow Nothing w.edge.domains l.made.domains → cond b None (Some (without_lost w l)) ≡ Some v → Grow Nothing w.edge.domains v.edge.domains
+lose_grow w v l true grow is = absurd cc
+lose_grow w v l false grow is = only w v (without_lost w l) is grow
+
+pass_grow : (w : World) (port : ℕ) (class : Class) (o : Option Losing) → losing w port class ≡ o → Leaves w.edge.domains Nothing (passed_unless w port class o)
+pass_grow w port class None e v is = turn_grow w class (index_of w.tree.places port) v is
+pass_grow w port class (Some l) e v is =
+    lose_grow w v l (answers (Some l.made) && is_full Completion (channel_at w.channels l.lost.own)) (losing_by_grow w class (lost_among w.tree w.routes w.channels w.ports port class) l e) is
 
 -- ---- each event
 
@@ -253,7 +317,7 @@ effect_grow w (Submit f b) = begin_grow w _ _ (emitted_grow w.edge _ _ _ (made_g
 effect_grow w (Tick f) = begin_grow w _ _ (emitted_grow w.edge _ _ _ (made_grows w.edge.domains (entry.Tick f) (place_of_function w.edge.domains f)))
 effect_grow w (Mmio domain access) = begin_grow w _ _ (emitted_grow w.edge _ _ _ (made_grows w.edge.domains (entry.Mmio access) (place_of w.edge.domains domain)))
 effect_grow w (Enter origin class) = enter_grow w origin class (sender_of w.tree.links (link_of origin)) (eligible class (waiting_of w.edge.outboxes origin))
-effect_grow w (Pass port class) = pass_grow w class (index_of w.tree.places port)
+effect_grow w (Pass port class) = pass_grow w port class (losing w port class) refl
 effect_grow w (Send direction class) = wire_grow w (on_channel w.channels (sender_of w.tree.links direction) (send class))
 effect_grow w (Take direction) = wire_grow w (on_channel w.channels (sender_of w.tree.links direction) receive)
 effect_grow w (Credit direction) = wire_grow w (on_channel w.channels (sender_of w.tree.links direction) tell)
@@ -267,7 +331,7 @@ step_grow : (w v : World) (event : Event) (o : Outcome) → StepsTo w event o v 
 step_grow w v event Moved s = effect_grow w event v s
 step_grow w v event Idle s = same_world w v s.2
 step_grow w v event (Refused fault) s = same_world w v s.1
-step_grow w v event NoMemory s = same_world w v s.1
+step_grow w v event NoMemory s = same_world w v s.2
 
 -- ---- a run
 

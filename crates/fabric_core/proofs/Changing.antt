@@ -1,11 +1,11 @@
 -- Lists that lose some elements and gain others, wherever in them these stand.
-use Rattle.std.proofs.Common.{◌≡◌, ℕ, zero, suc, ◌+◌, ◌<◌, Bool, cond, List, [], ◌∷◌, ◌++◌, length, get_or, set, Some, refl, sym, ap, ◌∙◌, subst, arith}
+use Rattle.std.proofs.Common.{◌≡◌, ℕ, zero, suc, ◌+◌, ◌<◌, Bool, cond, List, [], ◌∷◌, ◌++◌, length, get_or, set, Some, refl, sym, subst, arith}
 use Rattle.std.specs.Prelude.{All, count_by}
 use Rattle.std.specs.List.{flat_map}
 use Rattle.std.proofs.lemmas.List.Elements.{All-append, All-cons, All-head, All-nil, All-tail}
 use Rattle.std.proofs.lemmas.List.Sums.{sum_by-append, sum_by-cons}
 use Rattle.fab_types.specs.declared.class.Class.{Class}
-use Rattle.ordering.specs.Ordering.{Leaves, take_one}
+use Rattle.ordering.specs.Ordering.{take_one}
 use Rattle.ordering.proofs.Leaving.{taken_leaves}
 
 module _ {A : Type 0} where
@@ -17,7 +17,7 @@ module _ {A : Type 0} where
 
   -- ---- of parts
 
-  all_front : (P : A → Type 0) (xs ys : List A) → All P (xs ++ ys) → All P xs
+  pub all_front : (P : A → Type 0) (xs ys : List A) → All P (xs ++ ys) → All P xs
   all_front P [] ys h = All-nil P
   all_front P (x ∷ xs) ys h = All-cons P x xs (All-head P x (xs ++ ys) h) (all_front P xs ys (All-tail P x (xs ++ ys) h))
 
@@ -66,6 +66,16 @@ module _ {A : Type 0} where
   then_back xs ys zs moved a b = record {
     counted = λ p. omega (arith, a.counted p, b.counted p);
     left = λ P h none. b.left P (a.left P h (All-nil P)) (a.found P h);
+    found = λ P h. All-nil P;
+  }
+
+  -- what is lost in front stands behind
+  pub moved_behind : (xs ys zs moved gained : List A) → Changed xs ys moved gained → Changed (xs ++ zs) (ys ++ (moved ++ zs)) [] gained
+  moved_behind xs ys zs moved gained c = record {
+    counted = λ p. omega (arith, c.counted p, count_append p xs zs, count_append p ys (moved ++ zs), count_append p moved zs);
+    left = λ P h g.
+        let front = all_front P xs zs h in
+        All-append P ys (moved ++ zs) (c.left P front g) (All-append P moved zs (c.found P front) (all_back P xs zs h));
     found = λ P h. All-nil P;
   }
 

@@ -1,32 +1,35 @@
 -- What a fabric keeps where the host or a function takes a packet.
-use Rattle.std.proofs.Common.{◌≡◌, ℕ, ◌==◌, Bool, true, false, cond, List, [], ◌∷◌, ◌++◌, Option, Some, None, refl, sym, ap, ◌∙◌, subst}
+use Rattle.std.proofs.Common.{◌≡◌, ℕ, Bool, true, false, cond, List, [], ◌∷◌, ◌++◌, Option, Some, None, refl, sym, ap, ◌∙◌, subst}
 use Rattle.std.specs.Prelude.{IsSome, is_some, option_map, option_to_list}
 use Rattle.std.specs.List.{flat_map}
 use Rattle.fab_types.specs.declared.place.Origin.{Origin}
 use Rattle.fab_types.specs.declared.place.Origin.TheVariants.{Function, Host}
+use Rattle.fab_types.specs.declared.place.Place.TheVariants.{Ingress}
 use Rattle.frame_log.specs.Descriptor.{Descriptor}
 use Rattle.domain.specs.declared.entry.Entry.{Entry}
 use Rattle.domain.specs.declared.entry.Entry.TheVariants.{Carry, Deliver}
 use Rattle.domain.specs.Domains.{DomainView}
 use Rattle.domain.specs.Heads.{descriptor_of}
 use Rattle.domain.specs.Machine.{change}
-use Rattle.domain.specs.State.{Change, Emission}
-use Rattle.edge.specs.Edges.{EdgeView, IsSettled, carried_by_function, carried_by_host, delivered, emitted, emitted_if, home_of, is_function_of, is_of_domain, joined, outbox_place}
-use Rattle.link.specs.Channels.{Channel, is_full}
+use Rattle.domain.specs.State.{Change}
+use Rattle.edge.specs.Edges.{EdgeView, carried_by_function, carried_by_host, delivered, emitted_if, is_function_of, is_of_domain, joined, outbox_place}
+use Rattle.link.specs.Channels.{is_full}
 use Rattle.port.specs.Lanes.{Class}
-use Rattle.tenants.specs.Tenants.{Made, domain_at, made, made_at, place_of, place_of_function}
+use Rattle.tenants.specs.Tenants.{Made, domain_at, made, place_of, place_of_function}
 use Rattle.topology.specs.Links.{sender_of}
 use Rattle.topology.specs.declared.nodes.LinkEnd.{LinkEnd}
 use Rattle.hierarchy.specs.Moves.{channel_at, put_at, with_egress}
-use Rattle.fabric_core.specs.Endings.{Carry, Deliver, Ending, Nobody, Relay, Taken, arrive, arrived, arrived_by, ended, ending_at_function, ending_at_host, from_host, relayed, root, rooted, rooted_by, taken, to_function, to_host}
+use Rattle.fabric_core.specs.Aliens.{alien_at_function, alien_at_host, or_else, receiver_at_host}
+use Rattle.fabric_core.specs.Endings.{Carry, Deliver, Ending, Nobody, Relay, Taken, arrive, arrived, arrived_by, edge_by_host, ended, ending_at_function, ending_at_host, from_host, relayed, root, rooted, rooted_by, taken, to_function, to_host}
 use Rattle.fabric_core.specs.Invariant.{IsKept}
-use Rattle.fabric_core.specs.Places.{IsFlown, frames_from, frames_of, waiting_in}
+use Rattle.fabric_core.specs.Places.{frames_of, waiting_in}
 use Rattle.fabric_core.specs.World.{World, with_both, with_channels, with_stray}
+use Rattle.fabric_core.proofs.AlienEntries.{kept_alien}
 use Rattle.fabric_core.proofs.Changing.{Changed, then_back, then_gained, unchanged}
 use Rattle.fabric_core.proofs.Flying.{EndsOne, carry_ends, deliver_ends, deliver_silent}
-use Rattle.fabric_core.proofs.Placing.{Reflown, placed_after, placed_moved}
-use Rattle.fabric_core.proofs.Renewing.{SameLanes, TakenOut, kept_with, placed_of, sender_there, taken_flown, taken_out_of}
-use Rattle.fabric_core.proofs.Settling.{edge_settled, end_reflown, joined_origins, made_from}
+use Rattle.fabric_core.proofs.Placing.{placed_after, placed_moved}
+use Rattle.fabric_core.proofs.Renewing.{TakenOut, kept_with, placed_of, sender_there, taken_flown, taken_out_of}
+use Rattle.fabric_core.proofs.Settling.{edge_settled, end_reflown, joined_origins, made_from, shares_stay}
 use Rattle.fabric_core.proofs.Standing.{held, in_outboxes, in_strays, joined_waiting, on_links, put_there, same_lanes}
 
 abbrev some : {A : Type 0} → A → Option A
@@ -43,7 +46,7 @@ kept_stray w t kept out =
     let moved =
     then_back (frames_of w) (held t.channels w.edge.outboxes w.ports w.strays) (held t.channels w.edge.outboxes w.ports strays) (t.frame ∷ [])
     (on_links w.channels t.channels w.edge.outboxes w.ports w.strays (t.frame ∷ []) [] out.changed) (in_strays t.channels w.edge.outboxes w.ports w.strays t.frame) in
-    kept_with w t.channels w.edge w.violations strays kept out.lanes kept.settled
+    kept_with w t.channels w.edge w.violations strays kept out.lanes kept.settled kept.shares
     (placed_moved w.edge.domains (frames_of w) (held t.channels w.edge.outboxes w.ports strays) (placed_of w kept) moved)
 
 -- ---- it goes down again
@@ -60,7 +63,7 @@ kept_relay w w' t class end kept out from false is =
     (on_links w.channels t.channels w.edge.outboxes w.ports w.strays (t.frame ∷ []) [] out.changed)
     (on_links t.channels channels w.edge.outboxes w.ports w.strays [] (t.frame ∷ []) (put_there t.channels end t.frame there)) in
     subst IsKept (some_is (with_channels w channels) w' is)
-    (kept_with w channels w.edge w.violations w.strays kept (same_lanes t.channels end (with_egress c (c.egress ++ t.frame ∷ [])) ∙ out.lanes) kept.settled
+    (kept_with w channels w.edge w.violations w.strays kept (same_lanes t.channels end (with_egress c (c.egress ++ t.frame ∷ [])) ∙ out.lanes) kept.settled kept.shares
     (placed_moved w.edge.domains (frames_of w) (held channels w.edge.outboxes w.ports w.strays) (placed_of w kept) moved))
 
 kept_relayed : (w w' : World) (t : Taken) (class : Class) (found : Option LinkEnd) → IsKept w → TakenOut w t → sender_of w.tree.links from_host ≡ found → relayed w t class found ≡ Some w' → IsKept w'
@@ -79,21 +82,26 @@ kept_end w t entry m boxes kept out ends e same joins =
     then_gained (frames_of w) (held t.channels w.edge.outboxes w.ports w.strays) (held t.channels boxes w.ports w.strays) (t.frame ∷ []) (option_to_list m.sent)
     (on_links w.channels t.channels w.edge.outboxes w.ports w.strays (t.frame ∷ []) [] out.changed) (in_outboxes t.channels w.edge.outboxes boxes w.ports w.strays [] (option_to_list m.sent) joins) in
     kept_with w t.channels edge w.violations w.strays kept out.lanes (edge_settled w.edge boxes entry (place_of w.edge.domains t.frame.domain) m kept.settled same e)
+    (shares_stay w.routes.ports w.edge.domains entry (place_of w.edge.domains t.frame.domain) m kept.shares e)
     (placed_after w.edge.domains m.domains (frames_of w) (held t.channels boxes w.ports w.strays) (t.frame ∷ []) (option_to_list m.sent) (placed_of w kept) c
     (end_reflown w.edge entry t.frame m kept.settled (taken_flown w t kept out) ends e))
 
+-- it leaves this edge, or what becomes of it without such an entry
+abbrev KeepsOr : World → Taken → Option EdgeView → Type 0
+KeepsOr w t own = (other : Option EdgeView) → IsKept (ended w t other) → IsKept (ended w t (or_else own other))
+
 -- a request reached its completer, whose answer waits of it
 carried_with : (w : World) (t : Taken) (origin : Origin) (o : Option Made) → IsKept w → TakenOut w t → made w.edge.domains t.frame.domain (Carry t.frame.number) ≡ o
-    → (IsSome o → IsSome (outbox_place w.edge.outboxes origin)) → IsKept (ended w t (emitted_if w.edge origin o))
-carried_with w t origin None kept out e boxed = kept_stray w t kept out
-carried_with w t origin (Some m) kept out e boxed =
+    → (IsSome o → IsSome (outbox_place w.edge.outboxes origin)) → KeepsOr w t (emitted_if w.edge origin o)
+carried_with w t origin None kept out e boxed other otherwise = otherwise
+carried_with w t origin (Some m) kept out e boxed other otherwise =
     kept_end w t (Carry t.frame.number) m (joined w.edge.outboxes origin m.sent) kept out (λ d c h. carry_ends d.share d.state t.frame.number c h) e (joined_origins w.edge.outboxes origin m.sent)
     (joined_waiting w.edge.outboxes origin m.sent (boxed refl))
 
-carried_at_host : (w : World) (t : Taken) → IsKept w → TakenOut w t → IsKept (ended w t (carried_by_host w.edge t.frame))
+carried_at_host : (w : World) (t : Taken) → IsKept w → TakenOut w t → KeepsOr w t (carried_by_host w.edge t.frame)
 carried_at_host w t kept out = by (made w.edge.domains t.frame.domain (Carry t.frame.number)) refl
   where
-    by : (o : Option Made) → made w.edge.domains t.frame.domain (Carry t.frame.number) ≡ o → IsKept (ended w t (emitted_if w.edge (Host t.frame.domain) o))
+    by : (o : Option Made) → made w.edge.domains t.frame.domain (Carry t.frame.number) ≡ o → KeepsOr w t (emitted_if w.edge (Host t.frame.domain) o)
     by None e = carried_with w t (Host t.frame.domain) None kept out e (λ h. absurd cc)
     by (Some m) e =
         let b = made_from w.edge.domains (Carry t.frame.number) (place_of w.edge.domains t.frame.domain) m e in
@@ -103,14 +111,14 @@ found_home : (ds : List DomainView) (domain : ℕ) (place : Option ℕ) → is_o
 found_home ds domain None h = absurd cc
 found_home ds domain (Some number) h = (number, refl)
 
-carried_at_function : (w : World) (t : Taken) (function : ℕ) → IsKept w → TakenOut w t → IsKept (ended w t (carried_by_function w.edge function t.frame))
+carried_at_function : (w : World) (t : Taken) (function : ℕ) → IsKept w → TakenOut w t → KeepsOr w t (carried_by_function w.edge function t.frame)
 carried_at_function w t function kept out = by (is_function_of w.edge.domains function t.frame.domain) refl
   where
-    by : (b : Bool) → is_function_of w.edge.domains function t.frame.domain ≡ b → IsKept (ended w t (emitted_if w.edge (Function function) (cond b (made w.edge.domains t.frame.domain (Carry t.frame.number)) None)))
+    by : (b : Bool) → is_function_of w.edge.domains function t.frame.domain ≡ b → KeepsOr w t (emitted_if w.edge (Function function) (cond b (made w.edge.domains t.frame.domain (Carry t.frame.number)) None))
     by true h =
         let home = found_home w.edge.domains t.frame.domain (place_of_function w.edge.domains function) h in
         carried_with w t (Function function) (made w.edge.domains t.frame.domain (Carry t.frame.number)) kept out refl (λ made. kept.settled.boxed (Function function) home.0 home.1)
-    by false h = kept_stray w t kept out
+    by false h = λ other otherwise. otherwise
 
 -- nothing answers a completion
 silent : (w : World) (t : Taken) (m : Made) → made w.edge.domains t.frame.domain (Deliver t.frame.number) ≡ Some m → m.sent ≡ None
@@ -118,22 +126,34 @@ silent w t m e =
     let b = made_from w.edge.domains (Deliver t.frame.number) (place_of w.edge.domains t.frame.domain) m e in
     ap (λ (x : Made). x.sent) (sym b.is) ∙ ap (option_map (descriptor_of b.d.share.domain _)) (deliver_silent b.d.share b.d.state t.frame.number b.c b.legal)
 
-delivered_to : (w : World) (t : Taken) → IsKept w → TakenOut w t → IsKept (ended w t (delivered w.edge t.frame))
+delivered_to : (w : World) (t : Taken) → IsKept w → TakenOut w t → KeepsOr w t (delivered w.edge t.frame)
 delivered_to w t kept out = by (made w.edge.domains t.frame.domain (Deliver t.frame.number)) refl
   where
-    by : (o : Option Made) → made w.edge.domains t.frame.domain (Deliver t.frame.number) ≡ o → IsKept (ended w t (option_map (λ (m : Made). record { domains = m.domains; outboxes = w.edge.outboxes }) o))
-    by None e = kept_stray w t kept out
-    by (Some m) e =
+    by : (o : Option Made) → made w.edge.domains t.frame.domain (Deliver t.frame.number) ≡ o → KeepsOr w t (option_map (λ (m : Made). record { domains = m.domains; outboxes = w.edge.outboxes }) o)
+    by None e = λ other otherwise. otherwise
+    by (Some m) e = λ other otherwise.
         kept_end w t (Deliver t.frame.number) m w.edge.outboxes kept out (λ d c h. deliver_ends d.share d.state t.frame.number c h) e (λ origin. refl)
         (subst (λ (o : Option Descriptor). Changed (flat_map waiting_in w.edge.outboxes) (flat_map waiting_in w.edge.outboxes) [] (option_to_list o)) (sym (silent w t m e)) (unchanged (flat_map waiting_in w.edge.outboxes)))
 
 -- ---- the host
 
+-- an alien packet at the host, or a stray one
+otherwise_at_host : (w : World) (t : Taken) → IsKept w → TakenOut w t → IsKept (ended w t (alien_at_host w.routes.ports w.edge t.frame))
+otherwise_at_host w t kept out =
+    let receiver = receiver_at_host w.routes.ports w.edge.domains t.frame in
+    kept_alien w t (Host receiver) (place_of w.edge.domains receiver) (Ingress to_host) kept out refl (kept_stray w t kept out)
+
+ended_at_host : (w : World) (t : Taken) (e : Ending) → IsKept w → TakenOut w t → IsKept (ended w t (edge_by_host w.routes.ports w.edge t.frame e))
+ended_at_host w t Relay kept out = otherwise_at_host w t kept out
+ended_at_host w t Carry kept out = carried_at_host w t kept out (alien_at_host w.routes.ports w.edge t.frame) (otherwise_at_host w t kept out)
+ended_at_host w t Deliver kept out = delivered_to w t kept out (alien_at_host w.routes.ports w.edge t.frame) (otherwise_at_host w t kept out)
+ended_at_host w t Nobody kept out = otherwise_at_host w t kept out
+
 rooted_as : (w w' : World) (class : Class) (t : Taken) (e : Ending) → IsKept w → TakenOut w t → rooted_by w class t e ≡ Some w' → IsKept w'
 rooted_as w w' class t Relay kept out is = kept_relayed w w' t class (sender_of w.tree.links from_host) kept out refl is
-rooted_as w w' class t Carry kept out is = subst IsKept (some_is (ended w t (carried_by_host w.edge t.frame)) w' is) (carried_at_host w t kept out)
-rooted_as w w' class t Deliver kept out is = subst IsKept (some_is (ended w t (delivered w.edge t.frame)) w' is) (delivered_to w t kept out)
-rooted_as w w' class t Nobody kept out is = subst IsKept (some_is (with_stray w t.channels t.frame) w' is) (kept_stray w t kept out)
+rooted_as w w' class t Carry kept out is = subst IsKept (some_is (ended w t (edge_by_host w.routes.ports w.edge t.frame Carry)) w' is) (ended_at_host w t Carry kept out)
+rooted_as w w' class t Deliver kept out is = subst IsKept (some_is (ended w t (edge_by_host w.routes.ports w.edge t.frame Deliver)) w' is) (ended_at_host w t Deliver kept out)
+rooted_as w w' class t Nobody kept out is = subst IsKept (some_is (ended w t (edge_by_host w.routes.ports w.edge t.frame Nobody)) w' is) (ended_at_host w t Nobody kept out)
 
 rooted_if : (w w' : World) (class : Class) (o : Option Taken) → IsKept w → ((t : Taken) → o ≡ Some t → TakenOut w t) → rooted w class o ≡ Some w' → IsKept w'
 rooted_if w w' class None kept out is = absurd cc
@@ -145,11 +165,15 @@ kept_root w w' class kept is =
 
 -- ---- a function
 
+otherwise_at_function : (w : World) (function : ℕ) (t : Taken) → IsKept w → TakenOut w t → IsKept (ended w t (alien_at_function w.edge function t.frame))
+otherwise_at_function w function t kept out =
+    kept_alien w t (Function function) (place_of_function w.edge.domains function) (Ingress (to_function function)) kept out refl (kept_stray w t kept out)
+
 arrived_as : (w : World) (function : ℕ) (t : Taken) (e : Ending) → IsKept w → TakenOut w t → IsKept (arrived_by w function t e)
-arrived_as w function t Relay kept out = kept_stray w t kept out
-arrived_as w function t Carry kept out = carried_at_function w t function kept out
-arrived_as w function t Deliver kept out = delivered_to w t kept out
-arrived_as w function t Nobody kept out = kept_stray w t kept out
+arrived_as w function t Relay kept out = otherwise_at_function w function t kept out
+arrived_as w function t Carry kept out = carried_at_function w t function kept out (alien_at_function w.edge function t.frame) (otherwise_at_function w function t kept out)
+arrived_as w function t Deliver kept out = delivered_to w t kept out (alien_at_function w.edge function t.frame) (otherwise_at_function w function t kept out)
+arrived_as w function t Nobody kept out = otherwise_at_function w function t kept out
 
 arrived_if : (w w' : World) (function : ℕ) (o : Option Taken) → IsKept w → ((t : Taken) → o ≡ Some t → TakenOut w t) → arrived w function o ≡ Some w' → IsKept w'
 arrived_if w w' function None kept out is = absurd cc

@@ -1,5 +1,5 @@
 -- A course names a lane of the port's switch.
-use Rattle.std.proofs.Common.{◌≡◌, ℕ, suc, ◌+◌, ◌<◌, ◌≤◌, Bool, true, false, cond, List, [], ◌∷◌, length, Option, Some, None, refl, sym, ap, ◌∙◌, arith}
+use Rattle.std.proofs.Common.{◌≡◌, ℕ, suc, Bool, true, false, cond, List, [], ◌∷◌, length, Option, Some, None, refl, sym, arith}
 use Rattle.std.specs.List.{position}
 use Rattle.std.specs.Option.{option_map}
 use Rattle.std.proofs.lemmas.List.Quantifiers.{position-Some}
@@ -8,7 +8,6 @@ use Rattle.fab_types.specs.declared.head.Parties.{Parties}
 use Rattle.fab_types.specs.declared.head.Parties.TheVariants.{Upward, Downward, Answer}
 use Rattle.fab_types.specs.declared.violation.Check.{Check}
 use Rattle.layout.specs.declared.lines.PortLine.{PortLine}
-use Rattle.layout.specs.Tree.{id_below}
 use Rattle.acs.specs.declared.vetting.Verdict.{Verdict}
 use Rattle.acs.specs.declared.vetting.Verdict.TheVariants as verdict
 use Rattle.acs.specs.Redirection.{redirected}
@@ -20,9 +19,9 @@ use Rattle.bridge.specs.Bridges.{Tree}
 use Rattle.bridge.specs.Routes.{route_of, target_of}
 use Rattle.port.specs.declared.config.Exit.{Exit}
 use Rattle.port.specs.declared.course.Course.{Course}
-use Rattle.port.specs.declared.course.Course.TheVariants.{Forward, Stop, Stray}
+use Rattle.port.specs.declared.course.Course.TheVariants.{Stop, Stray}
 use Rattle.port.specs.Configs.{Config, lane_to, leads_to}
-use Rattle.port.specs.Courses.{IsWithin, course_at, course_of, down_by, down_lane, reported_by, routed, stopped, stopped_from, tested, up_by}
+use Rattle.port.specs.Courses.{IsWithin, course_at, course_of, down_by, down_lane, reported_by, routed, stopped_from, tested, up_by}
 
 lane_by : (exits : List Exit) (p : Exit → Bool) (o : Option ℕ) → o ≡ position p exits → IsWithin (length exits) (down_lane (option_map suc o))
 lane_by exits p None is = tt

@@ -1,31 +1,26 @@
 -- What an entry makes of what a domain has in flight: one packet leaves, or none, and one joins, or none.
-use Rattle.std.proofs.Common.{◌≡◌, ◌≢◌, ◌⊎◌, inl, inr, ℕ, zero, suc, ◌+◌, ◌<◌, ◌==◌, ◌&&◌, Bool, true, false, cond, eqb, List, [], ◌∷◌, ◌++◌, length, set, Option, Some, None, refl, sym, ap, ◌∙◌, subst, arith, eq-eqb, eqb-true, ne_eqb}
-use Rattle.std.specs.Prelude.{All, count_by, option_map, option_to_list, slice_set}
+use Rattle.std.proofs.Common.{◌≡◌, ◌≢◌, ◌⊎◌, inl, inr, ℕ, zero, suc, ◌+◌, ◌<◌, ◌==◌, Bool, false, cond, List, [], ◌∷◌, ◌++◌, length, set, Option, Some, None, refl, sym, ap, ◌∙◌, subst, arith, eq-eqb, ne_eqb}
+use Rattle.std.specs.Prelude.{option_map, slice_set}
 use Rattle.std.proofs.lemmas.Bool.{cases_eq}
-use Rattle.std.proofs.lemmas.List.Elements.{All-cons, All-nil}
-use Rattle.std.proofs.lemmas.List.{length-set}
 use Rattle.fab_types.specs.declared.faults.begin.MmioFault.{MmioFault}
 use Rattle.fab_types.specs.declared.faults.begin.SubmitFault.{SubmitFault}
 use Rattle.fab_types.specs.declared.faults.begin.TickFault.{TickFault}
-use Rattle.frame_log.specs.Descriptor.{Descriptor}
-use Rattle.function.specs.declared.plan.Plan.{Plan}
+use Rattle.fab_types.specs.declared.head.Parties.{Parties}
+use Rattle.fab_types.specs.declared.place.Place.{Place}
 use Rattle.function.specs.Plans.{plan_of}
 use Rattle.layout.specs.Share.{Share}
 use Rattle.domain.specs.declared.access.HostAccess.{HostAccess}
-use Rattle.domain.specs.declared.entry.Entry.{Entry}
-use Rattle.domain.specs.declared.entry.Entry.TheVariants.{Carry, Deliver, Mmio, Refuse, Submit, Tick}
+use Rattle.domain.specs.declared.entry.Entry.TheVariants.{Alien, Carry, Deliver, Mmio, Refuse, Submit, Tick}
 use Rattle.domain.specs.Answers.{bar_of}
 use Rattle.domain.specs.Deliveries.{arrival, arrived}
 use Rattle.domain.specs.Ends.{replied}
-use Rattle.domain.specs.Heads.{descriptor_of}
 use Rattle.domain.specs.HostAccesses.{mmio_fault, mmio_unless, mmio_with, tag_for}
 use Rattle.domain.specs.Machine.{change}
 use Rattle.domain.specs.State.{Alone, Change, Emission, emits_nothing, item_at, without}
 use Rattle.domain.specs.Submits.{submit_fault, submit_unless}
 use Rattle.domain.specs.Ticks.{sent_by, tick_fault, tick_unless, ticked, ticks, ticks_by}
-use Rattle.domain.proofs.FlightLemmas.{item_push}
-use Rattle.domain.proofs.Leaving.{carry_flight, deliver_flight, joined, refuse_flight}
-use Rattle.fabric_core.specs.Places.{is_numbered, times}
+use Rattle.domain.proofs.Leaving.{alien_flight, carry_flight, deliver_flight, joined, refuse_flight}
+use Rattle.domain.specs.Consumed.{times_waiting}
 
 abbrev some : {A : Type 0} → A → Option A
 some x = Some x
@@ -79,6 +74,10 @@ accesses_unless share s access (Some fault) c e = absurd cc
 pub mmio_begins : (share : Share) (s : Alone) (access : HostAccess) (c : Change) → change share s (Mmio access) ≡ Some c → Begins s c
 mmio_begins share s access c e = accesses_unless share s access (mmio_fault share s access) c e
 
+-- nothing leaves by an alien packet, since its number is its home's
+pub alien_begins : (share : Share) (s : Alone) (place : Place) (sender : Parties) (b : List ℕ) (c : Change) → change share s (Alien place sender b) ≡ Some c → Begins s c
+alien_begins share s place sender b c e = alien_flight share s place sender b c e
+
 pub refuse_ends : (share : Share) (s : Alone) (n : ℕ) (c : Change) → change share s (Refuse n) ≡ Some c → EndsOne s n c
 refuse_ends share s n c e = refuse_flight share s n c e
 
@@ -115,15 +114,15 @@ suc_other n = ne_eqb (suc n) 0 (λ e. omega arith)
 zero_other : (n : ℕ) → (0 == suc n) ≡ false
 zero_other n = ne_eqb 0 (suc n) (λ e. omega arith)
 
-pub joined_times : (xs : List (Option Emission)) (e : Emission) (n : ℕ) → times (item_at (xs ++ Some e ∷ []) n) ≡ times (item_at xs n) + one_if (length xs == n)
+pub joined_times : (xs : List (Option Emission)) (e : Emission) (n : ℕ) → times_waiting (item_at (xs ++ Some e ∷ []) n) ≡ times_waiting (item_at xs n) + one_if (length xs == n)
 joined_times [] e zero = refl
 joined_times [] e (suc n) = let no_match = ap one_if (zero_other n) in omega (arith, no_match)
 joined_times (x ∷ xs) e zero = let no_match = ap one_if (suc_other (length xs)) in omega (arith, no_match)
 joined_times (x ∷ xs) e (suc n) = let same = ap one_if (suc_same (length xs) n) in omega (arith, joined_times xs e n, same)
 
-pub set_times : (xs : List (Option Emission)) (k n : ℕ) (e : Emission) → item_at xs k ≡ Some e → times (item_at (set xs k None) n) + one_if (k == n) ≡ times (item_at xs n)
+pub set_times : (xs : List (Option Emission)) (k n : ℕ) (e : Emission) → item_at xs k ≡ Some e → times_waiting (item_at (set xs k None) n) + one_if (k == n) ≡ times_waiting (item_at xs n)
 set_times [] k n e is = absurd cc
-set_times (x ∷ xs) zero zero e is = ap times (sym is)
+set_times (x ∷ xs) zero zero e is = ap times_waiting (sym is)
 set_times (x ∷ xs) zero (suc n) e is = let no_match = ap one_if (zero_other n) in omega (arith, no_match)
 set_times (x ∷ xs) (suc k) zero e is = let no_match = ap one_if (suc_other k) in omega (arith, no_match)
 set_times (x ∷ xs) (suc k) (suc n) e is = let same = ap one_if (suc_same k n) in omega (arith, set_times xs k n e is, same)

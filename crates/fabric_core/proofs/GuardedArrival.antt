@@ -13,7 +13,7 @@ use Rattle.domain.specs.declared.entry.Entry.TheVariants.{Carry}
 use Rattle.domain.specs.Domains.{DomainView}
 use Rattle.domain.specs.Machine.{replay}
 use Rattle.domain.specs.State.{start_state}
-use Rattle.edge.specs.Edges.{carried_by_function, emitted_if, is_function_of, is_of_domain}
+use Rattle.edge.specs.Edges.{EdgeView, carried_by_function, emitted_if, is_function_of, is_of_domain}
 use Rattle.port.specs.Lanes.{Class}
 use Rattle.tenants.specs.Tenants.{domain_at, made, place_of_function}
 use Rattle.topology.specs.Links.{sender_of}
@@ -23,10 +23,11 @@ use Rattle.passage.proofs.Hosts.{delivers}
 use Rattle.passage.proofs.Reaching.{own_of}
 use Rattle.passage.proofs.Replies.{carried_up}
 use Rattle.passage.proofs.Taking.{accesses, home_at, meant_at, reply_at, request_at}
-use Rattle.fabric_core.specs.Endings.{Ending, Taken, arrive, arrived, arrived_by, ended, ending_at_function, ending_by_function, taken, to_function}
+use Rattle.fabric_core.specs.Endings.{Ending, Taken, arrive, arrived, arrived_by, ended, ending_at_function, ending_by_function, own_by_function, taken, to_function}
 use Rattle.fabric_core.specs.Invariant.{IsKept}
 use Rattle.fabric_core.specs.Soundness.{IsGuardedFabric}
 use Rattle.fabric_core.specs.World.{World}
+use Rattle.fabric_core.proofs.GuardedAliens.{home_at_function}
 use Rattle.fabric_core.proofs.GuardedEnds.{IsLegalThere, SoundlyTaken, guarded_carry, guarded_delivery, soundly_taken}
 use Rattle.fabric_core.proofs.SoundDomains.{share_is}
 
@@ -81,24 +82,31 @@ module _ (w : World) (g : IsGuardedFabric w) (function : ℕ) (home : FunctionHo
       (guarded_carry w g (to_function function) t (Function function) k (carry_legal request)
       (λ number s c e flies legal sent well. inr (carried_up g.platform g.guarded t.frame number function s c e listed k.sound request flies legal sent well)))
 
-  delivered_here : is_reply t.frame.head.header ≡ true → IsGuardedFabric (arrived_by w function t Ending.Deliver)
+  -- what its home's entry leaves
+  abbrev left_by : Ending → World
+  left_by ending = ended w t (own_by_function w.edge function t.frame ending)
+
+  delivered_here : is_reply t.frame.head.header ≡ true → IsGuardedFabric (left_by Ending.Deliver)
   delivered_here reply =
       guarded_delivery w g (to_function function) t k (λ d old share flies. delivers g.platform g.guarded t.frame d.state (Function function) (reply_at g.platform g.guarded function t.frame listed k.sound reply) flies)
 
   meant : (h : Header) → t.frame.head.header ≡ h → IsMeantFor g.platform t.frame.domain function t.frame.head.parties h
   meant h same = subst (IsMeantFor g.platform t.frame.domain function t.frame.head.parties) same (meant_at g.platform g.guarded function t.frame listed k.sound)
 
-  arrived_as : (h : Header) → t.frame.head.header ≡ h → IsGuardedFabric (arrived_by w function t (ending_by_function t.frame.head.parties h))
+  arrived_as : (h : Header) → t.frame.head.header ≡ h → IsGuardedFabric (left_by (ending_by_function t.frame.head.parties h))
   arrived_as header.Malformed same = absurd (meant header.Malformed same)
   arrived_as (header.Memory requester address_type address) same =
       let request = ap is_reply same in
-      subst (λ (p : Parties). IsGuardedFabric (arrived_by w function t (ending_by_function p (header.Memory requester address_type address)))) (sym (request_at g.platform g.guarded function t.frame listed k.sound request)) (carries request)
+      subst (λ (p : Parties). IsGuardedFabric (left_by (ending_by_function p (header.Memory requester address_type address)))) (sym (request_at g.platform g.guarded function t.frame listed k.sound request)) (carries request)
   arrived_as (header.OtherRequest requester) same = absurd (meant (header.OtherRequest requester) same)
   arrived_as (header.Completion target relaxed_ordering) same = delivered_here (ap is_reply same)
 
+  arrived_own : IsGuardedFabric (left_by (ending_at_function w function t.frame))
+  arrived_own =
+      subst (λ (b : Bool). IsGuardedFabric (left_by (cond b (ending_by_function t.frame.head.parties t.frame.head.header) Ending.Nobody))) (sym of_domain) (arrived_as t.frame.head.header refl)
+
   pub guarded_arrived : IsGuardedFabric (arrived_by w function t (ending_at_function w function t.frame))
-  guarded_arrived =
-      subst (λ (b : Bool). IsGuardedFabric (arrived_by w function t (cond b (ending_by_function t.frame.head.parties t.frame.head.header) Ending.Nobody))) (sym of_domain) (arrived_as t.frame.head.header refl)
+  guarded_arrived = subst (λ (o : Option EdgeView). IsGuardedFabric (ended w t o)) (sym (home_at_function w g function t.frame (ending_at_function w function t.frame))) arrived_own
 
 arrived_if : (w w' : World) (g : IsGuardedFabric w) (function : ℕ) (o : Option Taken) → FunctionHome w g function → ((t : Taken) → o ≡ Some t → SoundlyTaken w g (to_function function) t) → arrived w function o ≡ Some w' → IsGuardedFabric w'
 arrived_if w w' g function None home out is = absurd cc

@@ -9,6 +9,7 @@ use Rattle.fab_types.specs.declared.head.Header.{Header}
 use Rattle.fab_types.specs.declared.head.Header.TheVariants as header
 use Rattle.fab_types.specs.declared.head.Parties.{Parties}
 use Rattle.fab_types.specs.declared.place.Origin.TheVariants.{Host}
+use Rattle.edge.specs.Edges.{EdgeView}
 use Rattle.link.specs.Channels.{is_full}
 use Rattle.port.specs.Lanes.{Class}
 use Rattle.topology.specs.Links.{sender_of}
@@ -17,10 +18,11 @@ use Rattle.hierarchy.specs.Moves.{channel_at, put_at}
 use Rattle.passage.specs.Sound.{IsSound, is_reply}
 use Rattle.passage.proofs.Hosts.{AtHost, at_host}
 use Rattle.passage.proofs.Replies.{carried_down}
-use Rattle.fabric_core.specs.Endings.{Ending, Taken, ending_by_host, from_host, relayed, request_at_host, root, rooted, rooted_by, taken, to_host}
+use Rattle.fabric_core.specs.Endings.{Ending, Taken, edge_by_host, ended, ending_by_host, from_host, own_by_host, relayed, request_at_host, root, rooted, rooted_by, taken, to_host}
 use Rattle.fabric_core.specs.Invariant.{IsKept}
 use Rattle.fabric_core.specs.Soundness.{IsGuardedFabric}
 use Rattle.fabric_core.specs.World.{World, with_channels}
+use Rattle.fabric_core.proofs.GuardedAliens.{home_at_host}
 use Rattle.fabric_core.proofs.GuardedEnds.{SoundlyTaken, guarded_carry, guarded_delivery, soundly_taken}
 use Rattle.fabric_core.proofs.Guarding.{guarded_with, sound_from}
 use Rattle.fabric_core.proofs.SoundLinks.{sound_put}
@@ -36,11 +38,16 @@ module _ (w w' : World) (g : IsGuardedFabric w) (class : Class) (t : Taken) (k :
   here : AtHost g.platform g.guarded t.frame
   here = at_host g.platform g.guarded t.frame k.sound
 
+  -- what its home's entry leaves is what is left
+  as_own : (ending : Ending) → IsGuardedFabric (ended w t (own_by_host w.edge t.frame ending)) → IsGuardedFabric (ended w t (edge_by_host w.routes.ports w.edge t.frame ending))
+  as_own ending own = subst (λ (o : Option EdgeView). IsGuardedFabric (ended w t o)) (sym (home_at_host w g t.frame ending)) own
+
   carried : is_reply t.frame.head.header ≡ false → rooted_by w class t Ending.Carry ≡ Some w' → IsGuardedFabric w'
   carried request is =
       subst IsGuardedFabric (same_Some _ w' is)
+      (as_own Ending.Carry
       (guarded_carry w g to_host t (Host t.frame.domain) k (λ d replayed share flies. here.carried request d.state flies)
-      (λ number s c e flies legal sent well. carried_down g.platform g.guarded t.frame number s c e k.sound request flies legal sent well))
+      (λ number s c e flies legal sent well. carried_down g.platform g.guarded t.frame number s c e k.sound request flies legal sent well)))
 
   requested : is_reply t.frame.head.header ≡ false → rooted_by w class t (request_at_host t.frame.head.parties) ≡ Some w' → IsGuardedFabric w'
   requested request is = carried request (ap (λ (p : Parties). rooted_by w class t (request_at_host p)) (sym (here.request request).parties) ∙ is)
@@ -62,7 +69,7 @@ module _ (w w' : World) (g : IsGuardedFabric w) (class : Class) (t : Taken) (k :
       let zero = eqb-true (bus_of target) 0 own in
       let host = eq-eqb target (host_of t.frame.domain) (here.reply target relaxed_ordering same zero).0 in
       subst IsGuardedFabric (same_Some _ w' (ap (λ (b : Bool). rooted_by w class t (cond b Ending.Deliver Ending.Nobody)) (sym host) ∙ is))
-      (guarded_delivery w g to_host t k (λ d replayed share flies. here.delivered target relaxed_ordering same zero d.state flies))
+      (as_own Ending.Deliver (guarded_delivery w g to_host t k (λ d replayed share flies. here.delivered target relaxed_ordering same zero d.state flies)))
   completed target relaxed_ordering false same own is =
       relays_to (sender_of w.tree.links from_host) refl (here.relayed target relaxed_ordering same (λ e. false≢true (sym own ∙ eq-eqb (bus_of target) 0 e))) is
 

@@ -44,10 +44,12 @@ use Rattle.passage.proofs.Taking.{refuses}
 use Rattle.passage.proofs.Trees.{IsPort}
 use Rattle.fabric_core.specs.Endings.{Taken, taken_at}
 use Rattle.fabric_core.specs.Invariant.{IsKept}
-use Rattle.fabric_core.specs.Passing.{Site, answer_waits, answered_at, is_full_at, lane_end, may_pass, pass, passed, passed_at, passed_by, passed_number, port_number, refused_by, strayed}
+use Rattle.fabric_core.specs.Losing.{pass}
+use Rattle.fabric_core.specs.Passing.{Site, answer_waits, answered_at, is_full_at, lane_end, may_pass, passed, passed_at, passed_by, passed_number, port_number, refused_by, strayed}
 use Rattle.fabric_core.specs.Soundness.{IsGuardedFabric}
 use Rattle.fabric_core.specs.World.{World, with_channels}
 use Rattle.fabric_core.proofs.Flying.{refuse_ends}
+use Rattle.fabric_core.proofs.GuardedAliens.{passes_as_turned}
 use Rattle.fabric_core.proofs.GuardedEnds.{SoundlyTaken, answer_sound, guarded_end, legal_at_home, soundly_taken}
 use Rattle.fabric_core.proofs.Guarding.{guarded_with, sound_from}
 use Rattle.fabric_core.proofs.Sites.{Standing, lane_sends, own_lane_end, sent_below, standing}
@@ -182,4 +184,4 @@ passed_number_if up w w' port class (Some i) kept g e is =
     passed_standing up w w' kept g class i (slice_index_or w.tree.places i no_place) (standing g.platform w port i g.of_it (omega (arith, less, many)) e) is
 
 pub guarded_pass : RoutesUp → (w w' : World) (port : ℕ) (class : Class) → IsKept w → IsGuardedFabric w → pass w port class ≡ Some w' → IsGuardedFabric w'
-guarded_pass up w w' port class kept g is = passed_number_if up w w' port class (index_of w.tree.places port) kept g refl is
+guarded_pass up w w' port class kept g is = passed_number_if up w w' port class (index_of w.tree.places port) kept g refl (sym (passes_as_turned w g port class) ∙ is)

@@ -9,7 +9,7 @@ use Rattle.fabric_core.specs.World.{World}
 use Rattle.fabric_core.proofs.Beginning.{kept_access, kept_submit, kept_tick}
 use Rattle.fabric_core.proofs.Concluding.{kept_arrive, kept_root}
 use Rattle.fabric_core.proofs.Moving.{kept_enter, kept_step, receive_moves, send_moves, tell_moves}
-use Rattle.fabric_core.proofs.Turning.{kept_pass}
+use Rattle.fabric_core.proofs.Passing.{kept_pass}
 
 pub kept_after : (w w' : World) (event : Event) → IsKept w → effect w event ≡ Some w' → IsKept w'
 kept_after w w' (Submit function bytes) kept is = kept_submit w w' function bytes kept is

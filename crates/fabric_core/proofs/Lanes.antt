@@ -1,5 +1,5 @@
 -- The lanes out of a node, as a port sees them, among all directions.
-use Rattle.std.proofs.Common.{◌≡◌, ◌≢◌, ℕ, zero, suc, ◌<◌, Bool, true, false, List, [], ◌∷◌, ◌++◌, length, map, get_or, set, refl, sym, ap, ◌∙◌, arith}
+use Rattle.std.proofs.Common.{◌≡◌, ◌≢◌, ℕ, zero, suc, ◌<◌, List, [], ◌∷◌, ◌++◌, length, map, get_or, set, refl, sym, ap, ◌∙◌, arith}
 use Rattle.std.proofs.lemmas.List.{append-nil, get_or-set_other, set-get_or, set_comm}
 use Rattle.fab_types.specs.declared.class.Class.{Class}
 use Rattle.frame_log.specs.Descriptor.{Descriptor}
@@ -84,23 +84,3 @@ twice (row ∷ cs) (suc n) lane first second = ap (λ (l : List (List Channel)).
 -- what was taken and put back is as it was
 pub left_back : (cs : List (List Channel)) (end : LinkEnd) (left : List Descriptor) → left_at (left_at cs end left) end (channel_at cs end).ingress ≡ cs
 left_back cs end left = twice cs end.node end.lane left (channel_at cs end).ingress ∙ left_same cs end
-
--- ---- what a receiver leaves at the senders
-
-sent_row : (row : List Channel) (lane i : ℕ) (waiting : List Descriptor) → (get_or (left_row row lane waiting) i no_channel).egress ≡ (get_or row i no_channel).egress
-sent_row [] lane i waiting = refl
-sent_row (c ∷ row) zero zero waiting = refl
-sent_row (c ∷ row) zero (suc i) waiting = refl
-sent_row (c ∷ row) (suc lane) zero waiting = refl
-sent_row (c ∷ row) (suc lane) (suc i) waiting = sent_row row lane i waiting
-
-sent_rows : (cs : List (List Channel)) (n m lane i : ℕ) (waiting : List Descriptor) → (get_or (get_or (set cs n (left_row (get_or cs n []) lane waiting)) m []) i no_channel).egress ≡ (get_or (get_or cs m []) i no_channel).egress
-sent_rows [] n m lane i waiting = refl
-sent_rows (row ∷ cs) zero zero lane i waiting = sent_row row lane i waiting
-sent_rows (row ∷ cs) zero (suc m) lane i waiting = refl
-sent_rows (row ∷ cs) (suc n) zero lane i waiting = refl
-sent_rows (row ∷ cs) (suc n) (suc m) lane i waiting = sent_rows cs n m lane i waiting
-
--- what is taken at one end leaves the places at another
-pub egress_left : (cs : List (List Channel)) (end exit : LinkEnd) (waiting : List Descriptor) → (channel_at (left_at cs end waiting) exit).egress ≡ (channel_at cs exit).egress
-egress_left cs end exit waiting = sent_rows cs end.node exit.node end.lane exit.lane waiting

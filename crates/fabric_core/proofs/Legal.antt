@@ -1,21 +1,19 @@
 -- An access that isn't refused is legal, so that memory is refused only to what would move.
-use Rattle.std.proofs.Common.{◌≡◌, ℕ, ◌&&◌, Bool, true, false, not, cond, List, ◌∷◌, [], Option, Some, None, Result, Ok, Err, refl, sym, ap, ◌∙◌, subst}
+use Rattle.std.proofs.Common.{◌≡◌, ℕ, ◌&&◌, Bool, true, false, not, cond, List, Option, Some, None, Result, Err, refl, sym, ap, ◌∙◌}
 use Rattle.std.specs.Prelude.{nat_le}
 use Rattle.std.specs.List.{find, list_any}
 use Rattle.std.specs.Option.{IsSome, is_none, is_some, option_map}
-use Rattle.fab_types.specs.declared.faults.begin.MmioFault.{MmioFault}
 use Rattle.fab_types.specs.declared.faults.begin.MmioFault.TheVariants as mmio
 use Rattle.layout.proofs.Bools.{any-missing}
 use Rattle.layout.specs.Owners.{is_own_function}
 use Rattle.layout.specs.Share.{Share}
 use Rattle.domain.specs.declared.access.HostAccess.{HostAccess}
-use Rattle.domain.specs.declared.entry.Entry.{Entry}
 use Rattle.domain.specs.declared.entry.Entry.TheVariants as entry
 use Rattle.domain.specs.Answers.{bar_of}
 use Rattle.domain.specs.Domains.{DomainView}
 use Rattle.domain.specs.HostAccesses.{is_in_page, mmio_fault, mmio_with, size_of, tag_for}
 use Rattle.domain.specs.Machine.{change}
-use Rattle.domain.specs.State.{Alone, Change}
+use Rattle.domain.specs.State.{Alone}
 use Rattle.tenants.specs.Tenants.{domain_at, made, made_at, made_by, made_of, mmio_refusal, mmio_refusal_by, place_of}
 
 -- ---- what a call's clauses say of its refusal
@@ -75,7 +73,7 @@ accepted_tests true false true d is = absurd cc
 accepted_tests true false false d is = (refl, refl)
 accepted_tests false b c d is = absurd cc
 
-mmio_change : (d : DomainView) (x : HostAccess) → mmio_fault d.share d.state x ≡ None → IsSome (change d.share d.state (entry.Mmio x))
+pub mmio_change : (d : DomainView) (x : HostAccess) → mmio_fault d.share d.state x ≡ None → IsSome (change d.share d.state (entry.Mmio x))
 mmio_change d x is =
     let t = accepted_tests (is_own_function d.share x.function) (not (is_in_page x.offset (size_of x.operation))) (is_none (tag_for d.state.open_tags d.share.domain x.operation)) (nat_le d.share.budget d.state.counts.begins) is in
     let there : IsSome (bar_of d.share.functions x.function) = some_map (λ line. line.bar) _ (found_any _ d.share.functions (first_true _ _ t.0)) in

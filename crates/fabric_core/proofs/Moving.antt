@@ -1,13 +1,12 @@
 -- Packets that move within a link, or onto it, and what a fabric keeps of them.
-use Rattle.std.proofs.Common.{◌≡◌, ℕ, Bool, true, false, cond, List, [], ◌∷◌, ◌++◌, map, length, Option, Some, None, refl, sym, ap, ◌∙◌, subst}
+use Rattle.std.proofs.Common.{◌≡◌, Bool, true, false, cond, List, [], ◌∷◌, ◌++◌, Option, Some, None, refl, sym, subst}
 use Rattle.std.specs.Prelude.{IsSome, option_map}
 use Rattle.std.specs.Option.{option_and_then}
-use Rattle.std.specs.List.{flat_map}
 use Rattle.fab_types.specs.declared.place.Direction.{Direction}
 use Rattle.fab_types.specs.declared.place.Origin.{Origin}
 use Rattle.frame_log.specs.Descriptor.{Descriptor}
-use Rattle.edge.specs.Edges.{EdgeView, IsSettled, outbox_place, taken_from, waiting_at, waiting_of, with_waiting_at}
-use Rattle.link.specs.Channels.{Channel, has_room, is_full, received_of, receive, same_counters, send, sent_on, spent, tell, told_of, unspent}
+use Rattle.edge.specs.Edges.{EdgeView, IsSettled, outbox_place, taken_from, waiting_of}
+use Rattle.link.specs.Channels.{Channel, has_room, is_full, received_of, receive, same_counters, send, sent_on, spent, tell, unspent}
 use Rattle.port.specs.Lanes.{Class, class_of, eligible}
 use Rattle.topology.specs.Links.{sender_of}
 use Rattle.topology.specs.declared.nodes.LinkEnd.{LinkEnd}
@@ -75,7 +74,7 @@ stepped w w' end (Some c) kept there moves is =
     let channels = with_channel w.channels end c in
     let moved = on_links w.channels channels w.edge.outboxes w.ports w.strays [] [] (on_link w.channels end c [] [] there (moves c refl)) in
     subst IsKept (some_is (with_channels w channels) w' is)
-    (kept_with w channels w.edge w.violations w.strays kept (same_lanes w.channels end c) kept.settled
+    (kept_with w channels w.edge w.violations w.strays kept (same_lanes w.channels end c) kept.settled kept.shares
     (placed_moved w.edge.domains (frames_of w) (held channels w.edge.outboxes w.ports w.strays) (placed_of w kept) moved))
 
 -- a step of one direction of a link, which keeps its packets
@@ -108,7 +107,7 @@ entered w w' origin class end taken kept there e false is =
     (in_outboxes w.channels w.edge.outboxes edge.outboxes w.ports w.strays (taken.0 ∷ []) [] left)
     (on_links w.channels channels edge.outboxes w.ports w.strays [] (taken.0 ∷ []) (put_there w.channels end taken.0 there)) in
     subst IsKept (some_is (with_both w channels edge) w' is)
-    (kept_with w channels edge w.violations w.strays kept (same_lanes w.channels end (with_egress c (c.egress ++ taken.0 ∷ []))) (settled_taken w.edge origin taken.1 kept.settled)
+    (kept_with w channels edge w.violations w.strays kept (same_lanes w.channels end (with_egress c (c.egress ++ taken.0 ∷ []))) (settled_taken w.edge origin taken.1 kept.settled) kept.shares
     (placed_moved w.edge.domains (frames_of w) (held channels edge.outboxes w.ports w.strays) (placed_of w kept) moved))
 
 entered_from : (w w' : World) (origin : Origin) (class : Class) (found : Option LinkEnd) (taken : Descriptor × List Descriptor) → IsKept w → sender_of w.tree.links (link_of origin) ≡ found → eligible class (waiting_of w.edge.outboxes origin) ≡ Some taken

@@ -1,5 +1,5 @@
 -- The turn of the port of an ID, in a fabric.
-use Rattle.std.proofs.Common.{◌≡◌, ◌≢◌, ℕ, zero, suc, ◌+◌, ◌<◌, ◌≤◌, Bool, true, List, [], ◌∷◌, ◌++◌, All, length, map, get_or, Option, Some, None, refl, sym, ap, ◌∙◌, subst, arith}
+use Rattle.std.proofs.Common.{◌≡◌, ◌≢◌, ℕ, zero, suc, ◌<◌, true, List, [], ◌∷◌, ◌++◌, All, length, get_or, Option, Some, None, refl, sym, ap, ◌∙◌, subst, arith}
 use Rattle.std.specs.List.{flat_map}
 use Rattle.std.specs.Option.{IsSome, option_and_then}
 use Rattle.std.specs.Prelude.{◌==◌}
@@ -12,7 +12,6 @@ use Rattle.fab_types.specs.declared.outcome.Outcome.TheVariants.{Moved, Idle, Re
 use Rattle.fab_types.specs.declared.violation.Violation.{Violation}
 use Rattle.frame_log.specs.Descriptor.{Descriptor}
 use Rattle.ordering.proofs.Leaving.{taken_leaves}
-use Rattle.domain.specs.Domains.{DomainView}
 use Rattle.edge.specs.Edges.{EdgeView}
 use Rattle.link.specs.Channels.{Channel}
 use Rattle.port.specs.Lanes.{class_of, eligible}
@@ -27,11 +26,14 @@ use Rattle.fabric_core.specs.declared.event.Event.TheVariants.{Pass}
 use Rattle.fabric_core.specs.Endings.{taken_at}
 use Rattle.fabric_core.specs.Events.{StepsTo}
 use Rattle.fabric_core.specs.Invariant.{IsFree, IsKept, IsPlaced}
-use Rattle.fabric_core.specs.Passing.{passed, passed_at, passed_number, site_at}
+use Rattle.fabric_core.specs.Losing.{Losing, losing, passed_unless}
+use Rattle.fabric_core.specs.Passing.{passed, passed_at, passed_number, site_at, turned}
 use Rattle.fabric_core.specs.Places.{IsFlown, frames_from, frames_of, frames_on}
+use Rattle.fabric_core.specs.Wanting.{NumberWants, OfTaken, PlaceWants, TurnWants}
 use Rattle.fabric_core.specs.World.{World, world_over}
 use Rattle.fabric_core.proofs.Courses.{course_within}
 use Rattle.fabric_core.proofs.Over.{over_parts}
+use Rattle.fabric_core.proofs.Renewing.{flown_of}
 use Rattle.fabric_core.proofs.Turns.{HasLanes, refuses, turns, unknown, wants}
 
 -- ---- all packets of a fabric, and those that wait at a receiver
@@ -70,11 +72,11 @@ flown_at w class input frame left all found =
 -- ---- by the port's place
 
 -- what a world becomes by an outcome that refuses no begin
-abbrev Gives : Option World → World → World → Outcome → Type 0
-Gives all old new Moved = all ≡ Some new
-Gives all old new Idle = (all ≡ None) × (new ≡ old)
-Gives all old new (Refused fault) = ⊥
-Gives all old new NoMemory = IsSome all × (new ≡ old)
+abbrev pub Gives : Option World → Type 0 → World → World → Outcome → Type 0
+Gives all wants old new Moved = all ≡ Some new
+Gives all wants old new Idle = (all ≡ None) × (new ≡ old)
+Gives all wants old new (Refused fault) = ⊥
+Gives all wants old new NoMemory = IsSome all × wants × (new ≡ old)
 
 module _ (h new : HierarchyView) (edge edge' : EdgeView) (violations violations' : List Violation) (strays : List Descriptor) (class : Class) (outcome : Outcome) (kept : IsKept (world_over h edge violations strays)) where
   abbrev here : World
@@ -86,8 +88,8 @@ module _ (h new : HierarchyView) (edge edge' : EdgeView) (violations violations'
   abbrev Passed : Option ℕ → Type 0
   Passed o = Passes refuses unknown wants true class outcome edge edge' violations violations' h new o
 
-  idle : (all : Option World) → all ≡ None → IsIdle refuses unknown wants true class outcome edge edge' violations violations' h new → Gives all here there outcome
-  idle all none i = subst (Gives all here there) (sym i.idle) (none, over_parts h new (channels h) h.ports edge edge' violations violations' strays i.rest.tree i.rest.routes i.same i.rest.ports i.known_same i.reported_same)
+  idle : (all : Option World) (P : Type 0) → all ≡ None → IsIdle refuses unknown wants true class outcome edge edge' violations violations' h new → Gives all P here there outcome
+  idle all P none i = subst (Gives all P here there) (sym i.idle) (none, over_parts h new (channels h) h.ports edge edge' violations violations' strays i.rest.tree i.rest.routes i.same i.rest.ports i.known_same i.reported_same)
 
   module _ (i : ℕ) (within : i < length h.tree.places) where
     abbrev place : PortPlace
@@ -116,31 +118,29 @@ module _ (h new : HierarchyView) (edge edge' : EdgeView) (violations violations'
         record { ways = many ∙ placed.fits.ways; own = placed.own }
 
     by_turn : (input : LinkEnd) → PassesFrom refuses unknown wants true class outcome edge edge' violations violations' h new i place.node (Some input) → input.node ≢ place.node → (o : Outcome) → outcome ≡ o
-        → Gives (option_and_then (passed here (site_at here i place) class) (taken_at (channels h) class (Some input))) here there o
+        → Gives (option_and_then (passed here (site_at here i place) class) (taken_at (channels h) class (Some input))) (OfTaken (TurnWants here (site_at here i place)) (taken_at (channels h) class (Some input))) here there o
     by_turn input t apart o is =
-        turns h new edge edge' violations violations' strays class outcome i place.node input t free.held free.kept apart lanes (λ head. course_within h.routes port.config head) (λ frame left found. flown_at here class input frame left kept.placed.flown found) o is
+        turns h new edge edge' violations violations' strays class outcome i place.node input t free.held free.kept apart lanes (λ head. course_within h.routes port.config head) (λ frame left found. flown_at here class input frame left (flown_of here kept) found) o is
 
-    by_input : (o : Option LinkEnd) → o ≡ place.input → PassesFrom refuses unknown wants true class outcome edge edge' violations violations' h new i place.node o → Gives (passed_at here class i place) here there outcome
-    by_input None is passes = idle (passed_at here class i place) (ap (λ (o : Option LinkEnd). option_and_then (passed here (site_at here i place) class) (taken_at (channels h) class o)) (sym is)) passes
+    by_input : (o : Option LinkEnd) → o ≡ place.input → PassesFrom refuses unknown wants true class outcome edge edge' violations violations' h new i place.node o → Gives (passed_at here class i place) (PlaceWants here class i place) here there outcome
+    by_input None is passes = idle (passed_at here class i place) (PlaceWants here class i place) (ap (λ (o : Option LinkEnd). option_and_then (passed here (site_at here i place) class) (taken_at (channels h) class o)) (sym is)) passes
     by_input (Some input) is passes =
         let elsewhere : IsFromElsewhere h.tree.lanes place.node (Some input) = subst (IsFromElsewhere h.tree.lanes place.node) (sym is) is_place.input in
-        let all : ◌≡◌ {A = Option World} (option_and_then (passed here (site_at here i place) class) (taken_at (channels h) class (Some input))) (passed_at here class i place) =
-        (ap (λ (o : Option LinkEnd). option_and_then (passed here (site_at here i place) class) (taken_at (channels h) class o)) is) in
-        subst (λ (a : Option World). Gives a here there outcome) all
+        subst (λ (o : Option LinkEnd). Gives (option_and_then (passed here (site_at here i place) class) (taken_at (channels h) class o)) (OfTaken (TurnWants here (site_at here i place)) (taken_at (channels h) class o)) here there outcome) is
         (by_turn input passes elsewhere.1 outcome refl)
 
-  by_index : (id : ℕ) (o : Option ℕ) → o ≡ index_of h.tree.places id → Passed o → Gives (passed_number here class o) here there outcome
-  by_index id None is passes = idle None refl passes
+  by_index : (id : ℕ) (o : Option ℕ) → o ≡ index_of h.tree.places id → Passed o → Gives (passed_number here class o) (NumberWants here class o) here there outcome
+  by_index id None is passes = idle None ⊥ refl passes
   by_index id (Some i) is passes =
       let found = position-Some (λ (place : PortPlace). place.id == id) h.tree.places i no_place (sym is) in
       by_input i found.0 (place_number h i).input refl passes
 
-  step_of : (id : ℕ) (o : Outcome) → Gives (passed_number here class (index_of h.tree.places id)) here there o → StepsTo here (Pass id class) o there
-  step_of id Moved g = g
-  step_of id Idle g = (g.0, refl, g.1)
-  step_of id (Refused fault) g = absurd g
-  step_of id NoMemory g = g
+  -- the turn of a port is what its event does, where the port is about to lose nothing
+  step_of : (id : ℕ) (o : Outcome) → losing here id class ≡ None → Gives (turned here id class) (NumberWants here class (index_of h.tree.places id)) here there o → StepsTo here (Pass id class) o there
+  step_of id Moved nothing g = ap (passed_unless here id class) nothing ∙ g
+  step_of id Idle nothing g = (ap (passed_unless here id class) nothing ∙ g.0, refl, g.1)
+  step_of id (Refused fault) nothing g = absurd g
+  step_of id NoMemory nothing g = (subst (λ (l : Option Losing). IsSome (passed_unless here id class l)) (sym nothing) g.0, g.1, g.2)
 
-  -- the turn of a port is what its event does
-  pub pass_step : (id : ℕ) → Passed (index_of h.tree.places id) → StepsTo here (Pass id class) outcome there
-  pass_step id passes = step_of id outcome (by_index id (index_of h.tree.places id) refl passes)
+  pub pass_step : (id : ℕ) → losing here id class ≡ None → Passed (index_of h.tree.places id) → StepsTo here (Pass id class) outcome there
+  pass_step id nothing passes = step_of id outcome nothing (by_index id (index_of h.tree.places id) refl passes)

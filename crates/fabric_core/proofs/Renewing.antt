@@ -1,5 +1,5 @@
 -- What a fabric keeps, of a world with other parts.
-use Rattle.std.proofs.Common.{◌≡◌, ℕ, ◌<◌, List, [], ◌∷◌, ◌++◌, length, map, get_or, Option, Some, None, refl, sym, ap, ◌∙◌, subst, arith}
+use Rattle.std.proofs.Common.{◌≡◌, ℕ, ◌<◌, List, [], ◌∷◌, length, map, get_or, Option, Some, None, refl, ◌∙◌, subst}
 use Rattle.std.specs.Prelude.{All, option_map}
 use Rattle.std.specs.List.{flat_map}
 use Rattle.std.proofs.lemmas.List.Elements.{All-head}
@@ -7,7 +7,7 @@ use Rattle.fab_types.specs.declared.place.Direction.{Direction}
 use Rattle.fab_types.specs.declared.violation.Violation.{Violation}
 use Rattle.frame_log.specs.Descriptor.{Descriptor}
 use Rattle.edge.specs.Edges.{EdgeView, IsSettled}
-use Rattle.hierarchy.specs.Moves.{channel_at, left_at, with_channel, with_ingress}
+use Rattle.hierarchy.specs.Moves.{channel_at, with_ingress}
 use Rattle.hierarchy.proofs.Keeping.{sender_is_end}
 use Rattle.link.specs.Channels.{Channel}
 use Rattle.port.specs.Lanes.{Class, eligible}
@@ -16,11 +16,11 @@ use Rattle.topology.specs.Links.{sender_of}
 use Rattle.topology.specs.Topologies.{IsEnd}
 use Rattle.topology.specs.declared.nodes.LinkEnd.{LinkEnd}
 use Rattle.fabric_core.specs.Endings.{Taken, taken_at, taken_from}
-use Rattle.fabric_core.specs.Invariant.{IsFree, IsKept, IsPlaced}
+use Rattle.fabric_core.specs.Invariant.{HasPorts, IsFree, IsKept, IsPlaced}
 use Rattle.fabric_core.specs.Places.{IsFlown, frames_from, frames_of}
-use Rattle.fabric_core.specs.World.{World}
-use Rattle.fabric_core.proofs.Changing.{Changed}
-use Rattle.fabric_core.proofs.Placing.{Placed}
+use Rattle.fabric_core.specs.World.{World, is_guarded}
+use Rattle.fabric_core.proofs.Changing.{Changed, all_front}
+use Rattle.fabric_core.proofs.Placing.{PlacedOrLost}
 use Rattle.fabric_core.proofs.Standing.{IsThere, end_there, held, on_links, same_lanes, taken_there}
 
 abbrev some : {A : Type 0} → A → Option A
@@ -32,19 +32,24 @@ some_is x y e = cc
 abbrev pub renewed : World → List (List Channel) → List PortView → EdgeView → List Violation → List Descriptor → World
 renewed w channels ports edge violations strays = record { tree = w.tree; routes = w.routes; channels = channels; ports = ports; edge = edge; violations = violations; strays = strays }
 
-pub placed_of : (w : World) → IsKept w → Placed w.edge.domains (frames_of w)
-placed_of w kept = record { once = kept.placed.once; all_flown = kept.placed.flown }
+pub placed_of : (w : World) → IsKept w → PlacedOrLost (is_guarded w) w.edge.domains (frames_of w)
+placed_of w kept = record { lost = kept.placed.lost; placed = record { once = kept.placed.once; all_flown = kept.placed.flown }; whole = kept.placed.whole }
+
+-- all that stands anywhere is in flight
+pub flown_of : (w : World) → IsKept w → All (IsFlown w.edge.domains) (frames_of w)
+flown_of w kept = all_front (IsFlown w.edge.domains) (frames_of w) kept.placed.lost kept.placed.flown
 
 -- as many lanes of each node
 abbrev pub SameLanes : List (List Channel) → List (List Channel) → Type 0
 SameLanes old new = map (length {A = Channel}) new ≡ map (length {A = Channel}) old
 
 pub kept_with : (w : World) (channels : List (List Channel)) (edge : EdgeView) (violations : List Violation) (strays : List Descriptor) → IsKept w → SameLanes w.channels channels → IsSettled edge
-    → Placed edge.domains (held channels edge.outboxes w.ports strays) → IsKept (renewed w channels w.ports edge violations strays)
-kept_with w channels edge violations strays kept lanes settled placed = record {
+    → All (HasPorts w.routes.ports) edge.domains → PlacedOrLost (is_guarded w) edge.domains (held channels edge.outboxes w.ports strays) → IsKept (renewed w channels w.ports edge violations strays)
+kept_with w channels edge violations strays kept lanes settled shares placed = record {
   built = record { sound = kept.built.sound; lanes = lanes ∙ kept.built.lanes; many = kept.built.many; placed = kept.built.placed };
   settled = settled;
-  placed = record { once = placed.once; flown = placed.all_flown };
+  shares = shares;
+  placed = record { lost = placed.lost; once = placed.placed.once; flown = placed.placed.all_flown; whole = placed.whole };
   free = kept.free;
 }
 
@@ -52,11 +57,12 @@ kept_with w channels edge violations strays kept lanes settled placed = record {
 pub kept_with_ports : (w : World) (channels : List (List Channel)) (ports : List PortView) (edge : EdgeView) (violations : List Violation) (strays : List Descriptor) → IsKept w → SameLanes w.channels channels → IsSettled edge
     → length ports ≡ length w.ports
     → ((i : ℕ) (place : _) (port : PortView) → i < length ports → IsPlaced w.tree.lanes (get_or w.tree.places i place) (get_or ports i port)) → All IsFree ports
-    → Placed edge.domains (held channels edge.outboxes ports strays) → IsKept (renewed w channels ports edge violations strays)
-kept_with_ports w channels ports edge violations strays kept lanes settled many fit free placed = record {
+    → All (HasPorts w.routes.ports) edge.domains → PlacedOrLost (is_guarded w) edge.domains (held channels edge.outboxes ports strays) → IsKept (renewed w channels ports edge violations strays)
+kept_with_ports w channels ports edge violations strays kept lanes settled many fit free shares placed = record {
   built = record { sound = kept.built.sound; lanes = lanes ∙ kept.built.lanes; many = many ∙ kept.built.many; placed = fit };
   settled = settled;
-  placed = record { once = placed.once; flown = placed.all_flown };
+  shares = shares;
+  placed = record { lost = placed.lost; once = placed.placed.once; flown = placed.placed.all_flown; whole = placed.whole };
   free = free;
 }
 
@@ -93,4 +99,4 @@ taken_out_of w class (Some end) t there is = taken_if w class end (eligible clas
 pub taken_flown : (w : World) (t : Taken) → IsKept w → TakenOut w t → IsFlown w.edge.domains t.frame
 taken_flown w t kept out =
     let c = on_links w.channels t.channels w.edge.outboxes w.ports w.strays (t.frame ∷ []) [] out.changed in
-    All-head (IsFlown w.edge.domains) t.frame [] (c.found (IsFlown w.edge.domains) kept.placed.flown)
+    All-head (IsFlown w.edge.domains) t.frame [] (c.found (IsFlown w.edge.domains) (flown_of w kept))

@@ -1,5 +1,5 @@
 -- A sender that has a place for a class has one for each packet of the class.
-use Rattle.std.proofs.Common.{◌≡◌, Bool, false, List, Option, Some, sym, ap, ◌∙◌, subst}
+use Rattle.std.proofs.Common.{◌≡◌, Bool, false, List, Some, sym, ap, ◌∙◌, subst}
 use Rattle.std.specs.Prelude.{◌==◌}
 use Rattle.fab_types.specs.declared.class.Class.{Class}
 use Rattle.frame_log.specs.Descriptor.{Descriptor}
@@ -8,7 +8,7 @@ use Rattle.port.specs.Lanes.{class_of, eligible}
 use Rattle.port.proofs.Waiting.{class_of-taken}
 use Rattle.topology.specs.declared.nodes.LinkEnd.{LinkEnd}
 use Rattle.hierarchy.specs.Moves.{channel_at, left_at}
-use Rattle.fabric_core.proofs.Lanes.{egress_left}
+use Rattle.hierarchy.proofs.Room.{egress_left}
 
 pub place_for : (class : Class) (waiting left : List Descriptor) (frame : Descriptor) (end : LinkEnd) (cs cs' : List (List Channel)) (full : Bool) → eligible class waiting ≡ Some (frame, left)
     → full ≡ is_full class (channel_at cs end) → cs' ≡ cs → full ≡ false → is_full (class_of frame) (channel_at cs' end) ≡ false

@@ -15,7 +15,7 @@ run_more w v u (x ∷ es) (y ∷ os) e o r s = (r.0, r.1, run_more r.0 v u es os
 run_more w v u [] (y ∷ os) e o r s = absurd r
 run_more w v u (x ∷ es) [] e o r s = absurd r
 
-take_all : {X : Type 0} (xs : List X) (i : ℕ) → length xs ≤ i → take i xs ≡ xs
+pub take_all : {X : Type 0} (xs : List X) (i : ℕ) → length xs ≤ i → take i xs ≡ xs
 take_all [] zero le = refl
 take_all [] (suc i) le = refl
 take_all (x ∷ xs) zero le = absurd (omega arith)

@@ -26,9 +26,10 @@ use Rattle.hierarchy.specs.Moves.{channel_at, left_at}
 use Rattle.hierarchy.specs.Views.{HierarchyView, IsSameRest, channels, simplex_at}
 use Rattle.fabric_core.specs.declared.event.Event.{Event}
 use Rattle.fabric_core.specs.declared.event.Event.TheVariants.{Arrive, Root}
-use Rattle.fabric_core.specs.Endings.{Ending, Relay, Carry, Deliver, Nobody, Taken, arrived, arrived_by, completion_at_host, ended, ending_at_host, ending_by_host, ending_in, is_relayed, request_at_host, rooted, rooted_by, taken_at, taken_from, to_function, to_host}
+use Rattle.fabric_core.specs.Endings.{Ending, Relay, Carry, Deliver, Nobody, Taken, arrived, arrived_by, edge_by_function, edge_by_host, ended, ending_at_host, ending_by_host, ending_in, is_relayed, request_at_host, rooted, rooted_by, taken_at, taken_from, to_function, to_host}
 use Rattle.fabric_core.specs.Events.{StepsTo, effect}
-use Rattle.fabric_core.specs.Settling.{IsBack, Settles, Strays, Takes, edge_by_function, edge_by_host}
+use Rattle.fabric_core.specs.Settling.{EntryWants, IsBack, Settles, Strays, Takes, entry_by_function, entry_by_host}
+use Rattle.fabric_core.specs.Wanting.{ArriveWants, OfTaken, RootWants, RootWantsBy, WantsMemory}
 use Rattle.fabric_core.specs.World.{World, with_channels, world_over}
 use Rattle.fabric_core.proofs.Lanes.{left_back}
 use Rattle.fabric_core.proofs.Over.{over_channels, over_same, rest_after}
@@ -51,8 +52,8 @@ took_after h looked new end class frame same rest t = record {
   rest = rest_after h looked new rest t.rest;
 }
 
-module _ (h taking new : HierarchyView) (edge edge' : EdgeView) (violations : List Violation) (strays strays' : List Descriptor) (end : LinkEnd) (class : Class) (frame : Descriptor) (all : Option EdgeView)
-    (t : Took h taking end class frame) where
+module _ (h taking new : HierarchyView) (edge edge' : EdgeView) (violations : List Violation) (strays strays' : List Descriptor) (end : LinkEnd) (class : Class) (frame : Descriptor) (all : Option EdgeView) (wants : Type 0)
+    (stray_wants : all ≡ None → wants) (t : Took h taking end class frame) where
   abbrev here : World
   here = world_over h edge violations strays
 
@@ -62,12 +63,12 @@ module _ (h taking new : HierarchyView) (edge edge' : EdgeView) (violations : Li
   abbrev taken : Taken
   taken = record { frame = frame; channels = left_at (channels h) end t.left }
 
-  -- the packet ended, or nothing changed for want of memory
+  -- the packet ended, or nothing changed for want of memory, which it may want
   abbrev Ends : Outcome → Type 0
   Ends Moved = there ≡ ended here taken all
   Ends Idle = ⊥
   Ends (Refused fault) = ⊥
-  Ends NoMemory = there ≡ here
+  Ends NoMemory = wants × (there ≡ here)
 
   -- it was put back
   back : IsBack taking new end frame → edge' ≡ edge → strays' ≡ strays → there ≡ here
@@ -92,27 +93,33 @@ module _ (h taking new : HierarchyView) (edge edge' : EdgeView) (violations : Li
       ∙ (ap (λ (f : Descriptor). with_channels (world_over h edge violations (strays ++ f ∷ [])) (left_at (channels h) end t.left)) is ∙ ap (ended here taken) (sym none))
   strayed Idle given is none same s = s
   strayed (Refused fault) given is none same s = s
-  strayed NoMemory given is none same s = back (subst (IsBack taking new end) is s.0) same s.1
+  strayed NoMemory given is none same s = (stray_wants none, back (subst (IsBack taking new end) is s.0) same s.1)
 
-  pub settled : (outcome : Outcome) (result : Result (Unit {0}) FrameFault) → Takes all frame edge edge' result → Settles taking new strays strays' end outcome result → Ends outcome
+  pub settled : (outcome : Outcome) (result : Result (Unit {0}) FrameFault) → Takes all wants frame edge edge' result → Settles taking new strays strays' end outcome result → Ends outcome
   settled outcome (Ok done) takes s = subst Ends (sym s.0) (gone edge' strays s.1 refl s.2 ∙ ap (ended here taken) (sym takes))
   settled outcome (Err (fault.Stray given)) takes s = strayed outcome given takes.0 takes.1 takes.2 s
-  settled outcome (Err (fault.NoMemory given)) takes s = subst Ends (sym s.0) (back (subst (IsBack taking new end) takes.0 s.1) takes.1 s.2)
+  settled outcome (Err (fault.NoMemory given)) takes s = subst Ends (sym s.0) (takes.2, back (subst (IsBack taking new end) takes.0 s.1) takes.1 s.2)
 
   -- the step of an event that ends it
-  pub ends_step : (event : Event) (outcome : Outcome) → effect here event ≡ Some (ended here taken all) → Ends outcome → StepsTo here event outcome there
-  ends_step event Moved effects ends = effects ∙ ap (λ (w : World). Some w) (sym ends)
-  ends_step event Idle effects ends = absurd ends
-  ends_step event (Refused fault) effects ends = absurd ends
-  ends_step event NoMemory effects ends = (subst IsSome (sym effects) refl, ends)
+  pub ends_step : (event : Event) (outcome : Outcome) → effect here event ≡ Some (ended here taken all) → (wants → WantsMemory here event) → Ends outcome → StepsTo here event outcome there
+  ends_step event Moved effects memory ends = effects ∙ ap (λ (w : World). Some w) (sym ends)
+  ends_step event Idle effects memory ends = absurd ends
+  ends_step event (Refused fault) effects memory ends = absurd ends
+  ends_step event NoMemory effects memory ends = (subst IsSome (sym effects) refl, memory ends.0, ends.1)
 
 -- ---- at the host
 
-by_ending : (w : World) (class : Class) (t : Taken) (x : Ending) → x ≢ Relay → rooted_by w class t x ≡ Some (ended w t (edge_by_host w.edge t.frame x))
+by_ending : (w : World) (class : Class) (t : Taken) (x : Ending) → x ≢ Relay → rooted_by w class t x ≡ Some (ended w t (edge_by_host w.routes.ports w.edge t.frame x))
 by_ending w class t Relay other = absurd (other refl)
 by_ending w class t Carry other = refl
 by_ending w class t Deliver other = refl
 by_ending w class t Nobody other = refl
+
+root_wants_by : (w : World) (t : Taken) (x : Ending) → x ≢ Relay → EntryWants (entry_by_host w.edge.domains t.frame x) → RootWantsBy w t x
+root_wants_by w t Relay other wants = absurd (other refl)
+root_wants_by w t Carry other wants = wants
+root_wants_by w t Deliver other wants = wants
+root_wants_by w t Nobody other wants = wants
 
 request_stays : (parties : Parties) → request_at_host parties ≢ Relay
 request_stays (Upward function) e = absurd cc
@@ -137,11 +144,21 @@ found_at cs class end o frame left is found = ap (taken_at cs class) (sym is) �
 
 pub root_ends : (h taking : HierarchyView) (edge : EdgeView) (violations : List Violation) (strays : List Descriptor) (end : LinkEnd) (class : Class) (frame : Descriptor) (t : Took h taking end class frame)
     → Some end ≡ sender_of h.tree.links to_host → is_relayed frame.head.header ≡ false
-    → effect (world_over h edge violations strays) (Root class) ≡ Some (ended (world_over h edge violations strays) (record { frame = frame; channels = left_at (channels h) end t.left }) (edge_by_host edge frame (ending_at_host frame)))
+    → effect (world_over h edge violations strays) (Root class) ≡ Some (ended (world_over h edge violations strays) (record { frame = frame; channels = left_at (channels h) end t.left }) (edge_by_host h.routes.ports edge frame (ending_at_host frame)))
 root_ends h taking edge violations strays end class frame t is here =
     let w = world_over h edge violations strays in
     ap (rooted w class) (found_at (channels h) class end (sender_of h.tree.links to_host) frame t.left is t.found)
     ∙ by_ending w class (record { frame = frame; channels = left_at (channels h) end t.left }) (ending_at_host frame) (stays frame.domain frame.head.parties frame.head.header here)
+
+-- what wants memory there
+pub root_wants : (h taking : HierarchyView) (edge : EdgeView) (violations : List Violation) (strays : List Descriptor) (end : LinkEnd) (class : Class) (frame : Descriptor) (t : Took h taking end class frame)
+    → Some end ≡ sender_of h.tree.links to_host → is_relayed frame.head.header ≡ false → EntryWants (entry_by_host edge.domains frame (ending_at_host frame))
+    → WantsMemory (world_over h edge violations strays) (Root class)
+root_wants h taking edge violations strays end class frame t is here wants =
+    let w = world_over h edge violations strays in
+    let taken : Taken = record { frame = frame; channels = left_at (channels h) end t.left } in
+    subst (OfTaken (RootWants w)) (sym (found_at (channels h) class end (sender_of h.tree.links to_host) frame t.left is t.found))
+    (root_wants_by w taken (ending_at_host frame) (stays frame.domain frame.head.parties frame.head.header here) wants)
 
 -- ---- at a function
 
@@ -160,6 +177,12 @@ arrive_ends h taking edge violations strays function end class frame t is there 
     ap (λ (b : Bool). cond b (arrived w function (taken_at w.channels class (sender_of w.tree.links (to_function function)))) None) there
     ∙ (ap (arrived w function) (found_at (channels h) class end (sender_of h.tree.links (to_function function)) frame t.left is t.found)
     ∙ ap (λ (x : World). Some x) (arrived_is w function (record { frame = frame; channels = left_at (channels h) end t.left }) (ending_in edge.domains function frame)))
+
+pub arrive_wants : (h taking : HierarchyView) (edge : EdgeView) (violations : List Violation) (strays : List Descriptor) (function : ℕ) (end : LinkEnd) (class : Class) (frame : Descriptor) (t : Took h taking end class frame)
+    → Some end ≡ sender_of h.tree.links (to_function function) → EntryWants (entry_by_function edge.domains function frame (ending_in edge.domains function frame))
+    → WantsMemory (world_over h edge violations strays) (Arrive function class)
+arrive_wants h taking edge violations strays function end class frame t is wants =
+    subst (OfTaken (ArriveWants (world_over h edge violations strays) function)) (sym (found_at (channels h) class end (sender_of h.tree.links (to_function function)) frame t.left is t.found)) wants
 
 -- the head that was looked at is that of the packet that was taken
 pub looked_head : (h : HierarchyView) (end : LinkEnd) (class : Class) (frame : Descriptor) (left : List Descriptor) (head : Head) → eligible class (channel_at (channels h) end).ingress ≡ Some (frame, left)

@@ -1,7 +1,8 @@
 -- What an entry of one domain makes of all, and of what is in flight.
-use Rattle.std.proofs.Common.{◌≡◌, ◌≢◌, ◌⊎◌, inl, inr, ℕ, zero, suc, ◌+◌, ◌<◌, ◌==◌, Bool, true, false, cond, List, [], ◌∷◌, ◌++◌, length, get_or, set, Option, Some, None, refl, sym, ap, ◌∙◌, subst, arith, eqb-true}
-use Rattle.std.specs.Prelude.{IsSome, nat_lt, option_map, option_to_list, slice_get}
-use Rattle.std.specs.List.{flat_map, position, position_or_len}
+use Rattle.std.proofs.Common.{◌≡◌, ◌≢◌, ◌⊎◌, inl, inr, ℕ, zero, suc, ◌==◌, Bool, cond, List, [], ◌∷◌, length, get_or, set, Option, Some, None, refl, sym, ap, ◌∙◌, subst, eqb-true}
+use Rattle.std.specs.Prelude.{All, IsSome, nat_lt, option_map, option_to_list, slice_get}
+use Rattle.std.specs.List.{position, position_or_len}
+use Rattle.std.proofs.lemmas.List.Elements.{All-set}
 use Rattle.std.proofs.lemmas.List.Folds.{position_or_len-set}
 use Rattle.std.proofs.lemmas.List.Quantifiers.{position-Some}
 use Rattle.std.proofs.lemmas.List.{length-set}
@@ -10,6 +11,7 @@ use Rattle.fab_types.specs.declared.place.Origin.{Origin}
 use Rattle.fab_types.specs.declared.place.Origin.TheVariants.{Function, Host}
 use Rattle.frame_log.specs.Descriptor.{Descriptor}
 use Rattle.function.specs.Tags.{same_origin}
+use Rattle.layout.specs.declared.lines.PortLine.{PortLine}
 use Rattle.layout.specs.Owners.{is_own_function}
 use Rattle.domain.specs.declared.entry.Entry.{Entry}
 use Rattle.domain.specs.Domains.{DomainView}
@@ -17,7 +19,8 @@ use Rattle.domain.specs.Machine.{change}
 use Rattle.domain.specs.State.{Change, Emission, item_at}
 use Rattle.edge.specs.Edges.{EdgeView, IsSettled, Outbox, home_of, joined, outbox_place, with_waiting_at, with_waiting_in}
 use Rattle.tenants.specs.Tenants.{Made, after, domain_at, made_at, made_by, made_of, place_of, place_of_function}
-use Rattle.fabric_core.specs.Places.{IsFlown, flown, flown_by}
+use Rattle.fabric_core.specs.Invariant.{HasPorts}
+use Rattle.fabric_core.specs.Places.{IsFlown, flown_by}
 use Rattle.fabric_core.proofs.Flying.{Begins, EndsOne}
 use Rattle.fabric_core.proofs.Placing.{HomeChanged, Leaves, Reflown, none_leaves, one_leaves, reflown}
 
@@ -35,12 +38,12 @@ module _ {X : Type 0} where
       ap (λ (n : ℕ). cond (nat_lt n (length (set xs i y))) (some n) None) (position_or_len-set p xs i y d e)
       ∙ ap (λ (n : ℕ). cond (nat_lt (position_or_len p xs) n) (some (position_or_len p xs)) None) (length-set xs i y)
 
-  replaced : (xs : List X) (i : ℕ) (x y : X) → slice_get xs i ≡ Some x → slice_get (set xs i y) i ≡ Some y
+  pub replaced : (xs : List X) (i : ℕ) (x y : X) → slice_get xs i ≡ Some x → slice_get (set xs i y) i ≡ Some y
   replaced [] i x y e = absurd cc
   replaced (z ∷ xs) zero x y e = refl
   replaced (z ∷ xs) (suc i) x y e = replaced xs i x y e
 
-  other_stays : (xs : List X) (i j : ℕ) (y : X) → j ≢ i → slice_get (set xs i y) j ≡ slice_get xs j
+  pub other_stays : (xs : List X) (i j : ℕ) (y : X) → j ≢ i → slice_get (set xs i y) j ≡ slice_get xs j
   other_stays [] i j y other = refl
   other_stays (z ∷ xs) zero zero y other = absurd (other refl)
   other_stays (z ∷ xs) zero (suc j) y other = refl
@@ -80,7 +83,7 @@ module _ (ds : List DomainView) (place : ℕ) (d : DomainView) (entry : Entry) (
   home_same (Host number) = place_same number
 
   -- another domain stands at another place
-  not_here : (domain q : ℕ) → domain ≢ d.share.domain → place_of ds domain ≡ Some q → q ≢ place
+  pub not_here : (domain q : ℕ) → domain ≢ d.share.domain → place_of ds domain ≡ Some q → q ≢ place
   unfolding place_of
   not_here domain q other is = λ e.
       let found = position-Some (λ (x : DomainView). x.share.domain == domain) ds q d is in
@@ -162,6 +165,10 @@ is_home ds domain number d at found =
     let there = position-Some (λ (x : DomainView). x.share.domain == domain) ds number d found in
     sym (eqb-true d.share.domain domain (ap (λ (x : DomainView). x.share.domain == domain) (sym (get_or_from_slice_get ds number d d at)) ∙ there.1))
 
+-- the share of the domain at a place
+pub share_at : (ports : List PortLine) (ds : List DomainView) (number : ℕ) (d : DomainView) → All (HasPorts ports) ds → slice_get ds number ≡ Some d → HasPorts ports d
+share_at ports ds number d shares at = subst (HasPorts ports) (get_or_from_slice_get ds number d d at) (shares number d (slice_get_within ds number d at))
+
 -- the edge is settled again
 pub edge_settled : (edge : EdgeView) (boxes : List Outbox) (entry : Entry) (place : Option ℕ) (m : Made) → IsSettled edge → ((origin : Origin) → outbox_place boxes origin ≡ outbox_place edge.outboxes origin)
     → made_at edge.domains entry place ≡ Some m → IsSettled (record { domains = m.domains; outboxes = boxes })
@@ -169,6 +176,13 @@ edge_settled edge boxes entry place m s same e =
     let b = made_from edge.domains entry place m e in
     subst (λ (x : Made). IsSettled (record { domains = x.domains; outboxes = boxes })) b.is
     (settled_after edge.domains b.number b.d entry b.c b.at edge.outboxes boxes s same)
+
+-- each domain keeps its share
+pub shares_stay : (ports : List PortLine) (ds : List DomainView) (entry : Entry) (place : Option ℕ) (m : Made) → All (HasPorts ports) ds → made_at ds entry place ≡ Some m → All (HasPorts ports) m.domains
+shares_stay ports ds entry place m shares e =
+    let b = made_from ds entry place m e in
+    let own : HasPorts ports b.d = share_at ports ds b.number b.d shares b.at in
+    subst (λ (x : Made). All (HasPorts ports) x.domains) b.is (All-set (HasPorts ports) ds b.number (after b.d entry b.c) own shares)
 
 -- a begin: what it emits is in flight now
 pub begin_reflown : (edge : EdgeView) (entry : Entry) (place : Option ℕ) (m : Made) → IsSettled edge → ((d : DomainView) (c : Change) → change d.share d.state entry ≡ Some c → Begins d.state c)

@@ -1,23 +1,21 @@
 -- A layout's fabric keeps what every fabric keeps: nothing waits in it, and no port holds anything.
-use Rattle.std.proofs.Common.{◌≡◌, ℕ, zero, suc, ◌+◌, ◌<◌, ◌≤◌, Bool, List, [], ◌∷◌, ◌++◌, All, length, map, get_or, Option, Some, None, refl, sym, ap, ◌∙◌, subst, arith}
+use Rattle.std.proofs.Common.{◌≡◌, ℕ, zero, suc, ◌<◌, ◌≤◌, Bool, List, [], ◌∷◌, ◌++◌, All, length, map, get_or, Option, Some, None, refl, sym, ap, ◌∙◌, subst, arith}
 use Rattle.std.specs.Prelude.{count_by, slice_get}
 use Rattle.std.specs.List.{filter, flat_map, position, range_with_len}
 use Rattle.std.specs.Option.{option_map_or}
-use Rattle.std.proofs.lemmas.List.{length-map, map-append}
+use Rattle.std.proofs.lemmas.List.{length-map}
 use Rattle.std.proofs.lemmas.List.Elements.{All-append, All-cons, All-get_or, All-head, All-map, All-nil, All-tail}
 use Rattle.std.proofs.lemmas.List.Quantifiers.{position-Some}
 use Rattle.fab_types.specs.declared.violation.Violation.{Violation}
 use Rattle.frame_log.specs.Descriptor.{Descriptor}
-use Rattle.layout.specs.declared.lines.FunctionLine.{FunctionLine}
 use Rattle.layout.specs.declared.lines.PortLine.{PortLine}
-use Rattle.layout.specs.declared.lines.SwitchLine.{SwitchLine}
 use Rattle.layout.specs.Owners.{owns_port}
 use Rattle.layout.specs.Platform.{Platform}
 use Rattle.layout.specs.Tree.{id_below, internal_bus}
 use Rattle.layout.specs.Views.{share_of_domain}
 use Rattle.link.specs.Channels.{Channel}
 use Rattle.link.specs.Simplexes.{SimplexView, channel}
-use Rattle.port.specs.Configs.{Config, downstream_config, exits_of, is_of_port, own_lane, upstream_config}
+use Rattle.port.specs.Configs.{Config, downstream_config, is_of_port, upstream_config}
 use Rattle.port.specs.declared.config.Exit.{Exit}
 use Rattle.port.specs.Turns.{PortView}
 use Rattle.domain.specs.Domains.{DomainView}
@@ -25,14 +23,14 @@ use Rattle.domain.specs.State.{Emission, item_at}
 use Rattle.outboxes.specs.Outboxes.{BoxView, boxes_of}
 use Rattle.tenants.specs.Tenants.{domain_at, fresh, place_of, tenants_among, tenants_of}
 use Rattle.topology.specs.Nodes.{ports_on}
-use Rattle.topology.specs.declared.places.PortPlace.{PortPlace}
 use Rattle.hierarchy.specs.Kept as hierarchy
 use Rattle.hierarchy.specs.Starts.{function_lanes, idle_port, nodes_of, ports_of, root_lanes, start_of, switch_lanes, unused_below}
 use Rattle.hierarchy.specs.Views.{HierarchyView, channels_of}
-use Rattle.edge.specs.Edges.{EdgeView, IsSettled, Outbox, edge_of, empty}
-use Rattle.fabric_core.specs.Invariant.{IsBuilt, IsFree, IsKept, IsPlaced}
-use Rattle.fabric_core.specs.Places.{ArePlaced, IsFlown, flown, flown_by, frames_from, frames_of, frames_on, is_numbered, strays_of, times, waiting_in}
-use Rattle.fabric_core.specs.World.{World, world_of, world_over}
+use Rattle.edge.specs.Edges.{EdgeView, IsSettled, edge_of, empty}
+use Rattle.fabric_core.specs.Invariant.{HasPorts, IsBuilt, IsFree, IsKept}
+use Rattle.fabric_core.specs.Places.{ArePlaced, IsFlown, flown, flown_by, frames_from, frames_of, is_numbered, strays_of, waiting_in}
+use Rattle.domain.specs.Consumed.{times_waiting}
+use Rattle.fabric_core.specs.World.{world_of, world_over}
 
 -- ---- the ports
 
@@ -142,16 +140,31 @@ by_place domains n (Some p) h = by_domain domains p n (domain_at domains (Some p
 none_flown : (domains : List DomainView) (domain n : ℕ) → All HasNothing domains → flown domains domain n ≡ None
 none_flown domains domain n h = by_place domains n (place_of domains domain) h
 
+abbrev HasPortsOf : Platform → DomainView → Type 0
+HasPortsOf platform d = HasPorts platform.ports d
+
+shares_among : (platform : Platform) (count : ℕ) → All (HasPortsOf platform) (tenants_among platform count)
+unfolding tenants_among
+shares_among platform count =
+    All-map (HasPortsOf platform) (λ number. fresh (share_of_domain platform number)) (filter (owns_port platform.ports) (range_with_len 1 count))
+    (all_of (λ number. HasPortsOf platform (fresh (share_of_domain platform number))) (filter (owns_port platform.ports) (range_with_len 1 count)) (λ number. refl))
+
+none_placed : (platform : Platform) → frames_of (world_of platform) ++ [] ≡ []
+none_placed platform = none_both (frames_of (world_of platform)) [] (no_frames platform) refl
+
 placed : (platform : Platform) → ArePlaced (world_of platform)
 placed platform = record {
-  once = λ domain n. ap (λ (fs : List Descriptor). count_by (is_numbered domain n) fs) (no_frames platform) ∙ sym (ap times (none_flown (tenants_of platform) domain n (nothing_among platform 31)));
-  flown = subst (All (IsFlown (tenants_of platform))) (sym (no_frames platform)) (All-nil (IsFlown (tenants_of platform)));
+  lost = [];
+  once = λ domain n. ap (λ (fs : List Descriptor). count_by (is_numbered domain n) fs) (none_placed platform) ∙ sym (ap times_waiting (none_flown (tenants_of platform) domain n (nothing_among platform 31)));
+  flown = subst (All (IsFlown (tenants_of platform))) (sym (none_placed platform)) (All-nil (IsFlown (tenants_of platform)));
+  whole = λ guarded. refl;
 }
 
 kept_at_start : (platform : Platform) → hierarchy.IsKept (start_of platform) → IsSettled (edge_of platform) → IsKept (world_of platform)
 kept_at_start platform kept settled = record {
   built = built platform kept;
   settled = settled;
+  shares = shares_among platform 31;
   placed = placed platform;
   free = idle_all IsFree platform (λ config. record { held = refl; kept = refl });
 }

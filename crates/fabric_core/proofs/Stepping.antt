@@ -1,5 +1,5 @@
 -- What any step keeps.
-use Rattle.std.proofs.Common.{◌≡◌, Some, subst, sym}
+use Rattle.std.proofs.Common.{subst, sym}
 use Rattle.fab_types.specs.declared.outcome.Outcome.{Outcome}
 use Rattle.fab_types.specs.declared.outcome.Outcome.TheVariants.{Moved, Idle, Refused, NoMemory}
 use Rattle.fabric_core.specs.declared.event.Event.{Event}
@@ -12,4 +12,4 @@ pub kept_step : (w w' : World) (event : Event) (outcome : Outcome) → IsKept w 
 kept_step w w' event Moved kept step = kept_after w w' event kept step
 kept_step w w' event Idle kept step = subst IsKept (sym step.2) kept
 kept_step w w' event (Refused fault) kept step = subst IsKept (sym step.1) kept
-kept_step w w' event NoMemory kept step = subst IsKept (sym step.1) kept
+kept_step w w' event NoMemory kept step = subst IsKept (sym step.2) kept

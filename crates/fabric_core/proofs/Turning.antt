@@ -1,6 +1,6 @@
 -- What a fabric keeps through the turn of a port.
 use Rattle.std.proofs.Common.{◌≡◌, ◌≢◌, ◌⊎◌, inl, inr, ℕ, ◌+◌, ◌<◌, ◌≤◌, ◌==◌, Bool, true, false, cond, List, [], ◌∷◌, ◌++◌, length, get_or, set, Option, Some, None, refl, sym, ap, ◌∙◌, subst, arith}
-use Rattle.std.specs.Prelude.{All, option_map, option_to_list, slice_index_or}
+use Rattle.std.specs.Prelude.{option_to_list, slice_index_or}
 use Rattle.std.specs.Option.{option_and_then}
 use Rattle.std.specs.List.{flat_map}
 use Rattle.std.proofs.lemmas.Bool.{cases_eq}
@@ -11,31 +11,29 @@ use Rattle.fab_types.specs.declared.violation.Violation.{Violation}
 use Rattle.frame_log.specs.Descriptor.{Descriptor}
 use Rattle.domain.specs.declared.entry.Entry.TheVariants.{Refuse}
 use Rattle.edge.specs.Edges.{EdgeView}
-use Rattle.link.specs.Channels.{is_full}
 use Rattle.port.specs.Configs.{Config}
 use Rattle.port.specs.Courses.{IsWithin, course_of}
 use Rattle.port.specs.declared.course.Course.{Course}
 use Rattle.port.specs.declared.course.Course.TheVariants.{Forward, Stop, Stray}
 use Rattle.port.specs.Lanes.{Class}
 use Rattle.port.specs.Turns.{PortView}
-use Rattle.tenants.specs.Tenants.{Made, made, made_at, place_of}
+use Rattle.tenants.specs.Tenants.{Made, made, place_of}
 use Rattle.topology.specs.Topologies.{IsEnd, IsFromElsewhere, IsPlace}
 use Rattle.topology.specs.declared.nodes.LinkEnd.{LinkEnd}
 use Rattle.topology.specs.declared.places.PortPlace.{PortPlace}
-use Rattle.hierarchy.specs.Kept.{Fits}
 use Rattle.hierarchy.specs.Moves.{channel_at, put_at, with_egress}
 use Rattle.hierarchy.specs.Passes.{index_of, no_place, no_port}
 use Rattle.fabric_core.specs.Endings.{Taken, taken_at}
 use Rattle.fabric_core.specs.Invariant.{IsFree, IsKept, IsPlaced}
-use Rattle.fabric_core.specs.Passing.{Site, answer_waits, answered_at, forwarded, is_full_at, kept_by, lane_end, may_pass, pass, passed, passed_at, passed_by, passed_number, port_number, refused_by, site_at, stopped, strayed}
+use Rattle.fabric_core.specs.Passing.{Site, answer_waits, answered_at, is_full_at, kept_by, lane_end, may_pass, passed, passed_at, passed_by, passed_number, port_number, refused_by, site_at, strayed, turned}
 use Rattle.fabric_core.specs.Places.{frames_from, frames_of}
 use Rattle.fabric_core.specs.World.{World, with_channels}
 use Rattle.fabric_core.proofs.Changing.{Changed, then_back, then_gained, unchanged}
 use Rattle.fabric_core.proofs.Flying.{refuse_ends}
 use Rattle.fabric_core.proofs.Placing.{placed_after, placed_moved}
-use Rattle.fabric_core.proofs.Reach.{course_within}
+use Rattle.fabric_core.proofs.Courses.{course_within}
 use Rattle.fabric_core.proofs.Renewing.{SameLanes, TakenOut, kept_with, kept_with_ports, placed_of, taken_flown, taken_out_of, there_in}
-use Rattle.fabric_core.proofs.Settling.{edge_settled, end_reflown}
+use Rattle.fabric_core.proofs.Settling.{edge_settled, end_reflown, shares_stay}
 use Rattle.fabric_core.proofs.Standing.{IsThere, held, in_port, on_links, put_there, same_lanes}
 
 abbrev some : {A : Type 0} → A → Option A
@@ -52,7 +50,7 @@ pub record IsSite (w : World) (site : Site) : Type 0 where
   pub ways : slice_index_or w.tree.lanes site.node 0 ≡ length site.config.exits + 1
   pub own : site.config.own ≤ length site.config.exits
 
-lane_is_end : (w : World) (site : Site) (lane : ℕ) → IsSite w site → lane ≤ length site.config.exits → IsEnd w.tree.lanes (lane_end site lane)
+pub lane_is_end : (w : World) (site : Site) (lane : ℕ) → IsSite w site → lane ≤ length site.config.exits → IsEnd w.tree.lanes (lane_end site lane)
 lane_is_end w site lane is less = (is.node, omega (arith, less, is.ways))
 
 -- ---- it has no case for the packet
@@ -83,7 +81,7 @@ kept_strayed w site t kept is out =
     kept_with_ports w t.channels ports w.edge w.violations w.strays kept out.lanes kept.settled long
     (λ j place other less. again_at w.tree.lanes w.tree.places w.ports site.number j place other port no_port is.number refl kept.built.placed (omega (arith, less, long)) (cases_eq j site.number))
     (All-set IsFree w.ports site.number port (record { held = free.held; kept = free.kept }) kept.free)
-    (placed_moved w.edge.domains (frames_of w) (held t.channels w.edge.outboxes ports w.strays) (placed_of w kept) moved)
+    kept.shares (placed_moved w.edge.domains (frames_of w) (held t.channels w.edge.outboxes ports w.strays) (placed_of w kept) moved)
 
 -- ---- it goes on
 
@@ -96,7 +94,7 @@ kept_put w t end kept out is =
     then_back (frames_of w) (held t.channels w.edge.outboxes w.ports w.strays) (held channels w.edge.outboxes w.ports w.strays) (t.frame ∷ [])
     (on_links w.channels t.channels w.edge.outboxes w.ports w.strays (t.frame ∷ []) [] out.changed)
     (on_links t.channels channels w.edge.outboxes w.ports w.strays [] (t.frame ∷ []) (put_there t.channels end t.frame there)) in
-    kept_with w channels w.edge w.violations w.strays kept (same_lanes t.channels end (with_egress c (c.egress ++ t.frame ∷ [])) ∙ out.lanes) kept.settled
+    kept_with w channels w.edge w.violations w.strays kept (same_lanes t.channels end (with_egress c (c.egress ++ t.frame ∷ [])) ∙ out.lanes) kept.settled kept.shares
     (placed_moved w.edge.domains (frames_of w) (held channels w.edge.outboxes w.ports w.strays) (placed_of w kept) moved)
 
 forwarded_by : (w w' : World) (site : Site) (lane : ℕ) (t : Taken) → IsKept w → IsSite w site → TakenOut w t → lane ≤ length site.config.exits → (is_full may_go : Bool)
@@ -107,11 +105,11 @@ forwarded_by w w' site lane t kept is out less false false e = subst IsKept (som
 
 -- ---- it is stopped
 
-answered_lanes : (channels : List (List _)) (end : LinkEnd) (answer : Option Descriptor) → SameLanes channels (answered_at channels end answer)
+pub answered_lanes : (channels : List (List _)) (end : LinkEnd) (answer : Option Descriptor) → SameLanes channels (answered_at channels end answer)
 answered_lanes channels end None = refl
 answered_lanes channels end (Some answer) = (let c = channel_at channels end in same_lanes channels end (with_egress c (c.egress ++ answer ∷ [])))
 
-answered_there : (channels : List (List _)) (end : LinkEnd) (answer : Option Descriptor) → IsThere channels end → Changed (flat_map frames_from channels) (flat_map frames_from (answered_at channels end answer)) [] (option_to_list answer)
+pub answered_there : (channels : List (List _)) (end : LinkEnd) (answer : Option Descriptor) → IsThere channels end → Changed (flat_map frames_from channels) (flat_map frames_from (answered_at channels end answer)) [] (option_to_list answer)
 answered_there channels end None there = unchanged (flat_map frames_from channels)
 answered_there channels end (Some answer) there = put_there channels end answer there
 
@@ -128,6 +126,7 @@ kept_refused w site report t (Some m) kept is out e =
     (on_links t.channels channels w.edge.outboxes w.ports w.strays [] (option_to_list m.sent) (answered_there t.channels end m.sent there)) in
     kept_with w channels edge (w.violations ++ option_to_list report) w.strays kept (answered_lanes t.channels end m.sent ∙ out.lanes)
     (edge_settled w.edge w.edge.outboxes (Refuse t.frame.number) (place_of w.edge.domains t.frame.domain) m kept.settled (λ origin. refl) e)
+    (shares_stay w.routes.ports w.edge.domains (Refuse t.frame.number) (place_of w.edge.domains t.frame.domain) m kept.shares e)
     (placed_after w.edge.domains m.domains (frames_of w) (held channels w.edge.outboxes w.ports w.strays) (t.frame ∷ []) (option_to_list m.sent) (placed_of w kept) c
     (end_reflown w.edge (Refuse t.frame.number) t.frame m kept.settled (taken_flown w t kept out) (λ d x h. refuse_ends d.share d.state t.frame.number x h) e))
 
@@ -151,20 +150,30 @@ input_there : (w : World) (node : ℕ) (input : Option LinkEnd) → IsFromElsewh
 input_there w node None h end e = absurd cc
 input_there w node (Some other) h end e = subst (IsEnd w.tree.lanes) (some_is other end e) h.0
 
+-- the site of a port, and where its packets come from
+pub site_there : (w : World) (i : ℕ) → IsKept w → i < length w.tree.places → IsSite w (site_at w i (slice_index_or w.tree.places i no_place))
+site_there w i kept less =
+    let many = kept.built.many in
+    let there : i < length w.ports = omega (arith, less, many) in
+    let sound : IsPlace w.tree.lanes (slice_index_or w.tree.places i no_place) = kept.built.sound.places i no_place less in
+    let fit : IsPlaced w.tree.lanes (slice_index_or w.tree.places i no_place) (port_number w i) = kept.built.placed i no_place no_port there in
+    record { number = there; node = sound.node; config = refl; ways = fit.fits.ways; own = fit.own }
+
+pub inputs_there : (w : World) (i : ℕ) → IsKept w → i < length w.tree.places → (end : LinkEnd) → (slice_index_or w.tree.places i no_place).input ≡ Some end → IsThere w.channels end
+inputs_there w i kept less end from =
+    let place = slice_index_or w.tree.places i no_place in
+    let sound : IsPlace w.tree.lanes place = kept.built.sound.places i no_place less in
+    there_in w w.channels end kept refl (input_there w place.node place.input sound.input end from)
+
 passed_at_number : (w w' : World) (class : Class) (i : ℕ) → IsKept w → i < length w.tree.places → passed_at w class i (slice_index_or w.tree.places i no_place) ≡ Some w' → IsKept w'
 passed_at_number w w' class i kept less e =
     let place = slice_index_or w.tree.places i no_place in
-    let many = kept.built.many in
-    let there : i < length w.ports = omega (arith, less, many) in
-    let sound : IsPlace w.tree.lanes place = kept.built.sound.places i no_place less in
-    let fit : IsPlaced w.tree.lanes place (port_number w i) = kept.built.placed i no_place no_port there in
-    passed_if w w' (site_at w i place) class (taken_at w.channels class place.input) kept (record { number = there; node = sound.node; config = refl; ways = fit.fits.ways; own = fit.own })
-    (λ t h. taken_out_of w class place.input t (λ end from. there_in w w.channels end kept refl (input_there w place.node place.input sound.input end from)) h) e
+    passed_if w w' (site_at w i place) class (taken_at w.channels class place.input) kept (site_there w i kept less) (λ t h. taken_out_of w class place.input t (inputs_there w i kept less) h) e
 
 passed_number_if : (w w' : World) (class : Class) (o : Option ℕ) → IsKept w → ((i : ℕ) → o ≡ Some i → i < length w.tree.places) → passed_number w class o ≡ Some w' → IsKept w'
 passed_number_if w w' class None kept less e = absurd cc
 passed_number_if w w' class (Some i) kept less e = passed_at_number w w' class i kept (less i refl) e
 
-pub kept_pass : (w w' : World) (port : ℕ) (class : Class) → IsKept w → pass w port class ≡ Some w' → IsKept w'
-kept_pass w w' port class kept e =
+pub kept_turned : (w w' : World) (port : ℕ) (class : Class) → IsKept w → turned w port class ≡ Some w' → IsKept w'
+kept_turned w w' port class kept e =
     passed_number_if w w' class (index_of w.tree.places port) kept (λ i is. (position-Some (λ (place : PortPlace). place.id == port) w.tree.places i no_place is).0) e

@@ -1,9 +1,7 @@
 -- The turn of a port of the fabric: what its contract says is what `pass` does.
-use Rattle.std.proofs.Common.{◌≡◌, ◌≢◌, ℕ, zero, suc, ◌+◌, ◌<◌, ◌≤◌, Bool, true, false, cond, List, [], ◌∷◌, ◌++◌, All, length, map, get_or, set, Option, Some, None, inl, inr, option_to_list, refl, sym, ap, ◌∙◌, subst, arith}
-use Rattle.std.specs.List.{position}
+use Rattle.std.proofs.Common.{◌≡◌, ◌≢◌, ℕ, ◌+◌, ◌≤◌, Bool, true, false, cond, List, [], ◌∷◌, ◌++◌, length, map, get_or, set, Option, Some, None, inl, inr, option_to_list, ◌⊎◌, refl, sym, ap, ◌∙◌, subst, arith}
 use Rattle.std.specs.Option.{IfSome, IsSome, option_and_then, option_map}
 use Rattle.std.proofs.lemmas.List.{append-nil, set-get_or}
-use Rattle.std.proofs.lemmas.List.Quantifiers.{position-Some}
 use Rattle.fab_types.specs.declared.class.Class.{Class}
 use Rattle.fab_types.specs.declared.class.Class.TheVariants.{Posted, NonPosted, Completion}
 use Rattle.fab_types.specs.declared.head.Head.{Head}
@@ -16,21 +14,24 @@ use Rattle.edge.specs.Edges.{EdgeView, Outbox}
 use Rattle.link.specs.Channels.{Channel, is_full}
 use Rattle.port.specs.declared.course.Course.{Course}
 use Rattle.port.specs.declared.course.Course.TheVariants.{Forward, Stop, Stray}
-use Rattle.port.specs.Blocked.{course_is_blocked, eligible_is_blocked, is_blocked, may_refuse_answer, may_refuse_at}
+use Rattle.port.specs.Blocked.{course_is_blocked, eligible_is_blocked, may_refuse_answer, may_refuse_at}
 use Rattle.port.specs.Configs.{Config}
 use Rattle.port.specs.Courses.{IsWithin, course_of}
 use Rattle.port.specs.Lanes.{class_of, eligible}
 use Rattle.port.specs.Steps.{IsOfTurn, with_put}
-use Rattle.port.specs.Turns.{Advanced, Forwarded, IsStray, Moves, PortView, Progress, Rests, Settled, Sight, Stopped, Strayed, Told, sight_with}
+use Rattle.port.specs.Turns.{Advanced, Forwarded, IsStray, Moves, PortView, Rests, Settled, Sight, Stopped, Strayed}
+use Rattle.port.specs.Wants.{CourseWants as PortWants}
 use Rattle.port.proofs.Waiting.{class_of-taken}
 use Rattle.tenants.specs.Tenants.{Emits, Made, made}
 use Rattle.topology.specs.declared.nodes.LinkEnd.{LinkEnd}
 use Rattle.hierarchy.specs.Moves.{channel_at, left_at, put_at}
-use Rattle.hierarchy.specs.Passes.{HasTurn, IsIdle, Passes, PassesFrom, Turned, egress_of, index_of, no_port, passed_over, place_number, port_at, refused_by, sight_at}
+use Rattle.hierarchy.specs.Passes.{HasTurn, egress_of, no_port, passed_over, port_at, refused_by, sight_at}
 use Rattle.hierarchy.specs.Views.{HierarchyView, channels}
 use Rattle.fabric_core.specs.Endings.{Taken, taken_at, taken_from}
-use Rattle.fabric_core.specs.Passing.{Site, answer_waits, answered_at, forwarded, kept_by, lane_end, may_pass, passed, passed_by, refused_by as ended_by, stopped, strayed}
+use Rattle.fabric_core.specs.Passing.{Site, answer_waits, answered_at, kept_by, lane_end, may_pass, passed, passed_by, refused_by as ended_by, strayed}
 use Rattle.fabric_core.specs.Places.{IsFlown}
+use Rattle.fabric_core.specs.Settling.{EntryWants}
+use Rattle.fabric_core.specs.Wanting.{CourseWants, OfTaken, TurnWants}
 use Rattle.fabric_core.specs.World.{World, world_over}
 use Rattle.fabric_core.proofs.Answered.{only_non_posted_are_answered}
 use Rattle.fabric_core.proofs.Lanes.{passed_nothing, passed_put, passed_same, put_nothing, refuses_at}
@@ -302,12 +303,32 @@ module _ (h new : HierarchyView) (edge edge' : EdgeView) (violations violations'
   moved (inr progress) busy =
       advanced (subst (λ (s : Sight EdgeView). Advanced refuses unknown h.routes old_port.config class s seen') (sight_settled old_port.config.own seen progress.between kept_none progress.settled) progress.advanced) busy
 
+  -- ---- for what memory is wanted
+
+  wants_entry : (m : Option Made) → Emits m ⊎ (m ≡ None) → EntryWants m
+  wants_entry None (inl emits) = tt
+  wants_entry None (inr none) = tt
+  wants_entry (Some m) (inl emits) = emits
+  wants_entry (Some m) (inr none) = absurd cc
+
+  wants_by : (frame : Descriptor) (left : List Descriptor) (c : Course) → PortWants wants unknown h.routes old_port.config edge frame c → CourseWants here site (taken frame left) c
+  wants_by frame left (Forward lane) wanted = wanted
+  wants_by frame left (Stop None) wanted = wants_entry (made edge.domains frame.domain (Refuse frame.number)) wanted
+  wants_by frame left (Stop (Some report)) wanted = wanted
+  wants_by frame left Stray wanted = wanted
+
+  wanted : outcome ≡ NoMemory → OfTaken (TurnWants here site) (taken_at (channels h) class (Some input))
+  wanted is =
+      let a = t.turned.memory is in
+      subst (λ (o : Option (Descriptor × List Descriptor)). OfTaken (TurnWants here site) (option_map (taken_from (channels h) input) o)) (sym a.taken)
+      (wants_by a.frame a.rest (course_of h.routes old_port.config a.frame.head) a.is_such)
+
   -- a turn by its outcome
   abbrev pub Turns : Outcome → Type 0
   Turns Moved = effect_here ≡ Some there
   Turns Idle = (effect_here ≡ None) × (there ≡ here)
   Turns (Refused fault) = ⊥
-  Turns NoMemory = IsSome effect_here × (there ≡ here)
+  Turns NoMemory = IsSome effect_here × OfTaken (TurnWants here site) (taken_at (channels h) class (Some input)) × (there ≡ here)
 
   pub turns : (o : Outcome) → outcome ≡ o → Turns o
   turns Moved is = moved (t.turned.moved is) (λ idle. absurd (let e : Moved ≡ Idle = sym is ∙ idle in cc))
@@ -318,5 +339,6 @@ module _ (h new : HierarchyView) (edge edge' : EdgeView) (violations violations'
   turns (Refused fault) is = subst IsOfTurn is t.turned.answer
   turns NoMemory is = (
     free_some (eligible class seen.waiting) (t.turned.free held_none kept_none (λ e. absurd (let x : NoMemory ≡ Idle = sym is ∙ e in cc))),
+    wanted is,
     rested (λ e. absurd (let x : NoMemory ≡ Moved = sym is ∙ e in cc)),
   )

@@ -7,9 +7,10 @@ use Rattle.fab_types.specs.declared.head.Header.TheVariants.{Malformed, Memory, 
 use Rattle.fab_types.specs.declared.head.Parties.{Parties}
 use Rattle.fab_types.specs.declared.head.Parties.TheVariants.{Upward, Downward, Answer}
 use Rattle.fab_types.specs.declared.place.Direction.{Direction}
-use Rattle.fab_types.specs.declared.place.Way.TheVariants.{Up, Down}
+use Rattle.fab_types.specs.declared.place.Way.TheVariants.{Down}
 use Rattle.frame_log.specs.Descriptor.{Descriptor}
 use Rattle.domain.specs.Domains.{DomainView}
+use Rattle.layout.specs.declared.lines.PortLine.{PortLine}
 use Rattle.edge.specs.Edges.{EdgeView, carried_by_function, carried_by_host, delivered, is_function_of}
 use Rattle.link.specs.Channels.{Channel, is_full}
 use Rattle.port.specs.Lanes.{eligible}
@@ -19,6 +20,8 @@ use Rattle.topology.specs.declared.nodes.LinkEnd.{LinkEnd}
 use Rattle.hierarchy.specs.Moves.{channel_at, left_at, put_at}
 pub use Rattle.fabric_core.specs.declared.ending.Ending.{Ending}
 pub use Rattle.fabric_core.specs.declared.ending.Ending.TheVariants.{Relay, Carry, Deliver, Nobody}
+pub use Rattle.fabric_core.specs.Aliens.{to_function, to_host}
+use Rattle.fabric_core.specs.Aliens.{alien_at_function, alien_at_host, or_else}
 use Rattle.fabric_core.specs.World.{World, with_both, with_channels, with_stray}
 
 -- ---- what is taken
@@ -38,15 +41,9 @@ taken_at channels class (Some end) = option_map (taken_from channels end) (eligi
 abbrev pub taken : World → Direction → Class → Option Taken
 taken w direction class = taken_at w.channels class (sender_of w.tree.links direction)
 
--- the link between the host and the top switch
-abbrev pub to_host : Direction
-to_host = record { lower = 0x0100; way = Up }
-
+-- the link between the host and the top switch, on the way down
 abbrev pub from_host : Direction
 from_host = record { lower = 0x0100; way = Down }
-
-abbrev pub to_function : ℕ → Direction
-to_function function = record { lower = function; way = Down }
 
 -- ---- who ends it
 
@@ -100,10 +97,31 @@ ending_at_function w function frame = ending_in w.edge.domains function frame
 
 -- ---- what it leaves
 
--- the packet was taken and its home's machine has this entry of it, or none
+-- the packet was taken and a machine has this entry of it, or none
 abbrev pub ended : World → Taken → Option EdgeView → World
 ended w t None = with_stray w t.channels t.frame
 ended w t (Some edge) = with_both w t.channels edge
+
+-- what an entry of its home makes of the edge, where its home has a case for it at the host
+abbrev pub own_by_host : EdgeView → Descriptor → Ending → Option EdgeView
+own_by_host edge frame Relay = None
+own_by_host edge frame Carry = carried_by_host edge frame
+own_by_host edge frame Deliver = delivered edge frame
+own_by_host edge frame Nobody = None
+
+-- the same at a function
+abbrev pub own_by_function : EdgeView → ℕ → Descriptor → Ending → Option EdgeView
+own_by_function edge function frame Relay = None
+own_by_function edge function frame Carry = carried_by_function edge function frame
+own_by_function edge function frame Deliver = delivered edge frame
+own_by_function edge function frame Nobody = None
+
+-- such an entry, or else one of who gets the packet as an alien one; none where nobody has a case for it
+abbrev pub edge_by_host : List PortLine → EdgeView → Descriptor → Ending → Option EdgeView
+edge_by_host ports edge frame ending = or_else (own_by_host edge frame ending) (alien_at_host ports edge frame)
+
+abbrev pub edge_by_function : EdgeView → ℕ → Descriptor → Ending → Option EdgeView
+edge_by_function edge function frame ending = or_else (own_by_function edge function frame ending) (alien_at_function edge function frame)
 
 -- it goes down again, if the root port has a place for it
 abbrev pub relayed : World → Taken → Class → Option LinkEnd → Option World
@@ -114,9 +132,9 @@ relayed w t class (Some end) =
 
 abbrev pub rooted_by : World → Class → Taken → Ending → Option World
 rooted_by w class t Relay = relayed w t class (sender_of w.tree.links from_host)
-rooted_by w class t Carry = Some (ended w t (carried_by_host w.edge t.frame))
-rooted_by w class t Deliver = Some (ended w t (delivered w.edge t.frame))
-rooted_by w class t Nobody = Some (ended w t None)
+rooted_by w class t Carry = Some (ended w t (edge_by_host w.routes.ports w.edge t.frame Carry))
+rooted_by w class t Deliver = Some (ended w t (edge_by_host w.routes.ports w.edge t.frame Deliver))
+rooted_by w class t Nobody = Some (ended w t (edge_by_host w.routes.ports w.edge t.frame Nobody))
 
 abbrev pub rooted : World → Class → Option Taken → Option World
 rooted w class None = None
@@ -127,10 +145,7 @@ abbrev pub root : World → Class → Option World
 root w class = rooted w class (taken w to_host class)
 
 abbrev pub arrived_by : World → ℕ → Taken → Ending → World
-arrived_by w function t Relay = ended w t None
-arrived_by w function t Carry = ended w t (carried_by_function w.edge function t.frame)
-arrived_by w function t Deliver = ended w t (delivered w.edge t.frame)
-arrived_by w function t Nobody = ended w t None
+arrived_by w function t ending = ended w t (edge_by_function w.edge function t.frame ending)
 
 abbrev pub arrived : World → ℕ → Option Taken → Option World
 arrived w function all = option_map (λ t. arrived_by w function t (ending_at_function w function t.frame)) all

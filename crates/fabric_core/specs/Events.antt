@@ -1,5 +1,5 @@
 -- What each event does to a fabric.
-use Rattle.std.specs.Prelude.{◌≡◌, ℕ, List, Option, Some, None, IsSome, option_map, if◌then◌else◌}
+use Rattle.std.specs.Prelude.{◌≡◌, List, Option, Some, None, IsSome, option_map, if◌then◌else◌}
 use Rattle.std.specs.Option.{option_and_then}
 use Rattle.fab_types.specs.declared.class.Class.{Class}
 use Rattle.fab_types.specs.declared.faults.begin.BeginFault.{BeginFault}
@@ -21,7 +21,8 @@ use Rattle.hierarchy.specs.Moves.{channel_at, on_channel, put_at}
 use Rattle.fabric_core.specs.declared.event.Event.{Event}
 use Rattle.fabric_core.specs.declared.event.Event.TheVariants.{Submit, Tick, Mmio, Enter, Pass, Send, Take, Credit, Root, Arrive}
 use Rattle.fabric_core.specs.Endings.{arrive, from_host, root}
-use Rattle.fabric_core.specs.Passing.{pass}
+use Rattle.fabric_core.specs.Losing.{pass}
+use Rattle.fabric_core.specs.Wanting.{WantsMemory}
 use Rattle.fabric_core.specs.World.{World, with_both, with_channels, with_edge}
 
 -- ---- onto the link
@@ -64,10 +65,9 @@ refusal w (Tick function) = option_map begin.Tick (tick_refusal w.edge.domains f
 refusal w (Mmio domain access) = option_map begin.Mmio (mmio_refusal w.edge.domains domain access)
 refusal w event = None
 
--- What an outcome says of an event: it did what the event does, or it changed nothing, and why. Memory is wanted only of
--- an event that would move something
+-- What an outcome says of an event: it did what the event does, or it changed nothing, and why
 abbrev pub StepsTo : World → Event → Outcome → World → Type 0
 StepsTo old event Moved new = effect old event ≡ Some new
 StepsTo old event Idle new = (effect old event ≡ None) × (refusal old event ≡ None) × (new ≡ old)
 StepsTo old event (Refused fault) new = (refusal old event ≡ Some fault) × (new ≡ old)
-StepsTo old event NoMemory new = IsSome (effect old event) × (new ≡ old)
+StepsTo old event NoMemory new = IsSome (effect old event) × WantsMemory old event × (new ≡ old)

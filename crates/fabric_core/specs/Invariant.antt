@@ -1,13 +1,16 @@
--- What a fabric keeps: its packets are placed, its links and ports are those of its tree, and between events no port holds
--- a report or an answer.
-use Rattle.std.specs.Prelude.{◌≡◌, ℕ, ◌<◌, ◌≤◌, List, length, map, slice_index_or, All, None}
+-- What a fabric keeps: its packets are placed, its links and ports are those of its tree, its domains know the ports of its
+-- layout, and between events no port holds a report or an answer.
+use Rattle.std.specs.Prelude.{◌≡◌, ℕ, ◌<◌, ◌≤◌, List, length, map, slice_index_or, true, All, None}
+use Rattle.domain.specs.Domains.{DomainView}
 use Rattle.edge.specs.Edges.{IsSettled}
+use Rattle.layout.specs.declared.lines.PortLine.{PortLine}
 use Rattle.port.specs.Turns.{PortView}
 use Rattle.topology.specs.Topologies.{IsSound}
 use Rattle.topology.specs.declared.places.PortPlace.{PortPlace}
 use Rattle.hierarchy.specs.Kept.{Fits}
 use Rattle.fabric_core.specs.Places.{ArePlaced}
-use Rattle.fabric_core.specs.World.{World}
+use Rattle.fabric_core.specs.Soundness.{IsGuardedFabric}
+use Rattle.fabric_core.specs.World.{World, is_guarded}
 
 -- it holds no report and keeps no answer
 pub record IsFree (port : PortView) : Type 0 where
@@ -26,8 +29,18 @@ pub record IsBuilt (w : World) : Type 0 where
   pub many : length w.ports ≡ length w.tree.places
   pub placed : (i : ℕ) (place : PortPlace) (port : PortView) → i < length w.ports → IsPlaced w.tree.lanes (slice_index_or w.tree.places i place) (slice_index_or w.ports i port)
 
+-- the share of a domain tells these ports of its layout
+abbrev pub HasPorts : List PortLine → DomainView → Type 0
+HasPorts ports d = d.share.ports ≡ ports
+
 pub record IsKept (w : World) : Type 0 where
   pub built : IsBuilt w
   pub settled : IsSettled w.edge
+  pub shares : All (HasPorts w.routes.ports) w.edge.domains
   pub placed : ArePlaced w
   pub free : All IsFree w.ports
+
+-- and in a guarded layout each packet is on its way to somebody who has a case for it
+pub record IsFabric (w : World) : Type 0 where
+  pub kept : IsKept w
+  pub guarded : is_guarded w ≡ true → IsGuardedFabric w

@@ -6,7 +6,6 @@ use Rattle.fab_types.specs.declared.class.Class.TheVariants.{Posted, NonPosted, 
 use Rattle.fab_types.specs.declared.violation.Violation.{Violation}
 use Rattle.frame_log.specs.Descriptor.{Descriptor}
 use Rattle.domain.specs.declared.entry.Entry.TheVariants.{Refuse}
-use Rattle.edge.specs.Edges.{EdgeView}
 use Rattle.link.specs.Channels.{Channel, is_full}
 use Rattle.port.specs.Configs.{Config}
 use Rattle.port.specs.Courses.{course_of}
@@ -117,6 +116,6 @@ abbrev pub passed_number : World → Class → Option ℕ → Option World
 passed_number w class None = None
 passed_number w class (Some i) = passed_at w class i (slice_index_or w.tree.places i no_place)
 
--- the port of this ID takes the eligible packet of a class
-abbrev pub pass : World → ℕ → Class → Option World
-pass w port class = passed_number w class (index_of w.tree.places port)
+-- the port of this ID has its turn with the eligible packet of a class
+abbrev pub turned : World → ℕ → Class → Option World
+turned w port class = passed_number w class (index_of w.tree.places port)

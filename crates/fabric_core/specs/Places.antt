@@ -1,15 +1,16 @@
 -- Where packets are: each that is in flight stands in exactly one place, with the head that its bytes give.
-use Rattle.std.specs.Prelude.{◌≡◌, ℕ, ◌+◌, ◌==◌, Bool, ◌&&◌, List, [], ◌∷◌, ◌++◌, All, map, count_by, slice_get, Option, Some, None, if◌then◌else◌}
+use Rattle.std.specs.Prelude.{◌≡◌, ℕ, ◌==◌, Bool, true, ◌&&◌, List, [], ◌++◌, All, count_by, slice_get, Option, Some, None}
 use Rattle.std.specs.List.{flat_map}
 use Rattle.frame_log.specs.Descriptor.{Descriptor}
 use Rattle.domain.specs.Domains.{DomainView}
 use Rattle.domain.specs.Heads.{descriptor_of}
+use Rattle.domain.specs.Consumed.{AreConsumedOnce, times_waiting}
 use Rattle.domain.specs.State.{Emission, item_at}
 use Rattle.edge.specs.Edges.{Outbox}
 use Rattle.link.specs.Channels.{Channel}
 use Rattle.port.specs.Turns.{PortView}
-use Rattle.tenants.specs.Tenants.{domain_at, place_of}
-use Rattle.fabric_core.specs.World.{World}
+pub use Rattle.tenants.specs.Aliens.{flown, flown_by}
+use Rattle.fabric_core.specs.World.{World, is_guarded}
 
 -- the packets of a direction, wherever in it they are
 abbrev pub frames_on : Channel → List Descriptor
@@ -32,26 +33,27 @@ frames_of w = flat_map frames_from w.channels ++ (flat_map waiting_in w.edge.out
 abbrev pub is_numbered : ℕ → ℕ → Descriptor → Bool
 is_numbered domain n frame = (frame.domain == domain) && (frame.number == n)
 
--- how often a packet that is in flight stands anywhere
-abbrev pub times : Option Emission → ℕ
-times None = 0
-times (Some e) = 1
-
--- what its home has in flight under a packet's number
-abbrev pub flown_by : ℕ → Option DomainView → Option Emission
-flown_by n None = None
-flown_by n (Some d) = item_at d.state.flight n
-
-abbrev pub flown : List DomainView → ℕ → ℕ → Option Emission
-flown domains domain n = flown_by n (domain_at domains (place_of domains domain))
-
 -- a packet shows what its bytes, which its home has in flight, say of it
 pub record IsFlown (domains : List DomainView) (frame : Descriptor) : Type 0 where
   pub emission : Emission
   pub in_flight : flown domains frame.domain frame.number ≡ Some emission
   pub shown : frame ≡ descriptor_of frame.domain frame.number emission
 
--- each packet in flight stands in exactly one place, and no other packet stands anywhere
+-- Each packet in flight stands in exactly one place, and no other packet stands anywhere; but for those that were lost as
+-- alien packets, which stay in flight at their homes for ever. In a guarded layout none is
 pub record ArePlaced (w : World) : Type 0 where
-  pub once : (domain n : ℕ) → count_by (is_numbered domain n) (frames_of w) ≡ times (flown w.edge.domains domain n)
-  pub flown : All (IsFlown w.edge.domains) (frames_of w)
+  pub lost : List Descriptor
+  pub once : (domain n : ℕ) → count_by (is_numbered domain n) (frames_of w ++ lost) ≡ times_waiting (flown w.edge.domains domain n)
+  pub flown : All (IsFlown w.edge.domains) (frames_of w ++ lost)
+  pub whole : is_guarded w ≡ true → lost ≡ []
+
+-- Each packet that a domain made is in flight, and stands in exactly one place; or exactly one entry of its journal
+-- consumed it, and it stands nowhere
+pub record HasPlaces (w : World) (d : DomainView) : Type 0 where
+  pub consumed : AreConsumedOnce d.journal d.state
+  pub once : (n : ℕ) → count_by (is_numbered d.share.domain n) (frames_of w) ≡ times_waiting (item_at d.state.flight n)
+
+-- so it is of the packets of every domain, and each shows what its bytes say of it
+pub record HaveOnePlace (w : World) : Type 0 where
+  pub each : (place : ℕ) (d : DomainView) → slice_get w.edge.domains place ≡ Some d → HasPlaces w d
+  pub shown : All (IsFlown w.edge.domains) (frames_of w)

@@ -1,38 +1,52 @@
 -- What becomes of a packet that was taken, where its home may give it back.
-use Rattle.std.specs.Prelude.{◌≡◌, ⊤, List, [], ◌∷◌, ◌++◌, ℕ, ◌⊎◌, true, false, Option, Some, None, IsSome, Result, Ok, Err}
+use Rattle.std.specs.Prelude.{◌≡◌, ⊤, List, [], ◌∷◌, ◌++◌, ℕ, ◌⊎◌, true, false, ◌&&◌, Bool, Option, Some, None, IsSome, Result, Ok, Err, option_to_list}
+use Rattle.std.specs.Option.{IfSome}
+use Rattle.fab_types.specs.declared.class.Class.TheVariants.{Completion}
 use Rattle.fab_types.specs.declared.outcome.Outcome.{Outcome}
 use Rattle.fab_types.specs.declared.outcome.Outcome.TheVariants.{Moved, Idle, Refused, NoMemory}
+use Rattle.fab_types.specs.declared.violation.Violation.{Violation}
 use Rattle.frame_log.specs.Descriptor.{Descriptor}
 use Rattle.frame_log.specs.declared.fault.FrameFault.{FrameFault}
 use Rattle.frame_log.specs.declared.fault.FrameFault.TheVariants as fault
-use Rattle.edge.specs.Edges.{EdgeView, carried_by_function, carried_by_host, delivered}
+use Rattle.domain.specs.declared.entry.Entry.TheVariants as entry
+use Rattle.domain.specs.Domains.{DomainView}
+use Rattle.edge.specs.Edges.{EdgeView, carried_at}
 use Rattle.link.specs.Channels.{is_full}
 use Rattle.link.specs.Simplexes.{simplex_restored}
-use Rattle.port.specs.Lanes.{Class, eligible}
+use Rattle.port.specs.Lanes.{Class, class_of, eligible}
+use Rattle.tenants.specs.Aliens.{answers}
+use Rattle.tenants.specs.Tenants.{Made, made}
 use Rattle.topology.specs.declared.nodes.LinkEnd.{LinkEnd}
+use Rattle.hierarchy.specs.declared.lost.Lost.{Lost}
 use Rattle.hierarchy.specs.Moves.{channel_at, left_at, put_at}
 use Rattle.hierarchy.specs.Views.{HierarchyView, IsSameRest, channels, simplex_at}
 use Rattle.fabric_core.specs.Endings.{Ending, Relay, Carry, Deliver, Nobody}
+use Rattle.fabric_core.specs.Passing.{answered_at}
 
--- what an ending at the host makes of the edge; none where nobody has a case for the packet
-abbrev pub edge_by_host : EdgeView → Descriptor → Ending → Option EdgeView
-edge_by_host edge frame Relay = None
-edge_by_host edge frame Carry = carried_by_host edge frame
-edge_by_host edge frame Deliver = delivered edge frame
-edge_by_host edge frame Nobody = None
+-- the entry that its home's machine has of a packet at the host, if it has one, and what that makes
+abbrev pub entry_by_host : List DomainView → Descriptor → Ending → Option Made
+entry_by_host domains frame Relay = None
+entry_by_host domains frame Carry = made domains frame.domain (entry.Carry frame.number)
+entry_by_host domains frame Deliver = made domains frame.domain (entry.Deliver frame.number)
+entry_by_host domains frame Nobody = None
 
--- the same of an ending at a function
-abbrev pub edge_by_function : EdgeView → ℕ → Descriptor → Ending → Option EdgeView
-edge_by_function edge function frame Relay = None
-edge_by_function edge function frame Carry = carried_by_function edge function frame
-edge_by_function edge function frame Deliver = delivered edge frame
-edge_by_function edge function frame Nobody = None
+-- the same at a function
+abbrev pub entry_by_function : List DomainView → ℕ → Descriptor → Ending → Option Made
+entry_by_function domains function frame Relay = None
+entry_by_function domains function frame Carry = carried_at domains function frame
+entry_by_function domains function frame Deliver = made domains frame.domain (entry.Deliver frame.number)
+entry_by_function domains function frame Nobody = None
 
--- the edge took the packet, or gave it back and is as it was
-abbrev pub Takes : Option EdgeView → Descriptor → EdgeView → EdgeView → Result ⊤ FrameFault → Type 0
-Takes all frame old new (Ok done) = all ≡ Some new
-Takes all frame old new (Err (fault.Stray given)) = (given ≡ frame) × (all ≡ None) × (new ≡ old)
-Takes all frame old new (Err (fault.NoMemory given)) = (given ≡ frame) × (new ≡ old)
+-- what a packet may want memory for: an entry that emits another, or to be an alien packet or a stray
+abbrev pub EntryWants : Option Made → Type 0
+EntryWants None = ⊤
+EntryWants (Some m) = IsSome m.sent
+
+-- the edge took the packet, or gave it back and is as it was; for want of memory only where it may want some
+abbrev pub Takes : Option EdgeView → Type 0 → Descriptor → EdgeView → EdgeView → Result ⊤ FrameFault → Type 0
+Takes all wants frame old new (Ok done) = all ≡ Some new
+Takes all wants frame old new (Err (fault.Stray given)) = (given ≡ frame) × (all ≡ None) × (new ≡ old)
+Takes all wants frame old new (Err (fault.NoMemory given)) = (given ≡ frame) × (new ≡ old) × wants
 
 -- a packet that was just taken there can be put back
 abbrev pub IsTaken : HierarchyView → LinkEnd → Descriptor → Type 0
@@ -88,3 +102,32 @@ RelaysBy old new exit end class NoMemory = ⊥
 pub record Relays (old new : HierarchyView) (exit : Option LinkEnd) (end : LinkEnd) (class : Class) (outcome : Outcome) : Type 0 where
   pub by : RelaysBy old new exit end class outcome
   pub rest : IsSameRest old new
+
+-- what answers a packet, if anything does, is a completion
+abbrev pub AnswersByCompletion : Option Made → Type 0
+AnswersByCompletion None = ⊤
+AnswersByCompletion (Some m) = IfSome m.sent (λ answer. class_of answer ≡ Completion)
+
+-- a packet that a port has no case for is gone: what answers it waits at the port's own lane, and its violation is reported
+pub record IsLost (old new : HierarchyView) (edge edge' : EdgeView) (violations violations' : List Violation) (lost : Lost) (m : Made) : Type 0 where
+  pub answered : channels new ≡ answered_at (channels old) lost.own m.sent
+  pub rest : IsSameRest old new
+  pub entered : edge' ≡ record { domains = m.domains; outboxes = edge.outboxes }
+  pub told : violations' ≡ violations ++ option_to_list lost.report
+
+-- or it was put back, and all else is as it was
+pub record IsLeft (old new : HierarchyView) (edge edge' : EdgeView) (violations violations' : List Violation) (lost : Lost) (frame : Descriptor) : Type 0 where
+  pub back : IsBack old new lost.input frame
+  pub same : edge' ≡ edge
+  pub told : violations' ≡ violations
+
+-- has the port's own lane no place for what answers it?
+abbrev pub must_wait : HierarchyView → Lost → Made → Bool
+must_wait old lost m = answers (Some m) && is_full Completion (channel_at (channels old) lost.own)
+
+-- what becomes of it, where its home's entry makes this
+abbrev pub Loses : HierarchyView → HierarchyView → EdgeView → EdgeView → List Violation → List Violation → Lost → Descriptor → Made → Outcome → Type 0
+Loses old new edge edge' violations violations' lost frame m Moved = (must_wait old lost m ≡ false) × IsLost old new edge edge' violations violations' lost m
+Loses old new edge edge' violations violations' lost frame m Idle = (must_wait old lost m ≡ true) × IsLeft old new edge edge' violations violations' lost frame
+Loses old new edge edge' violations violations' lost frame m (Refused fault) = ⊥
+Loses old new edge edge' violations violations' lost frame m NoMemory = (must_wait old lost m ≡ false) × IsLeft old new edge edge' violations violations' lost frame

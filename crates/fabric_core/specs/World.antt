@@ -1,5 +1,5 @@
 -- What a fabric holds.
-use Rattle.std.specs.Prelude.{ℕ, Bool, List, ◌++◌, ◌∷◌, []}
+use Rattle.std.specs.Prelude.{Bool, List, ◌++◌, ◌∷◌, []}
 use Rattle.std.specs.List.{list_all}
 use Rattle.fab_types.specs.declared.violation.Violation.{Violation}
 use Rattle.frame_log.specs.Descriptor.{Descriptor}

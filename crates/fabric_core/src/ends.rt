@@ -6,15 +6,17 @@ ghost use Rattle.fab_types.specs.declared.outcome.Outcome.TheVariants.{NoMemory}
 ghost use Rattle.topology.specs.Links.{sender_of};
 ghost use Rattle.topology.specs.Topologies.{IsEnd};
 ghost use Rattle.fabric_core.specs.declared.event.Event.TheVariants.{Arrive, Root};
-ghost use Rattle.fabric_core.specs.Endings.{from_host, ending_at_host, ending_in};
+ghost use Rattle.fabric_core.specs.Endings.{edge_by_function, edge_by_host, ending_at_host, ending_in, from_host, own_by_function, own_by_host};
 ghost use Rattle.fabric_core.specs.Events.{StepsTo};
-ghost use Rattle.fabric_core.specs.Settling.{IsBack, IsTaken, IsTakenIn, Relays, Settles, Strays, Takes, edge_by_function, edge_by_host};
+ghost use Rattle.fabric_core.specs.Settling.{IsBack, IsTaken, IsTakenIn, EntryWants, Relays, Settles, Strays, Takes, entry_by_function, entry_by_host};
+ghost use Rattle.tenants.specs.Tenants.{Emits};
 ghost use Rattle.fabric_core.specs.World.{world_over};
 
 use crate::ending::{Ending, ending_at_host, ending_by_function, is_relayed};
+use crate::receivers::receiver_at_host;
 use crate::wires::TOP_SWITCH;
 use edge::Edge;
-use fab_types::{Bdf, Class, Direction, Outcome, Way};
+use fab_types::{Bdf, Class, Direction, Outcome, Place, Way};
 use frame_log::{Frame, FrameFault};
 use hierarchy::Hierarchy;
 use std::sync::Wait;
@@ -96,8 +98,26 @@ fn relay(hierarchy: &mut Hierarchy, end: LinkEnd, class: Class) -> Outcome
     }
 }
 
-fn end_at_host<R: Wait>(rt: &R, edge: &mut Edge, frame: Frame) -> Result<(), FrameFault>
-    ensures { Takes (edge_by_host edge.old frame (ending_at_host frame)) frame edge.old edge.new result }
+fn end_at_host<R: Wait>(
+    rt: &R,
+    hierarchy: &Hierarchy,
+    edge: &mut Edge,
+    frame: Frame,
+) -> Result<(), FrameFault>
+    ensures { Takes (edge_by_host (hierarchy.now.routes).ports edge.old frame (ending_at_host frame)) (EntryWants (entry_by_host edge.old.domains frame (ending_at_host frame))) frame edge.old edge.new result }
+{
+    match end_at_home(rt, edge, frame) {
+        Err(FrameFault::Stray(frame)) => {
+            let receiver = receiver_at_host(hierarchy, edge, &frame);
+            edge.alien_at_host(rt, receiver, Place::Ingress(top_link(Way::Up)), frame)
+        }
+        ended => ended,
+    }
+}
+
+/// The host of its home takes a packet, which is stray where its home has no case for it.
+fn end_at_home<R: Wait>(rt: &R, edge: &mut Edge, frame: Frame) -> Result<(), FrameFault>
+    ensures { Takes (own_by_host edge.old frame (ending_at_host frame)) (Emits (entry_by_host edge.old.domains frame (ending_at_host frame))) frame edge.old edge.new result }
 {
     match ending_at_host(&frame) {
         Ending::Carry => edge.carry_by_host(rt, frame),
@@ -132,7 +152,7 @@ pub(crate) fn root<R: Wait>(
     let Some(frame) = hierarchy.take_at(end, class) else {
         return Outcome::Idle;
     };
-    let ended = end_at_host(rt, edge, frame);
+    let ended = end_at_host(rt, hierarchy, edge, frame);
     settle(hierarchy, strays, end, ended)
 }
 
@@ -152,7 +172,28 @@ fn end_at_function<R: Wait>(
     function: Bdf,
     frame: Frame,
 ) -> Result<(), FrameFault>
-    ensures { Takes (edge_by_function edge.old function frame (ending_in edge.old.domains function frame)) frame edge.old edge.new result }
+    ensures { Takes (edge_by_function edge.old function frame (ending_in edge.old.domains function frame)) (EntryWants (entry_by_function edge.old.domains function frame (ending_in edge.old.domains function frame))) frame edge.old edge.new result }
+{
+    match end_at_own(rt, edge, function, frame) {
+        Err(FrameFault::Stray(frame)) => {
+            let down = Direction {
+                lower: function,
+                way: Way::Down,
+            };
+            edge.alien_at_function(rt, function, Place::Ingress(down), frame)
+        }
+        ended => ended,
+    }
+}
+
+/// A function takes a packet of its own domain, which is stray where that has no case for it.
+fn end_at_own<R: Wait>(
+    rt: &R,
+    edge: &mut Edge,
+    function: Bdf,
+    frame: Frame,
+) -> Result<(), FrameFault>
+    ensures { Takes (own_by_function edge.old function frame (ending_in edge.old.domains function frame)) (Emits (entry_by_function edge.old.domains function frame (ending_in edge.old.domains function frame))) frame edge.old edge.new result }
 {
     match ending_at_function(edge, function, &frame) {
         Ending::Carry => edge.carry_by_function(rt, function, frame),

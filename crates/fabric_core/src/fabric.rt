@@ -1,18 +1,26 @@
 //! The fabric: what each event does, and runs over lists of events.
 
-ghost use Rattle.std.specs.Prelude.{◌≡◌, IfOk, OnErr};
+ghost use Rattle.std.specs.Prelude.{◌≡◌, IfOk, OnErr, option_map, true};
+ghost use Rattle.std.specs.List.{list_all};
 ghost use Rattle.std.specs.Option.{option_copied};
 ghost use Rattle.edge.specs.Edges.{AreReplayed};
+ghost use Rattle.layout.specs.Share.{is_guarded_port};
 ghost use Rattle.tenants.specs.Tenants.{domain_at, place_of};
+ghost use Rattle.fabric_core.specs.Credits.{HasCredits, channel_of};
 ghost use Rattle.fabric_core.specs.Events.{StepsTo};
+ghost use Rattle.fabric_core.specs.Isolation.{AreApart, IsApart};
+ghost use Rattle.fabric_core.specs.Orderly.{IsOrderly};
+ghost use Rattle.fabric_core.specs.Places.{HaveOnePlace};
 ghost use Rattle.fabric_core.specs.Runs.{HaveBegun, Run};
-ghost use Rattle.fabric_core.specs.World.{world_of};
+ghost use Rattle.fabric_core.specs.World.{is_guarded, world_of};
 
 use crate::event::Event;
+use crate::laws::guarded_fabrics_stay_sound;
 use crate::step::step;
+use credit::Limits;
 use domain::Domain;
 use edge::Edge;
-use fab_types::{DomainId, NoMemory, Outcome, Violation};
+use fab_types::{Direction, DomainId, NoMemory, Outcome, Violation};
 use frame_log::Frame;
 use hierarchy::Hierarchy;
 use layout::Layout;
@@ -36,19 +44,23 @@ impl Model for Fabric {
 
     ghost Value = { World };
 
-    ghost use Rattle.fabric_core.specs.Invariant.{IsKept};
+    ghost use Rattle.fabric_core.specs.Invariant.{IsFabric};
     ghost use Rattle.fabric_core.specs.Kept.{world_in};
 
     ghost view = { world_in };
 
-    ghost invariant = { λ f. IsKept (world_in f) };
+    ghost invariant = { λ f. IsFabric (world_in f) };
 }
 
 impl Fabric {
-    /// The fabric of a layout, in which nothing was begun. It answers `NoMemory` where memory was refused.
+    /// The fabric of a layout, in which nothing was begun. It answers `NoMemory` where memory was refused. It is
+    /// guarded where each downstream port of the layout has all five ACS controls set.
     pub fn new(alloc: Global, layout: &Layout) -> Result<Fabric, NoMemory>
-        ensures { IfOk result (λ fabric. fabric ≡ world_of layout.now) }
+        ensures start { IfOk result (λ fabric. fabric ≡ world_of layout.now) }
+        ensures guarded { IfOk result (λ fabric. is_guarded fabric ≡ list_all is_guarded_port layout.now.ports) }
     {
+        // It tells what holds of every platform.
+        let _ = layout.ports();
         Ok(Fabric {
             hierarchy: Hierarchy::new(alloc, layout)?,
             edge: Edge::new(alloc, layout)?,
@@ -78,13 +90,38 @@ impl Fabric {
         self.reports.violations()
     }
 
+    /// The credits that the sender of a direction knows to be left (PCIe 4.0, 2.6.1), if the layout has such a link.
+    ///
+    /// Whatever was done before: of each kind they are within the receiver's start, so no counter is misread, and at
+    /// most 127 packets of a class travel to the receiver and wait there.
+    pub fn credits(&self, direction: Direction) -> Option<Limits>
+        ensures value { result ≡ option_map (λ channel. channel.left) (channel_of self.now direction) }
+        ensures bounded { HasCredits self.now direction }
+    {
+        let end = self.hierarchy.sender(direction)?;
+        Some(self.hierarchy.credits_at(end))
+    }
+
     /// Makes one event, and says what came of it. `Moved`: the fabric did what the event does. `Idle`: there was
     /// nothing to take, or no place or no credits for it, or the layout has no such port, link, outbox or
     /// function. `Refused`: the domain refused the begin. `NoMemory`: memory was refused to an event that emits a
-    /// packet, reports a violation or keeps a packet as a stray. All but `Moved` change nothing.
+    /// packet, reports a violation, or makes an entry of an alien packet or keeps a stray one. All but `Moved` change
+    /// nothing.
+    ///
+    /// In a guarded fabric, whatever the event is, no packet is ever taken where nobody has a case for it, and each
+    /// packet that a domain made stands in exactly one place, or was consumed by exactly one entry of its journal. There
+    /// the event leaves every domain that it is foreign to as it was: its state, its journal, and the place of each of
+    /// its packets. Of its own domain it makes at most one entry, and whether a begin is refused is said by that domain's
+    /// share and state alone.
     pub fn step<R: Wait>(&mut self, rt: &R, event: &Event) -> Outcome
-        ensures { StepsTo self.old event.now result self.new }
+        ensures steps { StepsTo self.old event.now result self.new }
+        ensures controls { is_guarded self.new ≡ is_guarded self.old }
+        ensures guarded { is_guarded self.new ≡ true → IsOrderly self.new }
+        ensures apart { is_guarded self.old ≡ true → IsApart self.old event.now self.new }
+        ensures placed { is_guarded self.new ≡ true → HaveOnePlace self.new }
     {
+        // A law: what an event makes of a guarded fabric is guarded.
+        guarded_fabrics_stay_sound();
         step(
             rt,
             &mut self.hierarchy,
@@ -99,7 +136,11 @@ impl Fabric {
     /// was refused; then no event was made.
     ///
     /// Whatever the events are: the state of each domain is what its machine alone makes of its journal, which
-    /// is legal, and to the begins in its journal its accepted ones were added, in their order.
+    /// is legal, and to the begins in its journal its accepted ones were added, in their order. In a guarded fabric
+    /// no packet was ever taken where nobody had a case for it: no port, host or function keeps a stray packet, and
+    /// no domain has an entry of an alien one; each event left every domain that it was foreign to as it was; and no
+    /// packet was lost or doubled: each that a domain made stands in exactly one place, or exactly one entry of its
+    /// journal consumed it.
     pub fn run<R: Wait>(
         &mut self,
         rt: &R,
@@ -109,6 +150,10 @@ impl Fabric {
         ensures run { IfOk result (λ outcomes. Run self.old events.now outcomes.items self.new) }
         ensures begins { IfOk result (λ outcomes. HaveBegun events.now outcomes.items self.old.edge.domains self.new.edge.domains) }
         ensures alone { IfOk result (λ outcomes. AreReplayed self.new.edge.domains) }
+        ensures controls { is_guarded self.new ≡ is_guarded self.old }
+        ensures guarded { IfOk result (λ outcomes. is_guarded self.new ≡ true → IsOrderly self.new) }
+        ensures apart { IfOk result (λ outcomes. is_guarded self.old ≡ true → AreApart self.old events.now outcomes.items self.new) }
+        ensures placed { IfOk result (λ outcomes. is_guarded self.new ≡ true → HaveOnePlace self.new) }
         ensures err { OnErr result (self.new ≡ self.old) }
     {
         let mut outcomes = Vec::with_capacity(alloc, events.len())?;
@@ -116,7 +161,7 @@ impl Fabric {
             let outcome = self.step(rt, event);
             outcomes.push_reserved(outcome);
         }
-        // It tells that each state is the replay of its journal.
+        // It tells that each state is the replay of its journal, and what a fabric keeps.
         let _ = self.edge.domains();
         Ok(outcomes)
     }

@@ -1,6 +1,6 @@
 //! Laws of the fabric's definitions. Each is the contract of a function that does nothing.
 
-ghost use Rattle.std.specs.Prelude.{◌≡◌, List, Some};
+ghost use Rattle.std.specs.Prelude.{◌≡◌, List, Some, true};
 ghost use Rattle.fab_types.specs.declared.class.Class.TheVariants.{Completion, NonPosted};
 ghost use Rattle.frame_log.specs.Descriptor.{Descriptor};
 ghost use Rattle.domain.specs.declared.entry.Entry.TheVariants.{Refuse};
@@ -11,12 +11,14 @@ ghost use Rattle.port.specs.Lanes.{class_of};
 ghost use Rattle.tenants.specs.Tenants.{Made, made};
 ghost use Rattle.fabric_core.specs.declared.event.Event.{Event};
 ghost use Rattle.fabric_core.specs.Events.{effect};
-ghost use Rattle.fabric_core.specs.Invariant.{IsKept};
-ghost use Rattle.fabric_core.specs.Places.{IsFlown};
+ghost use Rattle.fabric_core.specs.Invariant.{IsFabric, IsKept};
+ghost use Rattle.fabric_core.specs.Isolation.{IsApart};
+ghost use Rattle.fabric_core.specs.Places.{HaveOnePlace, IsFlown};
 ghost use Rattle.fabric_core.specs.Soundness.{IsGuardedFabric};
-ghost use Rattle.fabric_core.specs.World.{World, world_of};
+ghost use Rattle.fabric_core.specs.World.{World, is_guarded, world_of};
 
-/// Every event keeps what a fabric keeps: each packet in flight stands in exactly one place.
+/// Every event keeps what a fabric keeps: each packet in flight stands in exactly one place, or was lost as an alien
+/// packet, which in a guarded layout none is.
 pub fn every_event_keeps_the_invariant()
     ensures { (old new : World) (event : Event) → IsKept old → effect old event ≡ Some new → IsKept new }
 {}
@@ -38,3 +40,15 @@ pub fn guarded_fabrics_stay_sound()
 {
     acs::guarded_requests_go_up();
 }
+
+/// In a guarded fabric every event leaves each domain that it is foreign to as it was: its state, its journal, and the
+/// place of each of its packets. In its own domain it makes at most one entry.
+pub fn events_leave_other_domains_alone()
+    ensures { (old new : World) (event : Event) → IsFabric old → is_guarded old ≡ true → effect old event ≡ Some new → IsApart old event new }
+{}
+
+/// In a guarded fabric each packet that a domain made is in flight, and stands in exactly one place with the head that
+/// its bytes give; or exactly one entry of its domain's journal consumed it, and it stands nowhere.
+pub fn packets_have_one_place()
+    ensures { (w : World) → IsFabric w → is_guarded w ≡ true → HaveOnePlace w }
+{}

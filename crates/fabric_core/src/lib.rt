@@ -7,15 +7,17 @@ mod ends;
 mod event;
 mod fabric;
 mod laws;
+mod lose;
 mod pass;
+mod receivers;
 mod step;
 mod wires;
 
 pub use event::Event;
 pub use fabric::Fabric;
 pub use laws::{
-    every_event_keeps_the_invariant, fabrics_start_sound, guarded_fabrics_stay_sound,
-    only_non_posted_are_answered,
+    events_leave_other_domains_alone, every_event_keeps_the_invariant, fabrics_start_sound,
+    guarded_fabrics_stay_sound, only_non_posted_are_answered, packets_have_one_place,
 };
 
 #[cfg(test)]

@@ -7,6 +7,7 @@ ghost use Rattle.fabric_core.specs.Events.{StepsTo};
 ghost use Rattle.fabric_core.specs.Invariant.{IsKept};
 ghost use Rattle.fabric_core.specs.World.{world_over};
 
+use crate::lose::{lose, may_lose};
 use edge::Edge;
 use fab_types::{Class, Outcome, PortId};
 use hierarchy::Hierarchy;
@@ -24,5 +25,17 @@ pub(crate) fn pass<R: Wait>(
 ) -> Outcome
     ensures { (strays : List Descriptor) → IsKept (world_over hierarchy.old edge.old reports.old.violations strays) → StepsTo (world_over hierarchy.old edge.old reports.old.violations strays) (Pass port class) result (world_over hierarchy.new edge.new reports.new.violations strays) }
 {
-    hierarchy.pass(rt, port, class, edge, reports)
+    let Some(lost) = hierarchy.lost_at(port, class) else {
+        return hierarchy.pass(rt, port, class, edge, reports);
+    };
+    let is_full = hierarchy.is_full_at(lost.own, Class::Completion);
+    let Some(frame) = hierarchy.take_at(lost.input, class) else {
+        return Outcome::Idle;
+    };
+    if may_lose(edge, lost.place, &frame) {
+        lose(rt, hierarchy, edge, reports, &lost, is_full, frame)
+    } else {
+        hierarchy.put_back_at(lost.input, frame);
+        hierarchy.pass(rt, port, class, edge, reports)
+    }
 }

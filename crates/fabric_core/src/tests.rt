@@ -1,4 +1,5 @@
 use crate::{Event, Fabric};
+use domain::Entry;
 use fab_types::Class::{Completion, NonPosted, Posted};
 use fab_types::{Bdf, Class, Direction, DomainId, Origin, Outcome, PortId, Way};
 use frame_log::PacketBytes;
@@ -82,6 +83,14 @@ impl Scene {
         }
     }
 
+    /// The journal of the domain of this number, which is empty if there is no such domain.
+    fn journal(&self, number: u8) -> &[Entry] {
+        match DomainId::new(number).and_then(|number| self.fabric.domain(number)) {
+            Some(domain) => domain.journal(),
+            None => &[],
+        }
+    }
+
     /// A packet goes over the link with this lower end.
     fn travels<R: Wait>(&mut self, rt: &R, lower: u16, way: Way, class: Class) -> bool {
         self.moves(rt, Event::Send(direction(lower, way), class))
@@ -130,6 +139,13 @@ fn a_read_in_the_name_of_another_is_answered_by_the_port(rt: HostRuntime) -> Res
     assert!(rt; scene.travels(&rt, FUNCTION_06, Way::Down, Completion));
     assert!(rt; scene.moves(&rt, Event::Arrive(Bdf::from_bits(FUNCTION_06), Completion)));
     assert!(rt; scene.fabric.violations().len() == 1);
+    assert!(rt; matches!(scene.journal(1), [Entry::Submit(_, _)]));
+    assert!(rt;
+        matches!(
+            scene.journal(2),
+            [Entry::Submit(_, _), Entry::Refuse(0), Entry::Deliver(1)]
+        )
+    );
     assert!(rt; scene.is_idle(&rt, Event::Take(direction(FUNCTION_06, Way::Down))));
     Ok(())
 }
@@ -144,6 +160,7 @@ fn what_the_layout_has_not_is_idle(rt: HostRuntime) -> Result<(), Fail> {
     assert!(rt; scene.is_idle(&rt, Event::Credit(direction(NOBODY, Way::Up))));
     assert!(rt; scene.is_idle(&rt, Event::Arrive(Bdf::from_bits(NOBODY), Posted)));
     assert!(rt; scene.is_idle(&rt, Event::Root(Posted)));
+    assert!(rt; scene.fabric.credits(direction(NOBODY, Way::Up)).is_none());
     Ok(())
 }
 
@@ -164,5 +181,12 @@ fn a_run_has_an_outcome_of_each_event(rt: HostRuntime) -> Result<(), Fail> {
     let outcomes = scene.fabric.run(&rt, rt.alloc(), &events)?;
     assert!(rt; outcomes.len() == 5);
     assert!(rt; outcomes[2] == Outcome::Moved && outcomes[3] == Outcome::Idle);
+    let before = Scene::new(rt.alloc())?.fabric.credits(up).ok_or("a link")?;
+    let after = scene.fabric.credits(up).ok_or("a link")?;
+    assert_eq!(rt;
+        after.non_posted.headers.value() + 1,
+        before.non_posted.headers.value()
+    );
+    assert_eq!(rt; after.posted, before.posted);
     Ok(())
 }

@@ -3,3 +3,4 @@ pub mod Starting
 pub mod Keeping
 pub mod Passing
 pub mod Turning
+pub mod Room

@@ -3,3 +3,4 @@ pub mod Moves
 pub mod Starts
 pub mod Kept
 pub mod Passes
+pub mod Lost

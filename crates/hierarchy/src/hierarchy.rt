@@ -1,26 +1,33 @@
 //! The links and switches of a layout.
 
-ghost use Rattle.std.specs.Prelude.{◌≡◌, IfOk, IfSome, IsSome, List, MatchBool, MatchOption, None, Some, false, option_map};
+ghost use Rattle.std.specs.Prelude.{◌≡◌, ◌≤◌, ◌++◌, IfOk, IfSome, IsSome, List, MatchBool, MatchOption, None, Some, false, option_map};
+ghost use Rattle.fab_types.specs.declared.class.Class.{Class};
+ghost use Rattle.credit.specs.Kinds.{Kind};
+ghost use Rattle.credit.specs.Limits.{MayStart, at};
 ghost use Rattle.frame_log.specs.Descriptor.{Descriptor};
-ghost use Rattle.link.specs.Channels.{is_full, receive, send, tell};
+ghost use Rattle.layout.specs.Owners.{owner_of};
+ghost use Rattle.link.specs.Channels.{IsCovered, count_in, is_full, receive, send, tell};
 ghost use Rattle.link.specs.Simplexes.{simplex_restored};
 ghost use Rattle.port.specs.Lanes.{class_of, eligible};
 ghost use Rattle.topology.specs.Links.{sender_of};
 ghost use Rattle.topology.specs.Topologies.{IsEnd};
 ghost use Rattle.hierarchy.specs.Kept.{IsKept};
+ghost use Rattle.hierarchy.specs.Lost.{lost_at};
 ghost use Rattle.hierarchy.specs.Moves.{channel_at, left_at, on_channel, put_at};
 ghost use Rattle.hierarchy.specs.Passes.{Passes, index_of};
 ghost use Rattle.hierarchy.specs.Starts.{start_of};
 ghost use Rattle.hierarchy.specs.Views.{IsSameRest, channels, simplex_at};
 
 use crate::lanes::{
-    head_at, is_full_at, put_at, put_back_at, receive_at, send_at, take_at, tell_at,
+    credits_at, head_at, is_full_at, put_at, put_back_at, receive_at, send_at, take_at, tell_at,
 };
+use crate::lost::{Lost, lost_by};
 use crate::node::Node;
 use crate::pass::{index_of, turn_at};
 use crate::start::{nodes_of, ports_of};
 use bridge::Bridge;
-use fab_types::{Class, Direction, Head, NoMemory, Outcome, PortId};
+use credit::Limits;
+use fab_types::{Bdf, Class, Direction, DomainId, Head, NoMemory, Outcome, PortId};
 use frame_log::Frame;
 use layout::Layout;
 use port::{Desk, Port, Reporter};
@@ -65,6 +72,13 @@ impl Hierarchy {
             nodes: nodes_of(alloc, layout)?,
             ports: ports_of(alloc, layout)?,
         })
+    }
+
+    /// The domain that owns an ID: as that of its host, if it owns a port, or by the ports above its bus.
+    pub fn owner(&self, id: Bdf) -> Option<DomainId>
+        ensures { result ≡ owner_of (self.now.routes).ports id }
+    {
+        self.bridge.owner(id)
     }
 
     /// Where the packets of this direction are sent from, if there is such a link.
@@ -113,6 +127,20 @@ impl Hierarchy {
             Some(end) => tell_at(&mut self.nodes, end),
             None => false,
         }
+    }
+
+    /// The credits that the sender at this end knows to be left (PCIe 4.0, 2.6.1). In every hierarchy they and
+    /// the cost of all that travels and waits at the receiver are within the start, so no more than 127 packets
+    /// of a class are ever there.
+    pub fn credits_at(&self, end: LinkEnd) -> Limits
+        requires { IsEnd (self.now.tree).lanes end }
+        ensures value { result ≡ (channel_at (channels self.now) end).left }
+        ensures start { MayStart (channel_at (channels self.now) end).start }
+        ensures covered { IsCovered (channel_at (channels self.now) end) }
+        ensures within { (k : Kind) → at (channel_at (channels self.now) end).left k ≤ at (channel_at (channels self.now) end).start k }
+        ensures places { (class : Class) → count_in class ((channel_at (channels self.now) end).wire ++ (channel_at (channels self.now) end).ingress) ≤ 127 }
+    {
+        credits_at(&self.nodes, end)
     }
 
     /// What ports read of the eligible packet of a class that waits at the receiver of the direction that
@@ -167,6 +195,25 @@ impl Hierarchy {
         put_at(&mut self.nodes, end, frame);
     }
 
+    /// What the port of this ID is about to lose: the eligible packet of a class that came into it and that
+    /// it has no case for. None where the packet goes on or is stopped by the port, where no packet is
+    /// eligible, and where there is no such port or nothing comes into it.
+    pub fn lost_at(&mut self, id: PortId, class: Class) -> Option<Lost>
+        ensures value { result ≡ lost_at self.old id class }
+        ensures input { IfSome result (λ lost. IsEnd (self.old.tree).lanes lost.input) }
+        ensures own { IfSome result (λ lost. IsEnd (self.old.tree).lanes lost.own) }
+        ensures same { channels self.new ≡ channels self.old }
+        ensures rest { IsSameRest self.old self.new }
+    {
+        let index = index_of(&self.topology, id)?;
+        let place = self.topology.places()[index];
+        let input = place.input?;
+        let Some(head) = head_at(&mut self.nodes, input, class) else {
+            return None;
+        };
+        lost_by(&self.ports[index], &self.bridge, place.node, input, &head)
+    }
+
     /// The turn of the port of this ID, as `Port::turn` does it: packets come into it from the receiver of
     /// the direction that leads there, and go into the senders of its switch. `Idle` where there is no such
     /// port, and where nothing stands at the other end of its link.
@@ -180,7 +227,7 @@ impl Hierarchy {
     ) -> Outcome
         ensures { Passes D.refuses D.unknown D.wants R.is_sure class result (D.known desk.old) (D.known desk.new) (R.reported reporter.old) (R.reported reporter.new) self.old self.new (index_of self.old.tree.places id) }
     {
-        let Some(index) = index_of(self.topology.places(), id) else {
+        let Some(index) = index_of(&self.topology, id) else {
             return Outcome::Idle;
         };
         let place = self.topology.places()[index];

@@ -1,8 +1,11 @@
 //! What happens to one direction of a link, among all.
 
-ghost use Rattle.std.specs.Prelude.{◌≡◌, IfSome, IsSome, IsTrue, List, MatchBool, MatchOption, None, Some, false, length, map, option_map};
+ghost use Rattle.std.specs.Prelude.{◌≡◌, ◌≤◌, ◌++◌, IfSome, IsSome, IsTrue, List, MatchBool, MatchOption, None, Some, false, length, map, option_map};
+ghost use Rattle.fab_types.specs.declared.class.Class.{Class};
+ghost use Rattle.credit.specs.Kinds.{Kind};
+ghost use Rattle.credit.specs.Limits.{MayStart, at};
 ghost use Rattle.frame_log.specs.Descriptor.{Descriptor};
-ghost use Rattle.link.specs.Channels.{is_full, receive, send, tell};
+ghost use Rattle.link.specs.Channels.{IsCovered, count_in, is_full, receive, send, tell};
 ghost use Rattle.link.specs.Simplexes.{simplex_restored};
 ghost use Rattle.port.specs.Lanes.{class_of, eligible};
 ghost use Rattle.topology.specs.Topologies.{IsEnd};
@@ -10,6 +13,7 @@ ghost use Rattle.hierarchy.specs.Moves.{channel_at, left_at, on_channel, put_at}
 ghost use Rattle.hierarchy.specs.Views.{channels_of, simplex_at};
 
 use crate::node::Node;
+use credit::Limits;
 use fab_types::{Class, Head};
 use frame_log::Frame;
 use port::{LaneIn, LaneOut};
@@ -43,6 +47,19 @@ pub(crate) fn tell_at(nodes: &mut [Node], end: LinkEnd) -> bool
 {
     let node = &mut nodes[end.node];
     node.lanes[end.lane].tell()
+}
+
+/// The credits that the sender at an end knows to be left.
+pub(crate) fn credits_at(nodes: &[Node], end: LinkEnd) -> Limits
+    requires { IsEnd (map length nodes.now) end }
+    ensures value { result ≡ (channel_at (channels_of nodes.now) end).left }
+    ensures start { MayStart (channel_at (channels_of nodes.now) end).start }
+    ensures covered { IsCovered (channel_at (channels_of nodes.now) end) }
+    ensures within { (k : Kind) → at (channel_at (channels_of nodes.now) end).left k ≤ at (channel_at (channels_of nodes.now) end).start k }
+    ensures places { (class : Class) → count_in class ((channel_at (channels_of nodes.now) end).wire ++ (channel_at (channels_of nodes.now) end).ingress) ≤ 127 }
+{
+    let node = &nodes[end.node];
+    node.lanes[end.lane].left()
 }
 
 pub(crate) fn head_at(nodes: &mut [Node], end: LinkEnd, class: Class) -> Option<Head>

@@ -3,11 +3,13 @@
 
 mod hierarchy;
 mod lanes;
+mod lost;
 mod node;
 mod pass;
 mod start;
 
 pub use hierarchy::Hierarchy;
+pub use lost::Lost;
 
 #[cfg(test)]
 mod tests;

@@ -13,14 +13,14 @@ use fab_types::{Class, Outcome, PortId};
 use link::Simplex;
 use port::{Desk, Lanes, Port, Reporter};
 use std::sync::Wait;
-use topology::{LinkEnd, PortPlace};
+use topology::{LinkEnd, Topology};
 
 /// Which of the ports has this ID.
-pub(crate) fn index_of(places: &[PortPlace], id: PortId) -> Option<usize>
-    ensures value { result ≡ index_of places.now id }
-    ensures within { IfSome result (λ i. i < length places.now) }
+pub(crate) fn index_of(topology: &Topology, id: PortId) -> Option<usize>
+    ensures value { result ≡ index_of topology.now.places id }
+    ensures within { IfSome result (λ i. i < length topology.now.places) }
 {
-    places.iter().position(|place| place.id == id)
+    topology.place_number(id)
 }
 
 /// The turn of a port between a direction that leads into it and those that lead out of its switch.

@@ -37,6 +37,14 @@ few-functions switches ports functions eight few nested alone =
     let used = count_by-le-length (is_used switches functions) ports in
     omega (arith, all, used, alone, eight)
 
+-- no functions without switches
+pub no-functions : (switches : List SwitchLine) (ports : List PortLine) (functions : List FunctionLine) → length switches ≡ 0 → ((bus : ℕ) → count_by (is_on_bus bus) ports ≤ 8) → list_all (is_nested switches ports) ports ≡ true
+    → AreAlone switches ports functions → length functions ≡ 0
+no-functions switches ports functions none few nested alone =
+    let all = few-ports switches ports few nested in
+    let used = count_by-le-length (is_used switches functions) ports in
+    omega (arith, all, used, alone, none)
+
 is-here : {X : Type 0} (b : Bool) (f : X → ℕ) (id : ℕ) (x y : X) (further : Option X) → b ≡ (f y == id) → cond b (Some y) further ≡ Some x → (further ≡ Some x → f x ≡ id) → f x ≡ id
 is-here true f id x y further is e later = let same : y ≡ x = cc in rw (← same) (eqb-true (f y) id (sym is))
 is-here false f id x y further is e later = later e

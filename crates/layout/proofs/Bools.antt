@@ -33,6 +33,10 @@ pub not-true : (a : Bool) → a ≡ false → not a ≡ true
 not-true true h = absurd cc
 not-true false h = refl
 
+pub true-not : (a : Bool) → not a ≡ true → a ≡ false
+true-not true h = absurd cc
+true-not false h = refl
+
 pub all-more : {X : Type 0} (p : X → Bool) (xs : List X) (y : X) → list_all p xs ≡ true → p y ≡ true → list_all p (xs ++ y ∷ []) ≡ true
 all-more p [] y h k = and-both (p y) true k refl
 all-more p (x ∷ xs) y h k = and-both (p x) (list_all p (xs ++ y ∷ [])) (and-first (p x) (list_all p xs) h) (all-more p xs y (and-second (p x) (list_all p xs) h) k)
@@ -145,6 +149,14 @@ or-last false rest h = h
 pub any-last : {X : Type 0} (p : X → Bool) (xs : List X) (y : X) → p y ≡ true → list_any p (xs ++ y ∷ []) ≡ true
 any-last p [] y h = rw h refl
 any-last p (x ∷ xs) y h = or-last (p x) (list_any p (xs ++ y ∷ [])) (any-last p xs y h)
+
+any-not_here : (b rest more : Bool) → (b || rest) ≡ false → (rest ≡ false → more ≡ false) → (b || more) ≡ false
+any-not_here true rest more h later = absurd cc
+any-not_here false rest more h later = later h
+
+pub any-not_last : {X : Type 0} (p : X → Bool) (xs : List X) (y : X) → list_any p xs ≡ false → p y ≡ false → list_any p (xs ++ y ∷ []) ≡ false
+any-not_last p [] y h k = rw k refl
+any-not_last p (x ∷ xs) y h k = any-not_here (p x) (list_any p xs) (list_any p (xs ++ y ∷ [])) h (λ (e : list_any p xs ≡ false). any-not_last p xs y e k)
 
 pub or-here : (b rest : Bool) → b ≡ true → (b || rest) ≡ true
 or-here true rest h = refl

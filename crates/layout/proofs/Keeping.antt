@@ -1,6 +1,7 @@
 -- What holds of a platform holds with one line more, if nothing is wrong with it.
-use Rattle.std.proofs.Common.{◌≡◌, ℕ, ◌+◌, ◌==◌, ◌≤◌, ◌<◌, Bool, true, false, cond, List, [], ◌∷◌, ◌++◌, length, length-append, Option, Some, None, refl, arith, leb-true, leb-false, ltb-false, lt-ltb, eqb-true, ◌%◌}
+use Rattle.std.proofs.Common.{◌≡◌, ℕ, ◌+◌, ◌==◌, ◌≤◌, ◌<◌, Bool, true, false, cond, List, [], ◌∷◌, ◌++◌, length, length-append, Option, Some, None, refl, arith, leb-true, leb-false, ltb-false, lt-ltb, eqb-true, ◌%◌, ◌^◌}
 use Rattle.std.specs.Prelude.{◌&&◌, ◌||◌, not, nat_le, nat_lt, count_by}
+use Rattle.std.specs.List.{list_all}
 use Rattle.fab_types.specs.Id.{bus_of, id_of}
 use Rattle.fab_types.specs.declared.faults.layout.LayoutCause.TheVariants as cause
 use Rattle.layout.specs.declared.lines.SwitchLine.{SwitchLine}
@@ -17,10 +18,11 @@ use Rattle.layout.specs.Platform.{Platform}
 use Rattle.layout.specs.Tree.{port_at, port_over, domain_of, switch_on, port_above, is_third_level, is_taken, id_below}
 use Rattle.layout.specs.Rules.{is_within, frames_fault, root_fault, switch_fault, switch_fault_below, port_fault, port_fault_on, port_fault_below, is_past_port_limits, is_on_bus, function_fault, function_fault_below, map_fault, has_full_table, is_of_requester, budget_fault, has_good_credits, credit_fault, is_known_target, is_past_frames, is_foreign, is_mapped}
 use Rattle.layout.specs.Additions.{root_line, switch_line, port_line, map_line, budget_line, credit_line}
-use Rattle.layout.specs.Laws.{IsPlatform, is_good_budget, is_good_credit, are_apart, is_nested, is_hung, is_hung_below, is_level, is_level_below, is_placed, is_placed_below, AreAlone, is_known_map, is_home_map, share_no_frame}
+use Rattle.layout.specs.Laws.{IsPlatform, is_good_budget, is_good_credit, are_apart, is_nested, has_domain, ends_low, is_hung, is_hung_below, is_level, is_level_below, is_placed, is_placed_below, AreAlone, is_no_switch, is_known_map, is_home_map, share_no_frame}
 use Rattle.layout.proofs.Nesting.{nested-stays, nested-among, nested-new, hung-stays, placed-stays, apart-new}
 use Rattle.layout.proofs.Levels.{level-stays, level-among, level-new}
-use Rattle.layout.proofs.Alone.{few-functions, alone-port, alone-function, alone-switch, alone-root}
+use Rattle.layout.proofs.Alone.{few-functions, no-functions, alone-port, alone-function, alone-switch, alone-root}
+use Rattle.layout.proofs.Free.{free-function, free-switch}
 use Rattle.layout.proofs.Sharing.{home-stays, unshared-stays, known-new, home-new, unshared-new, known-stays}
 use Rattle.layout.proofs.NoFault.{none-first, none-rest, three-none, four-none}
 use Rattle.layout.proofs.Bools.{and-second, and-both, or-first, or-second, not-false, all-more, all-weaker, all-weaker-among, all-found, all-none, pair-more, pair-weaker, count-kept}
@@ -52,10 +54,13 @@ keeps-budget p budget h none = record {
   };
   apart = h.apart;
   nested = h.nested;
+  owners = h.owners;
+  windows = h.windows;
   hung = h.hung;
   levels = h.levels;
   placed = h.placed;
   alone = h.alone;
+  free = h.free;
   known = h.known;
   home = h.home;
   unshared = h.unshared;
@@ -76,10 +81,13 @@ keeps-credit p credit h none = record {
   };
   apart = h.apart;
   nested = h.nested;
+  owners = h.owners;
+  windows = h.windows;
   hung = h.hung;
   levels = h.levels;
   placed = h.placed;
   alone = h.alone;
+  free = h.free;
   known = h.known;
   home = h.home;
   unshared = h.unshared;
@@ -103,10 +111,13 @@ keeps-map p map h none =
       };
       apart = h.apart;
       nested = h.nested;
+      owners = h.owners;
+      windows = h.windows;
       hung = h.hung;
       levels = h.levels;
       placed = h.placed;
       alone = h.alone;
+      free = h.free;
       known = all-more (is_known_map p.functions p.frames) p.maps (map_line map) h.known (and-both _ _ (not-false (is_function p.functions map.requester) (or-first _ _ rules.0)) (known-new p.functions p.frames map.target (not-false (is_known_target p.functions map.target) (or-second _ _ rules.0)) (or-first _ _ rules.1)));
       home = all-more (is_home_map p.ports) p.maps (map_line map) h.home (home-new p.ports p.maps (domain_of p.ports map.requester) map.target rules.2);
       unshared = pair-more (share_no_frame p.ports) p.maps (map_line map) h.unshared (unshared-new p.ports p.maps (domain_of p.ports map.requester) map.target rules.2);
@@ -121,15 +132,20 @@ pub limits-kept : (ports : List PortLine) (above : Option PortLine) (port : Port
 unfolding port_fault_below
 limits-kept ports above port none = none-first _ _ _ (none-rest _ _ _ none)
 
-pub keeps-port : (p : Platform) (port : PortText) → IsPlatform p → None ≡ port_fault p port → IsPlatform (record p { ports = p.ports ++ port_line port ∷ [] })
+owner-new : (ports : List PortLine) (port : PortText) → is_past_port_limits ports port ≡ false → has_domain (port_line port) ≡ true
+unfolding is_past_port_limits
+owner-new ports port few = not-false (is_within 1 31 port.owner) (or-first _ _ few)
+
+pub keeps-port : (p : Platform) (port : PortText) → IsPlatform p → port.limit < 2 ^ 32 → None ≡ port_fault p port → IsPlatform (record p { ports = p.ports ++ port_line port ∷ [] })
 unfolding port_fault
-keeps-port p port h none =
+keeps-port p port h low none =
     let on = below-none p port (switch_on p.switches (bus_of port.id)) none in
+    let limits = limits-kept p.ports (port_above p.ports on.0) port on.2 in
     record {
       limits = record {
         frames = h.limits.frames;
         switches = h.limits.switches;
-        ports = λ bus. count-kept (is_on_bus bus) p.ports (port_line port) 8 (h.limits.ports bus) (place bus p.ports port (limits-kept p.ports (port_above p.ports on.0) port on.2));
+        ports = λ bus. count-kept (is_on_bus bus) p.ports (port_line port) 8 (h.limits.ports bus) (place bus p.ports port limits);
         functions = h.limits.functions;
         maps = h.limits.maps;
         budgets = h.limits.budgets;
@@ -139,10 +155,13 @@ keeps-port p port h none =
       nested = all-more (is_nested p.switches (p.ports ++ port_line port ∷ [])) p.ports (port_line port)
           (all-weaker (is_nested p.switches p.ports) (is_nested p.switches (p.ports ++ port_line port ∷ [])) p.ports (λ other. nested-stays p.switches p.ports (port_line port ∷ []) other h.hung) h.nested)
           (nested-stays p.switches p.ports (port_line port ∷ []) (port_line port) h.hung (rw on.1 (nested-new p.ports on.0 port on.2)));
+      owners = all-more has_domain p.ports (port_line port) h.owners (owner-new p.ports port limits);
+      windows = all-more ends_low p.ports (port_line port) h.windows (lt-ltb port.limit (2 ^ 32) low);
       hung = all-weaker (is_hung p.ports) (is_hung (p.ports ++ port_line port ∷ [])) p.switches (λ switch. hung-stays p.ports (port_line port ∷ []) switch.above switch) h.hung;
       levels = all-weaker-among (is_hung p.ports) (is_level p.switches p.ports) (is_level p.switches (p.ports ++ port_line port ∷ [])) p.switches (λ switch. level-stays p.switches p.ports (port_line port ∷ []) switch h.hung) h.hung h.levels;
       placed = all-weaker (is_placed p.ports) (is_placed (p.ports ++ port_line port ∷ [])) p.functions (placed-stays p.ports (port_line port ∷ [])) h.placed;
       alone = alone-port p.switches p.ports p.functions (port_line port) h.alone;
+      free = h.free;
       known = h.known;
       home = all-weaker-among (is_known_map p.functions p.frames) (is_home_map p.ports) (is_home_map (p.ports ++ port_line port ∷ [])) p.maps (λ line. home-stays p.ports (port_line port ∷ []) p.functions p.frames line h.placed) h.known h.home;
       unshared = pair-weaker (is_known_map p.functions p.frames) (share_no_frame p.ports) (share_no_frame (p.ports ++ port_line port ∷ [])) p.maps (λ one other. unshared-stays p.ports (port_line port ∷ []) p.functions p.frames one other h.placed) h.known h.unshared;
@@ -158,6 +177,10 @@ placed-new p function (Some port) none =
 alone-below : (p : Platform) (function : FunctionLine) (above : Option PortLine) → port_over p.ports function.id ≡ above → AreAlone p.switches p.ports p.functions → None ≡ function_fault_below p function above → AreAlone p.switches p.ports (p.functions ++ function ∷ [])
 alone-below p function None over h none = absurd cc
 alone-below p function (Some port) over h none = alone-function p.switches p.ports p.functions function port over (none-first _ _ _ none) h
+
+free-below : (p : Platform) (function : FunctionLine) (above : Option PortLine) → None ≡ function_fault_below p function above → is_no_switch p.switches function ≡ true
+free-below p function None none = absurd cc
+free-below p function (Some port) none = free-function p.switches p.functions function (none-first _ _ _ none)
 
 pub keeps-function : (p : Platform) (function : FunctionLine) → IsPlatform p → None ≡ function_fault p function → IsPlatform (record p { functions = p.functions ++ function ∷ [] })
 unfolding function_fault
@@ -175,10 +198,13 @@ keeps-function p function h none =
       };
       apart = h.apart;
       nested = h.nested;
+      owners = h.owners;
+      windows = h.windows;
       hung = h.hung;
       levels = h.levels;
       placed = all-more (is_placed p.ports) p.functions function h.placed (placed-new p function (port_over p.ports function.id) none);
       alone = alone;
+      free = all-more (is_no_switch p.switches) p.functions function h.free (free-below p function (port_over p.ports function.id) none);
       known = all-weaker (is_known_map p.functions p.frames) (is_known_map (p.functions ++ function ∷ []) p.frames) p.maps (known-stays p.functions (function ∷ []) p.frames) h.known;
       home = h.home;
       unshared = h.unshared;
@@ -210,6 +236,11 @@ alone-hung p switch (Some port) at_port h none =
     let rule = none-first (not (switch.id == id_below port) || is_taken p.switches p.functions switch.id) _ _ none in
     alone-switch p.switches p.ports p.functions (switch_line switch) (λ (other : PortLine). other.id == switch.above) port at_port (eqb-true switch.id (id_below port) (not-false _ (or-first _ _ rule))) (or-second _ _ rule) h
 
+free-hung : (p : Platform) (switch : SwitchText) (above : Option PortLine) → list_all (is_no_switch p.switches) p.functions ≡ true → None ≡ switch_fault_below p switch.id above → list_all (is_no_switch (p.switches ++ switch_line switch ∷ [])) p.functions ≡ true
+free-hung p switch None h none = absurd cc
+free-hung p switch (Some port) h none =
+    free-switch p.switches p.functions (switch_line switch) (or-second (not (switch.id == id_below port)) (is_taken p.switches p.functions switch.id) (none-first _ _ _ none)) h
+
 pub keeps-switch : (p : Platform) (switch : SwitchText) → IsPlatform p → None ≡ switch_fault p switch → IsPlatform (record p { switches = p.switches ++ switch_line switch ∷ [] })
 unfolding switch_fault
 keeps-switch p switch h none = record {
@@ -224,12 +255,15 @@ keeps-switch p switch h none = record {
   };
   apart = h.apart;
   nested = all-weaker (is_nested p.switches p.ports) (is_nested (p.switches ++ switch_line switch ∷ []) p.ports) p.ports (nested-among p.switches (switch_line switch ∷ []) p.ports) h.nested;
+  owners = h.owners;
+  windows = h.windows;
   hung = all-more (is_hung p.ports) p.switches (switch_line switch) h.hung (hung-new p switch (port_at p.ports switch.above) none);
   levels = all-more (is_level (p.switches ++ switch_line switch ∷ []) p.ports) p.switches (switch_line switch)
       (all-weaker (is_level p.switches p.ports) (is_level (p.switches ++ switch_line switch ∷ []) p.ports) p.switches (λ other. level-among p.switches (switch_line switch ∷ []) p.ports other h.nested) h.levels)
       (level-hung p switch (port_at p.ports switch.above) h (λ port e. all-found (λ (other : PortLine). other.id == switch.above) (is_nested p.switches p.ports) p.ports port e h.nested) none);
   placed = h.placed;
   alone = alone-hung p switch (port_at p.ports switch.above) refl h.alone none;
+  free = free-hung p switch (port_at p.ports switch.above) h.free none;
   known = h.known;
   home = h.home;
   unshared = h.unshared;
@@ -249,10 +283,13 @@ keeps-frames p count h none = record {
   };
   apart = h.apart;
   nested = h.nested;
+  owners = h.owners;
+  windows = h.windows;
   hung = h.hung;
   levels = h.levels;
   placed = h.placed;
   alone = h.alone;
+  free = h.free;
   known = all-none (is_known_map p.functions count) p.maps (eqb-true (length p.maps) 0 (not-false (length p.maps == 0) (or-second _ _ (none-first _ _ _ none))));
   home = h.home;
   unshared = h.unshared;
@@ -276,11 +313,14 @@ keeps-root p id h none = record {
   };
   apart = h.apart;
   nested = all-weaker (is_nested p.switches p.ports) (is_nested (p.switches ++ root_line id ∷ []) p.ports) p.ports (nested-among p.switches (root_line id ∷ []) p.ports) h.nested;
+  owners = h.owners;
+  windows = h.windows;
   hung = all-more (is_hung p.ports) p.switches (root_line id) h.hung (not-false (id == id_of 1 0 0) (or-first _ _ (none-first _ _ _ none)));
   levels = all-more (is_level (p.switches ++ root_line id ∷ []) p.ports) p.switches (root_line id)
       (all-weaker (is_level p.switches p.ports) (is_level (p.switches ++ root_line id ∷ []) p.ports) p.switches (λ other. level-among p.switches (root_line id ∷ []) p.ports other h.nested) h.levels) refl;
   placed = h.placed;
   alone = alone-root p.switches p.ports p.functions (root_line id) (no-switches p id none) h.alone;
+  free = all-none (is_no_switch (p.switches ++ root_line id ∷ [])) p.functions (no-functions p.switches p.ports p.functions (no-switches p id none) h.limits.ports h.nested h.alone);
   known = h.known;
   home = h.home;
   unshared = h.unshared;

@@ -8,6 +8,7 @@ pub mod Levels
 pub mod Sharing
 pub mod FrameOwners
 pub mod Alone
+pub mod Free
 pub mod Keeping
 pub mod Ranges
 pub mod Reached

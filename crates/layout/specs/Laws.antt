@@ -1,5 +1,5 @@
 -- What holds of every platform that was read.
-use Rattle.std.specs.Prelude.{◌≡◌, ℕ, ◌+◌, ◌-◌, ◌%◌, ◌==◌, ◌≤◌, Bool, true, false, ◌&&◌, not, nat_le, nat_lt, List, [], ◌∷◌, length, count_by, Option, Some, None}
+use Rattle.std.specs.Prelude.{◌≡◌, ℕ, ◌+◌, ◌-◌, ◌%◌, ◌^◌, ◌==◌, ◌≤◌, Bool, true, false, ◌&&◌, not, nat_le, nat_lt, List, [], ◌∷◌, length, count_by, Option, Some, None}
 use Rattle.std.specs.List.{list_all}
 use Rattle.fab_types.specs.Id.{bus_of, id_of}
 use Rattle.layout.specs.declared.lines.SwitchLine.{SwitchLine}
@@ -12,7 +12,7 @@ use Rattle.layout.specs.declared.lines.BudgetLine.{BudgetLine}
 use Rattle.layout.specs.declared.lines.CreditLine.{CreditLine}
 use Rattle.layout.specs.Platform.{Platform}
 use Rattle.layout.specs.Owners.{is_function}
-use Rattle.layout.specs.Tree.{port_at, port_over, port_above, switch_on, id_below, is_third_level, is_taken, domain_of}
+use Rattle.layout.specs.Tree.{port_at, port_over, port_above, switch_on, id_below, is_switch, is_third_level, is_taken, domain_of}
 use Rattle.layout.specs.Rules.{is_within, is_on_bus, is_of_requester, is_mapping_of}
 
 abbrev pub is_good_budget : BudgetLine → Bool
@@ -63,6 +63,13 @@ is_nested_on ports (Some switch) port = nat_le port.secondary port.subordinate &
 abbrev pub is_nested : List SwitchLine → List PortLine → PortLine → Bool
 is_nested switches ports port = is_nested_on ports (switch_on switches (bus_of port.id)) port
 
+abbrev pub has_domain : PortLine → Bool
+has_domain port = is_within 1 31 port.owner
+
+-- addresses of windows have 32 bits
+abbrev pub ends_low : PortLine → Bool
+ends_low port = nat_lt port.limit (2 ^ 32)
+
 abbrev pub is_hung_below : Option PortLine → SwitchLine → Bool
 is_hung_below None switch = false
 is_hung_below (Some port) switch = (switch.id == id_below port) && nat_lt port.secondary port.subordinate
@@ -100,6 +107,9 @@ is_used switches functions port = is_taken switches functions (id_below port)
 abbrev pub AreAlone : List SwitchLine → List PortLine → List FunctionLine → Type 0
 AreAlone switches ports functions = length functions + (length switches - 1) ≤ count_by (is_used switches functions) ports
 
+abbrev pub is_no_switch : List SwitchLine → FunctionLine → Bool
+is_no_switch switches function = not (is_switch switches function.id)
+
 abbrev pub is_known : List FunctionLine → ℕ → MapTarget → Bool
 is_known functions frames (mapped.Frame frame) = nat_lt frame frames
 is_known functions frames (mapped.Peer peer) = is_function functions peer
@@ -129,10 +139,13 @@ pub record IsPlatform (platform : Platform) : Type 0 where
   pub limits : HasLimits platform
   pub apart : each_pair are_apart platform.ports ≡ true
   pub nested : list_all (is_nested platform.switches platform.ports) platform.ports ≡ true
+  pub owners : list_all has_domain platform.ports ≡ true  -- domains have the numbers 1 to 31
+  pub windows : list_all ends_low platform.ports ≡ true
   pub hung : list_all (is_hung platform.ports) platform.switches ≡ true
   pub levels : list_all (is_level platform.switches platform.ports) platform.switches ≡ true
   pub placed : list_all (is_placed platform.ports) platform.functions ≡ true
   pub alone : AreAlone platform.switches platform.ports platform.functions
+  pub free : list_all (is_no_switch platform.switches) platform.functions ≡ true  -- no function stands where a switch does
   pub known : list_all (is_known_map platform.functions platform.frames) platform.maps ≡ true
   pub home : list_all (is_home_map platform.ports) platform.maps ≡ true
   pub unshared : each_pair (share_no_frame platform.ports) platform.maps ≡ true

@@ -1,6 +1,6 @@
 //! A platform with one line more.
 
-ghost use Rattle.std.specs.Prelude.{◌≡◌, ◌≤◌, ◌<◌, ◌==◌, true, false, option_map};
+ghost use Rattle.std.specs.Prelude.{◌≡◌, ◌≤◌, ◌<◌, ◌^◌, ◌==◌, true, false, option_map};
 ghost use Rattle.std.specs.List.{find};
 ghost use Rattle.layout.specs.Rules.{has_good_credits, is_past_frames};
 ghost use Rattle.layout.specs.Owners.{owns_port};
@@ -22,8 +22,11 @@ use text::is_comment;
 fn port_line(port: &PortText) -> PortLine
     requires owner { (1 ≤ port.now.owner) × (port.now.owner ≤ 31) }
     requires controls { port.now.controls < 32 }
-    ensures { result ≡ port_line port.now }
+    ensures value { result ≡ port_line port.now }
+    ensures low { port.now.limit < 2 ^ 32 }
 {
+    // a copy has the range of its type
+    let port = *port;
     PortLine {
         id: PortId::new(port.id),
         secondary: port.secondary,

@@ -4,7 +4,7 @@
 use Rattle.std.specs.Prelude.{ℕ, ◌+◌, ◌-◌, ◌==◌, ◌≤◌, Bool, ◌&&◌, nat_le, List, [], ◌∷◌, ◌++◌, Option, Some, None, if◌then◌else◌}
 use Rattle.frame_log.specs.Descriptor.{Descriptor}
 use Rattle.credit.specs.Kinds.{Class, Cost, Kind, cost_of}
-use Rattle.credit.specs.Limits.{credits_at, at, with_credits}
+use Rattle.credit.specs.Limits.{MayStart, credits_at, at, with_credits}
 use Rattle.credit.specs.declared.counters.Credits.{Credits}
 use Rattle.credit.specs.declared.counters.Counters.{Counters}
 use Rattle.ordering.specs.Ordering.{same_class}
@@ -61,6 +61,14 @@ is_full class c = count_in class c.egress == 16
 -- what the sender has left and what travels and waits behind it never cost more than the start
 abbrev pub IsCovered : Channel → Type 0
 IsCovered c = (k : Kind) → at c.left k + total k (c.wire ++ c.ingress) ≤ at c.start k
+
+-- of each kind the start is less than half of what a counter holds, and no more is left than at the start; so counters are
+-- never misread, and at most 127 packets of a class travel and wait
+pub record IsBounded (c : Channel) : Type 0 where
+  pub start : MayStart c.start
+  pub within : (k : Kind) → at c.left k ≤ at c.start k
+  pub covered : IsCovered c
+  pub places : (class : Class) → count_in class (c.wire ++ c.ingress) ≤ 127
 
 -- ---- what may happen
 

@@ -83,6 +83,7 @@ impl Simplex {
     /// has places.
     pub fn left(&self) -> Limits
         ensures value { result ≡ self.now.left }
+        ensures start { MayStart self.now.start }
         ensures covered { IsCovered (channel self.now) }
         ensures within { (k : Kind) → at self.now.left k ≤ at self.now.start k }
         ensures places { (class : Class) → count_in class (self.now.wire ++ frames_of self.now.ingress.queue.waiting) ≤ 127 }

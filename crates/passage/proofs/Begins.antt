@@ -24,6 +24,7 @@ use Rattle.function.specs.Tags.{awaits_line, free_tag}
 use Rattle.host_memory.specs.Pages.{page_of}
 use Rattle.layout.specs.declared.lines.FunctionLine.{FunctionLine}
 use Rattle.layout.specs.declared.lines.PortLine.{PortLine}
+use Rattle.layout.specs.Laws.{ends_low}
 use Rattle.layout.specs.Owners.{first_port, is_own_function}
 use Rattle.layout.specs.Platform.{Platform}
 use Rattle.layout.specs.Share.{Share}
@@ -48,7 +49,7 @@ use Rattle.domain.specs.Submits.{submit_fault, submit_unless}
 use Rattle.domain.specs.Tags.{completes, is_completion_unless}
 use Rattle.domain.specs.Ticks.{sent_by, tick_fault, tick_unless, ticks, ticks_by}
 use Rattle.domain.specs.WellMade.{IsWellMade}
-use Rattle.passage.specs.Guarded.{IsFunctionOf, IsGuarded, ends_low, holds_if_any, top_id}
+use Rattle.passage.specs.Guarded.{IsFunctionOf, IsGuarded, holds_if_any, top_id}
 use Rattle.passage.specs.Sound.{Falling, IsMeantFor, Reaches, Rising, is_reply}
 use Rattle.passage.proofs.Finds.{find_all, some, some_is}
 use Rattle.passage.proofs.Below.{Under, under_root}
@@ -221,7 +222,7 @@ module _ (platform : Platform) (g : IsGuarded platform) where
   -- so it has 32 bits
   bar_low : (d f address : ℕ) (first : First platform d f) → InWindow first.port address → address < 2 ^ 64
   bar_low d f address first within =
-      let low : first.port.limit < 2 ^ 32 = ltb-true first.port.limit (2 ^ 32) (find_all (λ (q : PortLine). q.id == first.port.id) ends_low platform.ports first.port first.listed g.windows) in
+      let low : first.port.limit < 2 ^ 32 = ltb-true first.port.limit (2 ^ 32) (find_all (λ (q : PortLine). q.id == first.port.id) ends_low platform.ports first.port first.listed g.laws.windows) in
       let before = within.before in
       omega (arith, low, before)
 

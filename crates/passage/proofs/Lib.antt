@@ -10,6 +10,8 @@ pub mod Bytes
 pub mod Homes
 pub mod Hosts
 pub mod Taking
+pub mod Links
+pub mod LinksBelow
 pub mod Spelled
 pub mod Reaching
 pub mod Begins

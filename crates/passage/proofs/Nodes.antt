@@ -6,7 +6,7 @@ use Rattle.fab_types.specs.Id.{bus_of, id_of}
 use Rattle.layout.specs.declared.lines.FunctionLine.{FunctionLine}
 use Rattle.layout.specs.declared.lines.PortLine.{PortLine}
 use Rattle.layout.specs.declared.lines.SwitchLine.{SwitchLine}
-use Rattle.layout.specs.Laws.{IsPlatform, is_hung, is_hung_by, is_hung_below, is_placed, is_placed_below}
+use Rattle.layout.specs.Laws.{IsPlatform, is_hung, is_hung_by, is_hung_below, is_no_switch, is_placed, is_placed_below}
 use Rattle.layout.specs.Owners.{first_port, holds_bus, is_function}
 use Rattle.layout.specs.Platform.{Platform}
 use Rattle.layout.specs.Reach.{holds_bus_if_any}
@@ -14,7 +14,7 @@ use Rattle.layout.specs.Tree.{id_below, internal_bus, is_switch, is_taken, port_
 use Rattle.bridge.specs.declared.target.Target.{Target}
 use Rattle.bridge.specs.declared.target.Target.TheVariants.{Bus}
 use Rattle.bridge.specs.Routes.{holds_target}
-use Rattle.passage.specs.Guarded.{IsFunctionOf, IsGuarded, is_below, is_no_switch, top_id}
+use Rattle.passage.specs.Guarded.{IsFunctionOf, IsGuarded, is_below, top_id}
 use Rattle.passage.proofs.Finds.{any_found, find_all, find_any, find_passes, some, some_is}
 use Rattle.passage.proofs.Trees.{IsPort, is_port, parent, switch_of}
 use Rattle.passage.proofs.Below.{Under, holds_own, lift, not_first, one_below, one_secondary, same_or_later, under_root}
@@ -186,7 +186,7 @@ module _ (platform : Platform) (g : IsGuarded platform) where
   apart id listed switch =
       let line = any_found (λ (line : FunctionLine). line.id == id) platform.functions listed in
       let same = eqb-true line.found.id id (find_passes (λ (line : FunctionLine). line.id == id) platform.functions line.found line.is) in
-      let free = find_all (λ (line : FunctionLine). line.id == id) (is_no_switch platform.switches) platform.functions line.found line.is g.free in
+      let free = find_all (λ (line : FunctionLine). line.id == id) (is_no_switch platform.switches) platform.functions line.found line.is g.laws.free in
       not_both (is_switch platform.switches line.found.id) free (ap (is_switch platform.switches) same ∙ switch)
 
   -- below the first port of a function stands nothing but the function

@@ -8,12 +8,13 @@ use Rattle.fab_types.specs.declared.head.Header.TheVariants as header
 use Rattle.fab_types.specs.declared.place.Origin.{Origin}
 use Rattle.frame_log.specs.Descriptor.{Descriptor}
 use Rattle.layout.specs.declared.lines.PortLine.{PortLine}
+use Rattle.layout.specs.Laws.{has_domain}
 use Rattle.layout.specs.Owners.{holds_bus, owner_of, owner_of_bus, owner_of_parts, owns_port}
 use Rattle.layout.specs.Platform.{Platform}
 use Rattle.layout.specs.Reach.{holds_bus_if_any}
 use Rattle.port.specs.Vetted.{may_go_on, requester_owner}
 use Rattle.bridge.specs.declared.target.Target.TheVariants.{Bus}
-use Rattle.passage.specs.Guarded.{IsFunctionOf, IsGuarded, has_domain, has_id}
+use Rattle.passage.specs.Guarded.{IsFunctionOf, IsGuarded, has_id}
 use Rattle.passage.specs.Sound.{Reaches}
 use Rattle.passage.proofs.Finds.{any_found, find_all, find_any, find_passes, some}
 use Rattle.passage.proofs.Trees.{IsPort, is_port}
@@ -47,7 +48,7 @@ module _ (platform : Platform) (g : IsGuarded platform) where
   -- a domain with a function has a number up to 31
   pub small : (d f : ℕ) → First platform d f → d ≤ 31
   small d f first =
-      let within = find_all (λ (q : PortLine). q.id == first.port.id) has_domain platform.ports first.port first.listed g.owners in
+      let within = find_all (λ (q : PortLine). q.id == first.port.id) has_domain platform.ports first.port first.listed g.laws.owners in
       let le : first.port.owner ≤ 31 = leb-true first.port.owner 31 (and_parts (nat_le 1 first.port.owner) (nat_le first.port.owner 31) within).1 in
       let owner = first.owner in
       omega (arith, le, owner)

@@ -1,16 +1,17 @@
 //! Laws of guarded layouts. Each is the contract of a function that does nothing.
 
-ghost use Rattle.std.specs.Prelude.{◌≡◌, ◌≢◌, ℕ, Bool, List, Option, Some, None, true, false};
+ghost use Rattle.std.specs.Prelude.{◌≡◌, ◌≢◌, ℕ, suc, ◌<◌, Bool, List, ◌∷◌, All, Option, Some, None, true, false, slice_get};
 ghost use Rattle.layout.specs.declared.lines.PortLine.{PortLine};
 ghost use Rattle.layout.specs.declared.lines.SwitchLine.{SwitchLine};
 ghost use Rattle.layout.specs.Platform.{Platform};
 ghost use Rattle.layout.specs.Owners.{is_function};
-ghost use Rattle.layout.specs.Tree.{id_below, port_at};
+ghost use Rattle.layout.specs.Tree.{id_below, port_at, switch_on};
 ghost use Rattle.layout.specs.Share.{Share};
 ghost use Rattle.layout.specs.Views.{share_of_domain};
 ghost use Rattle.fab_types.specs.Id.{bus_of, host_of};
 ghost use Rattle.fab_types.specs.declared.head.Header.TheVariants as header;
 ghost use Rattle.fab_types.specs.declared.head.Parties.TheVariants.{Downward, Upward};
+ghost use Rattle.fab_types.specs.declared.place.Direction.{Direction};
 ghost use Rattle.fab_types.specs.declared.place.Origin.TheVariants.{Function, Host};
 ghost use Rattle.fab_types.specs.declared.violation.Violation.{Violation};
 ghost use Rattle.fab_types.specs.declared.place.Way.TheVariants.{Up, Down};
@@ -32,9 +33,10 @@ ghost use Rattle.domain.specs.Machine.{change, replay};
 ghost use Rattle.domain.specs.State.{Alone, Change, Emission};
 ghost use Rattle.domain.specs.WellMade.{IsWellMade};
 ghost use Rattle.passage.specs.Ends.{Flies, IsFor, IsLegal, IsOwnRequest};
-ghost use Rattle.passage.specs.Guarded.{IsFunctionOf, IsGuarded, top_id};
+ghost use Rattle.passage.specs.Guarded.{IsFunctionOf, IsGuarded, is_below, top_id};
+ghost use Rattle.passage.specs.Links.{IsWay, link_above};
 ghost use Rattle.passage.specs.Sound.{IsSound, is_reply};
-ghost use Rattle.passage.specs.Ways.{Passes, PassesDown};
+ghost use Rattle.passage.specs.Ways.{Passes, PassesDown, direction_out};
 ghost use Rattle.passage.specs.Dispositions.{IsGuardedFirst, by_fate, report_at, sent_by};
 
 /// A port with all five controls set does with each request of the function below it, and with all
@@ -136,4 +138,50 @@ pub fn emissions_are_sound()
         → change (share_of_domain platform frame.domain) state (Refuse frame.number) ≡ Some made → made.emission ≡ Some emission → IsWellMade emission.parties emission.bytes
         → IsSound platform (record { lower = function; way = Down }) (descriptor_of frame.domain number emission) }
     ensures delivered { (share : Share) (state : Alone) (number : ℕ) (made : Change) → change share state (Deliver number) ≡ Some made → made.emission ≡ None }
+{}
+
+/// Each function of a guarded layout has a way up to the host: the links from its own on, each followed
+/// by the one above it, up to that between the top switch and the host, which has none above it. Each
+/// link has one way at most.
+pub fn functions_have_ways()
+    ensures way { (platform : Platform) (domain function : ℕ) → IsGuarded platform → IsFunctionOf platform domain function → (links : List ℕ) × IsWay platform function links }
+    ensures only { (platform : Platform) (lower : ℕ) (one other : List ℕ) → IsGuarded platform → IsWay platform lower one → IsWay platform lower other → one ≡ other }
+    ensures top { (platform : Platform) → IsGuarded platform → link_above platform top_id ≡ None }
+{}
+
+/// A way has no link twice: of two of its links the later has the lower bus. It starts with the link that
+/// it is the way from, and behind its first comes the way from the link above.
+pub fn ways_are_simple()
+    ensures falls { (platform : Platform) (lower first : ℕ) (links : List ℕ) → IsWay platform lower (first ∷ links) → All (λ (link : ℕ). bus_of link < bus_of first) links }
+    ensures places { (platform : Platform) (lower : ℕ) (links : List ℕ) (earlier later one other : ℕ) → IsWay platform lower links → earlier < later → slice_get links earlier ≡ Some one → slice_get links later ≡ Some other → bus_of other < bus_of one }
+    ensures starts { (platform : Platform) (lower first : ℕ) (links : List ℕ) → IsWay platform lower (first ∷ links) → first ≡ lower }
+    ensures tails { (platform : Platform) (lower first next : ℕ) (links : List ℕ) → IsWay platform lower (first ∷ next ∷ links) → (link_above platform first ≡ Some next) × IsWay platform next (next ∷ links) }
+{}
+
+/// Each link of a function's way has the function below it.
+pub fn ways_hold_their_function()
+    ensures { (platform : Platform) (domain function : ℕ) (links : List ℕ) → IsGuarded platform → IsFunctionOf platform domain function → IsWay platform function links
+        → All (λ (link : ℕ). is_below platform link function ≡ true) links }
+{}
+
+/// Of the links directly below a switch one at most has the function below it.
+pub fn one_link_below()
+    ensures { (platform : Platform) (domain function one other above : ℕ) → IsGuarded platform → IsFunctionOf platform domain function
+        → link_above platform one ≡ Some above → link_above platform other ≡ Some above → is_below platform one function ≡ true → is_below platform other function ≡ true → one ≡ other }
+{}
+
+/// What goes up from a downstream port goes on to the link above that below the port.
+pub fn what_goes_up_keeps_to_the_way()
+    ensures { (platform : Platform) (line : PortLine) (switch : SwitchLine) (direction : Direction) → IsGuarded platform → port_at platform.ports line.id ≡ Some line
+        → switch_on platform.switches (bus_of line.id) ≡ Some switch → direction_out platform switch 0 ≡ Some direction
+        → (direction.way ≡ Up) × (link_above platform (id_below line) ≡ Some direction.lower) }
+{}
+
+/// What goes down from a switch goes on to a link that has the switch's own link above it: from the upstream
+/// port, and also from another downstream port.
+pub fn what_goes_down_keeps_to_the_way()
+    ensures down { (platform : Platform) (switch : SwitchLine) (place : ℕ) (direction : Direction) → IsGuarded platform → switch_at platform.switches switch.id ≡ Some switch
+        → direction_out platform switch (suc place) ≡ Some direction → (direction.way ≡ Down) × (link_above platform direction.lower ≡ Some switch.id) }
+    ensures across { (platform : Platform) (line : PortLine) (switch : SwitchLine) (place : ℕ) (direction : Direction) → IsGuarded platform → switch_on platform.switches (bus_of line.id) ≡ Some switch
+        → direction_out platform switch (suc place) ≡ Some direction → (direction.way ≡ Down) × (link_above platform direction.lower ≡ Some switch.id) }
 {}

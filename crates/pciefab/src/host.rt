@@ -1,9 +1,9 @@
-//! What the program takes from its host before it begins.
+//! What the program takes from its host: its words, standard output, and files.
 
-use crate::fault::Fault;
+use commands::{Fault, FileFault, FileGiver};
 use std::io::{BufWriter, ErrorKind, Printer};
-use std::rt::Env;
-use std::{env, io};
+use std::rt::{Env, Files};
+use std::{env, fs, io};
 
 /// The words of the command line without the program's name, and a buffer before standard output.
 pub fn words_and_output<R: Env + Print + AllocGlobal>(
@@ -17,4 +17,31 @@ pub fn words_and_output<R: Env + Print + AllocGlobal>(
     };
     let out = BufWriter::new(rt.alloc(), io::writer(rt))?;
     Ok((words, out))
+}
+
+/// The files of the host.
+#[derive(Drop)]
+pub struct HostFiles<'a, R> {
+    rt: &'a R,
+}
+
+impl<'a, R: Files + AllocGlobal> HostFiles<'a, R> {
+    pub fn new(rt: &'a R) -> HostFiles<'a, R> {
+        HostFiles { rt }
+    }
+}
+
+impl<R: Files + AllocGlobal> FileGiver for HostFiles<'_, R> {
+    ghost use Rattle.std.specs.Prelude.{⊤};
+
+    // Of what the host gives nothing is known.
+    ghost holds = { λ files name bytes. ⊤ };
+
+    fn bytes_of(&self, name: &str) -> Result<Vec<u8>, FileFault> {
+        match fs::read(self.rt, name) {
+            Ok(bytes) => Ok(bytes),
+            Err(error) if error.kind() == ErrorKind::OutOfMemory => Err(FileFault::NoMemory),
+            Err(_) => Err(FileFault::Unreadable),
+        }
+    }
 }

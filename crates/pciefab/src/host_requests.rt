@@ -2,7 +2,7 @@
 
 use domain::Domain;
 use fab_types::{AddressType, Bdf, DomainId, Header, Parties};
-use frame_log::{Frame, FrameFault, Log};
+use frame_log::{Frame, Log};
 use layout::Layout;
 use std::alloc::Global;
 use std::sync::{Arc, Wait};
@@ -17,25 +17,65 @@ fn tenant(alloc: Global, text: &str) -> Result<Domain, Fail> {
     Ok(Domain::new(alloc, &start, log)?)
 }
 
-/// Function 03:00.0 submits these bytes.
-fn submit<R: Wait>(rt: &R, alloc: Global, domain: &mut Domain, word: &str) -> Result<Frame, Fail> {
-    let bytes = hex::decode(alloc, word)?;
-    let frame = domain.submit(rt, Bdf::from_bits(0x0300), &bytes);
-    Ok(frame.ok().ok_or("a packet")?)
+/// A domain, and what the host sends on or answers.
+#[derive(Drop)]
+struct Scene {
+    alloc: Global,
+    domain: Domain,
+    sent: Option<Frame>,
 }
 
-/// Function 03:00.0 submits these bytes, and the host takes them.
-fn carry<R: Wait>(
-    rt: &R,
-    alloc: Global,
-    domain: &mut Domain,
-    word: &str,
-) -> Result<Option<Frame>, Fail> {
-    let frame = submit(rt, alloc, domain, word)?;
-    match domain.carry(rt, frame) {
-        Ok(sent) => Ok(sent),
-        Err(FrameFault::Stray(_)) => Err(Fail::from("a stray packet")),
-        Err(FrameFault::NoMemory(_)) => Err(Fail::from("no memory")),
+impl Scene {
+    fn new(alloc: Global, text: &str) -> Result<Scene, Fail> {
+        Ok(Scene {
+            alloc,
+            domain: tenant(alloc, text)?,
+            sent: None,
+        })
+    }
+
+    /// Function 03:00.0 submits these bytes.
+    fn submitted<R: Wait>(&mut self, rt: &R, word: &str) -> Option<Frame> {
+        let bytes = hex::decode(self.alloc, word).ok()?;
+        self.domain.submit(rt, Bdf::from_bits(0x0300), &bytes).ok()
+    }
+
+    /// Function 03:00.0 submits these bytes, and the host takes them.
+    fn is_carried<R: Wait>(&mut self, rt: &R, word: &str) -> bool {
+        match self.submitted(rt, word) {
+            Some(frame) => self.takes(rt, frame),
+            None => false,
+        }
+    }
+
+    fn takes<R: Wait>(&mut self, rt: &R, frame: Frame) -> bool {
+        match self.domain.carry(rt, frame) {
+            Ok(sent) => {
+                self.sent = sent;
+                true
+            }
+            Err(_) => false,
+        }
+    }
+
+    fn blocked(&self) -> u64 {
+        self.domain.counts().blocked
+    }
+
+    /// Has frame 0 no byte that is set?
+    fn is_blank(&self) -> bool {
+        match self.domain.frame(0) {
+            Some(page) => page.iter().all(|byte| *byte == 0),
+            None => false,
+        }
+    }
+
+    /// Does the host send on a request of 03:00.0 that goes down to 08:00.0, at this address?
+    fn sends_to_peer(&self, address: u64) -> bool {
+        match &self.sent {
+            Some(frame) => goes_to_peer(frame, address),
+            None => false,
+        }
     }
 }
 
@@ -51,12 +91,11 @@ map 03:00.0 1 frame 0 r
 
 #[test]
 fn a_page_that_is_mapped_for_reads_takes_no_write(rt: HostRuntime) -> Result<(), Fail> {
-    let mut domain = tenant(rt.alloc(), READ_ONLY)?;
-    let sent = carry(&rt, rt.alloc(), &mut domain, WRITE)?;
-    assert!(rt; sent.is_none());
-    assert_eq!(rt; domain.counts().blocked, 1);
-    let page = domain.frame(0).ok_or("the frame")?;
-    assert!(rt; page.iter().all(|byte| *byte == 0));
+    let mut scene = Scene::new(rt.alloc(), READ_ONLY)?;
+    assert!(rt; scene.is_carried(&rt, WRITE));
+    assert!(rt; scene.sent.is_none());
+    assert_eq!(rt; scene.blocked(), 1);
+    assert!(rt; scene.is_blank());
     Ok(())
 }
 
@@ -69,7 +108,6 @@ function 08:00.0 90300000
 map 03:00.0 2 peer 08:00.0 rw
 ";
 
-/// Is it a request of 03:00.0 that goes down to 08:00.0, at this address?
 fn goes_to_peer(frame: &Frame, address: u64) -> bool {
     let header = Header::Memory {
         requester: Bdf::from_bits(0x0300),
@@ -82,16 +120,11 @@ fn goes_to_peer(frame: &Frame, address: u64) -> bool {
 
 #[test]
 fn a_request_to_a_peer_goes_down_to_its_register_page(rt: HostRuntime) -> Result<(), Fail> {
-    let mut domain = tenant(rt.alloc(), PEERS)?;
-    let read = carry(&rt, rt.alloc(), &mut domain, "000000010300240f00002000")?;
-    let write = carry(
-        &rt,
-        rt.alloc(),
-        &mut domain,
-        "400000010300000f0000240011223344",
-    )?;
-    assert!(rt; goes_to_peer(&read.ok_or("a read")?, 0x9030_0000));
-    assert!(rt; goes_to_peer(&write.ok_or("a write")?, 0x9030_0400));
-    assert_eq!(rt; domain.counts().blocked, 0);
+    let mut scene = Scene::new(rt.alloc(), PEERS)?;
+    assert!(rt; scene.is_carried(&rt, "000000010300240f00002000"));
+    assert!(rt; scene.sends_to_peer(0x9030_0000));
+    assert!(rt; scene.is_carried(&rt, "400000010300000f0000240011223344"));
+    assert!(rt; scene.sends_to_peer(0x9030_0400));
+    assert_eq!(rt; scene.blocked(), 0);
     Ok(())
 }

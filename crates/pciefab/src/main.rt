@@ -4,24 +4,17 @@
 
 #[cfg(test)]
 mod aliens;
-mod command_line;
-mod drive;
-mod fault;
-mod files;
-mod first;
+#[cfg(test)]
+mod cleared;
 mod host;
 #[cfg(test)]
 mod host_requests;
-mod inputs;
-mod program;
 #[cfg(test)]
 mod programs;
-mod report;
-mod rows;
-mod run;
+#[cfg(test)]
+mod random;
 #[cfg(test)]
 mod runs;
-mod sweep;
 #[cfg(test)]
 mod tests;
 #[cfg(test)]
@@ -29,8 +22,8 @@ mod texts;
 #[cfg(test)]
 mod turns;
 
-use files::HostFiles;
-use program::command;
+use commands::{command, stopped};
+use host::HostFiles;
 use std::process::ExitCode;
 
 fn main(rt: HostRuntime) -> ExitCode {
@@ -44,7 +37,7 @@ fn main(rt: HostRuntime) -> ExitCode {
             &mut out,
             &mut err,
         ),
-        Err(fault) => program::stopped(fault, &mut err),
+        Err(fault) => stopped(fault, &mut err),
     };
     ExitCode::from(status.code())
 }

@@ -28,11 +28,6 @@ fn tenant(alloc: Global) -> Result<Domain, Fail> {
     Ok(Domain::new(alloc, &start, log)?)
 }
 
-/// The bytes of a word in hexadecimal. No clause says what they are, so that no proof computes them.
-fn bytes_of(alloc: Global, word: &str) -> Result<Vec<u8>, Fail> {
-    Ok(hex::decode(alloc, word)?)
-}
-
 fn function() -> Bdf {
     Bdf::from_bits(0x0300)
 }
@@ -57,149 +52,159 @@ fn end<R: Wait>(rt: &R, domain: &mut Domain, frame: Frame) -> Result<Option<Fram
 }
 
 /// Lets a frame and what follows from it go to their ends.
-fn settle<R: Wait>(rt: &R, domain: &mut Domain, sent: Option<Frame>) -> Result<(), Fail> {
+fn settles<R: Wait>(rt: &R, domain: &mut Domain, sent: Option<Frame>) -> bool {
     let mut next = sent;
     for _ in 0..3 {
-        if let Some(frame) = next {
-            next = end(rt, domain, frame).ok().ok_or("a frame that ends")?;
-        } else {
-            return Ok(());
+        let Some(frame) = next else {
+            return true;
+        };
+        match end(rt, domain, frame) {
+            Ok(after) => next = after,
+            Err(_) => return false,
         }
     }
-    Ok(())
+    true
 }
 
-/// The host writes these bytes to a register page of 03:00.0.
-fn write_registers<R: Wait>(
-    rt: &R,
-    alloc: Global,
-    domain: &mut Domain,
-    offset: u16,
-    word: &str,
-) -> Result<(), Fail> {
-    let bytes = PacketBytes::from_vec(bytes_of(alloc, word)?);
-    let access = HostAccess {
-        function: function(),
-        offset,
-        operation: Operation::Write(bytes),
-    };
-    let frame = domain.mmio(rt, &access)?;
-    settle(rt, domain, Some(frame))
-}
-
-/// A tick of 03:00.0, and what follows from it.
-fn tick<R: Wait>(rt: &R, domain: &mut Domain) -> Result<(), Fail> {
-    let sent = domain.tick(rt, function())?;
-    settle(rt, domain, sent)
-}
-
-/// 03:00.0 submits these bytes, and what follows.
-fn submit<R: Wait>(rt: &R, alloc: Global, domain: &mut Domain, word: &str) -> Result<(), Fail> {
-    let bytes = bytes_of(alloc, word)?;
-    let frame = domain.submit(rt, function(), &bytes)?;
-    settle(rt, domain, Some(frame))
-}
-
-/// Does this packet have these bytes, which are given in hexadecimal?
-fn is_in_flight(alloc: Global, domain: &Domain, number: u64, word: &str) -> Result<bool, Fail> {
-    let packet = bytes_of(alloc, word)?;
-    match domain.bytes(number) {
-        Some(bytes) => Ok(bytes == packet.as_slice()),
-        None => Ok(false),
+/// Do these bytes begin with those of the word, which is in hexadecimal?
+fn begins_with(alloc: Global, bytes: Option<&[u8]>, word: &str) -> bool {
+    match (bytes, hex::decode(alloc, word)) {
+        (Some(bytes), Ok(start)) => bytes.starts_with(&start),
+        _ => false,
     }
 }
 
-/// Are the bytes of the register page of 03:00.0 from this one on these?
-fn has_registers(alloc: Global, domain: &Domain, start: usize, word: &str) -> Result<bool, Fail> {
-    let bytes = bytes_of(alloc, word)?;
-    let page = domain.registers(function()).ok_or("a page")?;
-    let part = page.get(start..).ok_or("a part")?;
-    Ok(part.starts_with(&bytes))
-}
-
-/// Does the frame of this number begin with these bytes?
-fn has_memory(alloc: Global, domain: &Domain, number: u16, word: &str) -> Result<bool, Fail> {
-    let bytes = bytes_of(alloc, word)?;
-    let page = domain.frame(number).ok_or("a frame")?;
-    Ok(page.starts_with(&bytes))
-}
-
-#[test]
-fn the_host_starts_a_program_that_writes_memory(rt: HostRuntime) -> Result<(), Fail> {
-    let alloc = rt.alloc();
-    let mut domain = tenant(alloc)?;
-    write_registers(&rt, alloc, &mut domain, 0x400, "cafe0102")?;
-    write_registers(
-        &rt,
-        alloc,
-        &mut domain,
-        0x100,
-        "01010000000000000010000000000000",
-    )?;
-    write_registers(&rt, alloc, &mut domain, 0x004, "01000000")?;
-    let sent = domain.tick(&rt, function())?.ok_or("a request")?;
-    let word = "400000010300000f00001000cafe0102";
-    assert!(rt; is_in_flight(alloc, &domain, sent.number(), word)?);
-    settle(&rt, &mut domain, Some(sent))?;
-    tick(&rt, &mut domain)?;
-    assert!(rt; has_memory(alloc, &domain, 0, "cafe0102")?);
-    let row = "03004642010000000200000001000000";
-    assert!(rt; has_registers(alloc, &domain, 0, row)?);
-    Ok(())
-}
-
-/// The host asks for this many DW of a register page of this function.
-fn read_registers<R: Wait>(
-    rt: &R,
-    domain: &mut Domain,
-    id: u16,
-    count: u32,
-) -> Result<Frame, MmioFault> {
-    let access = HostAccess {
-        function: Bdf::from_bits(id),
-        offset: 0,
-        operation: Operation::Read(count),
-    };
-    domain.mmio(rt, &access)
-}
-
-/// Is the last record a completion of these bytes?
-fn has_record(alloc: Global, domain: &Domain, word: &str) -> Result<bool, Fail> {
-    let bytes = bytes_of(alloc, word)?;
-    let record = domain.records().last().ok_or("a record")?;
-    Ok(record.bytes() == bytes.as_slice())
-}
-
-#[test]
-fn the_host_reads_the_id_of_its_own_function_alone(rt: HostRuntime) -> Result<(), Fail> {
-    let alloc = rt.alloc();
-    let mut domain = tenant(alloc)?;
-    let frame = read_registers(&rt, &mut domain, 0x0300, 1)?;
-    let word = "000000010008000f90000000";
-    assert!(rt; is_in_flight(alloc, &domain, frame.number(), word)?);
-    settle(&rt, &mut domain, Some(frame))?;
-    let answer = "4a000001030000040008000003004642";
-    assert!(rt; has_record(alloc, &domain, answer)?);
-    let foreign = read_registers(&rt, &mut domain, 0x0600, 1);
-    assert!(rt; matches!(foreign, Err(MmioFault::NotYours)));
-    let none = read_registers(&rt, &mut domain, 0x0300, 0);
-    assert!(rt; matches!(none, Err(MmioFault::Range)));
-    let long = read_registers(&rt, &mut domain, 0x0300, 65);
-    assert!(rt; matches!(long, Err(MmioFault::Range)));
-    Ok(())
-}
-
-/// A program is written from its first line on, and started.
-fn run_program<R: Wait>(
-    rt: &R,
+/// Domain 1, and the request that its function sent last and nobody took yet.
+#[derive(Drop)]
+struct Scene {
     alloc: Global,
-    domain: &mut Domain,
-    lines: &[&str],
-) -> Result<(), Fail> {
-    for (i, line) in lines.iter().enumerate() {
-        write_registers(rt, alloc, domain, line_offset(i), line)?;
+    domain: Domain,
+    sent: Option<Frame>,
+}
+
+impl Scene {
+    fn new(alloc: Global) -> Result<Scene, Fail> {
+        Ok(Scene {
+            alloc,
+            domain: tenant(alloc)?,
+            sent: None,
+        })
     }
-    write_registers(rt, alloc, domain, 0x004, "01000000")
+
+    /// The host writes these bytes to a register page of 03:00.0.
+    fn write_registers<R: Wait>(&mut self, rt: &R, offset: u16, word: &str) -> bool {
+        let Ok(bytes) = hex::decode(self.alloc, word) else {
+            return false;
+        };
+        let access = HostAccess {
+            function: function(),
+            offset,
+            operation: Operation::Write(PacketBytes::from_vec(bytes)),
+        };
+        match self.domain.mmio(rt, &access) {
+            Ok(frame) => settles(rt, &mut self.domain, Some(frame)),
+            Err(_) => false,
+        }
+    }
+
+    /// A program is written from its first line on, and started.
+    fn starts<R: Wait>(&mut self, rt: &R, lines: &[&str]) -> bool {
+        for (i, line) in lines.iter().enumerate() {
+            if !self.write_registers(rt, line_offset(i), line) {
+                return false;
+            }
+        }
+        self.write_registers(rt, 0x004, "01000000")
+    }
+
+    /// A tick of 03:00.0 sends a request.
+    fn sends<R: Wait>(&mut self, rt: &R) -> bool {
+        match self.domain.tick(rt, function()) {
+            Ok(sent) => {
+                self.sent = sent;
+                self.sent.is_some()
+            }
+            Err(_) => false,
+        }
+    }
+
+    /// A tick of 03:00.0 sends nothing.
+    fn waits<R: Wait>(&mut self, rt: &R) -> bool {
+        matches!(self.domain.tick(rt, function()), Ok(None))
+    }
+
+    /// A tick of 03:00.0, and what follows from it.
+    fn ticks<R: Wait>(&mut self, rt: &R) -> bool {
+        match self.domain.tick(rt, function()) {
+            Ok(sent) => settles(rt, &mut self.domain, sent),
+            Err(_) => false,
+        }
+    }
+
+    /// What was sent goes to its end.
+    fn ends<R: Wait>(&mut self, rt: &R) -> bool {
+        let sent = self.sent.take();
+        settles(rt, &mut self.domain, sent)
+    }
+
+    /// 03:00.0 submits these bytes, and what follows.
+    fn submits<R: Wait>(&mut self, rt: &R, bytes: &[u8]) -> bool {
+        match self.domain.submit(rt, function(), bytes) {
+            Ok(frame) => settles(rt, &mut self.domain, Some(frame)),
+            Err(_) => false,
+        }
+    }
+
+    /// 03:00.0 submits a read with this Tag, which nobody answers.
+    fn reads<R: Wait>(&mut self, rt: &R, tag: u8) -> bool {
+        let read = [0, 0, 0, 1, 3, 0, tag, 0x0f, 0, 0, 0x10, 0];
+        self.domain.submit(rt, function(), &read).is_ok()
+    }
+
+    /// The host asks for this many DW of a register page of this function.
+    fn host_reads<R: Wait>(&mut self, rt: &R, id: u16, count: u32) -> Option<MmioFault> {
+        let access = HostAccess {
+            function: Bdf::from_bits(id),
+            offset: 0,
+            operation: Operation::Read(count),
+        };
+        match self.domain.mmio(rt, &access) {
+            Ok(frame) => {
+                self.sent = Some(frame);
+                None
+            }
+            Err(fault) => Some(fault),
+        }
+    }
+
+    /// Has what was sent these bytes?
+    fn has_sent(&self, word: &str) -> bool {
+        match &self.sent {
+            Some(frame) => begins_with(self.alloc, self.domain.bytes(frame.number()), word),
+            None => false,
+        }
+    }
+
+    /// Are the bytes of the register page of 03:00.0 from this one on these?
+    fn has_registers(&self, start: usize, word: &str) -> bool {
+        match self.domain.registers(function()) {
+            Some(page) => begins_with(self.alloc, page.get(start..), word),
+            None => false,
+        }
+    }
+
+    /// Does frame 0 begin with these bytes?
+    fn has_memory(&self, word: &str) -> bool {
+        begins_with(self.alloc, self.domain.frame(0), word)
+    }
+
+    /// Is the last record a completion that begins with these bytes?
+    fn has_record(&self, word: &str) -> bool {
+        match self.domain.records().last() {
+            Some(record) => begins_with(self.alloc, Some(record.bytes()), word),
+            None => false,
+        }
+    }
 }
 
 /// Where a line of a program begins in the register page, in bytes.
@@ -212,100 +217,103 @@ fn line_offset(number: usize) -> u16 {
 }
 
 #[test]
+fn the_host_starts_a_program_that_writes_memory(rt: HostRuntime) -> Result<(), Fail> {
+    let mut scene = Scene::new(rt.alloc())?;
+    assert!(rt; scene.write_registers(&rt, 0x400, "cafe0102"));
+    assert!(rt; scene.starts(&rt, &["01010000000000000010000000000000"]));
+    assert!(rt; scene.sends(&rt));
+    assert!(rt; scene.has_sent("400000010300000f00001000cafe0102"));
+    assert!(rt; scene.ends(&rt));
+    assert!(rt; scene.ticks(&rt));
+    assert!(rt; scene.has_memory("cafe0102"));
+    assert!(rt; scene.has_registers(0, "03004642010000000200000001000000"));
+    Ok(())
+}
+
+#[test]
+fn the_host_reads_the_id_of_its_own_function_alone(rt: HostRuntime) -> Result<(), Fail> {
+    let mut scene = Scene::new(rt.alloc())?;
+    assert_eq!(rt; scene.host_reads(&rt, 0x0300, 1), None);
+    assert!(rt; scene.has_sent("000000010008000f90000000"));
+    assert!(rt; scene.ends(&rt));
+    assert!(rt; scene.has_record("4a000001030000040008000003004642"));
+    assert_eq!(rt; scene.host_reads(&rt, 0x0600, 1), Some(MmioFault::NotYours));
+    assert_eq!(rt; scene.host_reads(&rt, 0x0300, 0), Some(MmioFault::Range));
+    assert_eq!(rt; scene.host_reads(&rt, 0x0300, 65), Some(MmioFault::Range));
+    Ok(())
+}
+
+#[test]
 fn a_fence_waits_for_the_data_of_a_read_line(rt: HostRuntime) -> Result<(), Fail> {
-    let alloc = rt.alloc();
-    let mut domain = tenant(alloc)?;
-    submit(&rt, alloc, &mut domain, "400000010300000f0000100011223344")?;
+    let mut scene = Scene::new(rt.alloc())?;
+    let write = [
+        64, 0, 0, 1, 3, 0, 0, 15, 0, 0, 16, 0, 0x11, 0x22, 0x33, 0x44,
+    ];
+    assert!(rt; scene.submits(&rt, &write));
     let lines = [
         "02010800000000000010000000000000",
         "03000000000000000000000000000000",
     ];
-    run_program(&rt, alloc, &mut domain, &lines)?;
-    let sent = domain.tick(&rt, function())?.ok_or("a request")?;
-    let word = "000000010300000f00001000";
-    assert!(rt; is_in_flight(alloc, &domain, sent.number(), word)?);
-    assert!(rt; domain.tick(&rt, function())?.is_none());
-    assert!(rt; has_registers(alloc, &domain, 12, "01")?);
-    settle(&rt, &mut domain, Some(sent))?;
-    tick(&rt, &mut domain)?;
-    assert!(rt; has_registers(alloc, &domain, 12, "02")?);
-    assert!(rt; has_registers(alloc, &domain, 0x408, "11223344")?);
+    assert!(rt; scene.starts(&rt, &lines));
+    assert!(rt; scene.sends(&rt));
+    assert!(rt; scene.has_sent("000000010300000f00001000"));
+    assert!(rt; scene.waits(&rt));
+    assert!(rt; scene.has_registers(12, "01"));
+    assert!(rt; scene.ends(&rt));
+    assert!(rt; scene.ticks(&rt));
+    assert!(rt; scene.has_registers(12, "02"));
+    assert!(rt; scene.has_registers(0x408, "11223344"));
     Ok(())
 }
 
 /// Is STATUS a fault after one tick of this line?
 fn is_fault<R: Wait>(rt: &R, alloc: Global, line: &str) -> Result<bool, Fail> {
-    let mut domain = tenant(alloc)?;
-    run_program(rt, alloc, &mut domain, &[line])?;
-    tick(rt, &mut domain)?;
-    has_registers(alloc, &domain, 8, "03000000")
+    let mut scene = Scene::new(alloc)?;
+    Ok(scene.starts(rt, &[line]) && scene.ticks(rt) && scene.has_registers(8, "03000000"))
 }
 
 #[test]
 fn a_line_that_is_not_good_is_a_fault(rt: HostRuntime) -> Result<(), Fail> {
-    let alloc = rt.alloc();
-    assert!(rt; is_fault(&rt, alloc, "01000000000000000010000000000000")?);
-    assert!(rt; is_fault(&rt, alloc, "0202000000000000fc1f000000000000")?);
-    assert!(rt; is_fault(&rt, alloc, "0101fe03000000000010000000000000")?);
-    assert!(rt; is_fault(&rt, alloc, "04000000000000000000000000000000")?);
-    Ok(())
-}
-
-/// A read with this Tag.
-fn read_with(alloc: Global, tag: u8) -> Result<Vec<u8>, Fail> {
-    let mut bytes = bytes_of(alloc, "000000010300")?;
-    bytes.push(tag)?;
-    bytes.extend_from_slice(&[0x0f, 0, 0, 0x10, 0])?;
-    Ok(bytes)
-}
-
-/// 03:00.0 submits reads with the Tags of read lines, which nobody answers.
-fn open_tags<R: Wait>(rt: &R, alloc: Global, domain: &mut Domain) -> Result<(), Fail> {
-    for tag in 0..8u8 {
-        let bytes = read_with(alloc, tag)?;
-        let _ = domain.submit(rt, function(), &bytes)?;
+    let lines = [
+        "01000000000000000010000000000000",
+        "0202000000000000fc1f000000000000",
+        "0101fe03000000000010000000000000",
+        "04000000000000000000000000000000",
+    ];
+    for line in lines {
+        assert!(rt; is_fault(&rt, rt.alloc(), line)?);
     }
     Ok(())
 }
 
 #[test]
 fn a_read_line_without_a_free_tag_waits(rt: HostRuntime) -> Result<(), Fail> {
-    let alloc = rt.alloc();
-    let mut domain = tenant(alloc)?;
-    open_tags(&rt, alloc, &mut domain)?;
-    run_program(
-        &rt,
-        alloc,
-        &mut domain,
-        &["02010800000000000010000000000000"],
-    )?;
-    let begins = domain.counts().begins;
-    assert!(rt; domain.tick(&rt, function())?.is_none());
-    assert!(rt; has_registers(alloc, &domain, 0, "03004642010000000100000000000000")?);
-    assert!(rt; domain.counts().begins > begins);
-    assert_eq!(rt; domain.open_tags().len(), 8);
+    let mut scene = Scene::new(rt.alloc())?;
+    for tag in 0..8u8 {
+        assert!(rt; scene.reads(&rt, tag));
+    }
+    assert!(rt; scene.starts(&rt, &["02010800000000000010000000000000"]));
+    let begins = scene.domain.counts().begins;
+    assert!(rt; scene.waits(&rt));
+    assert!(rt; scene.has_registers(0, "03004642010000000100000000000000"));
+    assert!(rt; scene.domain.counts().begins > begins);
+    assert_eq!(rt; scene.domain.open_tags().len(), 8);
     Ok(())
 }
 
-/// A write of 256 bytes to a quarter of the first 1,024 bytes of frame 0, each its place modulo 251.
+/// The byte at this place of what is copied: its place modulo 251.
+fn byte_at(place: u16) -> u8 {
+    (place % 251) as u8
+}
+
+/// A write of 256 bytes to a quarter of the first 1,024 bytes of frame 0.
 fn quarter(alloc: Global, number: u8) -> Result<Vec<u8>, Fail> {
-    let mut bytes = bytes_of(alloc, "40000040030000ff0000")?;
-    bytes.push(0x10 + number % 4)?;
-    bytes.push(0)?;
+    let start = [0x40, 0, 0, 0x40, 3, 0, 0, 0xff, 0, 0, 0x10 + number % 4, 0];
+    let mut bytes = Vec::from_slice(alloc, &start)?;
     for i in 0..256u16 {
-        bytes.push(((256 * u16::from(number % 4) + i) % 251) as u8)?;
+        bytes.push(byte_at(256 * u16::from(number % 4) + i))?;
     }
     Ok(bytes)
-}
-
-/// Four writes fill the first 1,024 bytes of frame 0.
-fn fill<R: Wait>(rt: &R, alloc: Global, domain: &mut Domain) -> Result<(), Fail> {
-    for number in 0..4u8 {
-        let bytes = quarter(alloc, number)?;
-        let frame = domain.submit(rt, function(), &bytes)?;
-        settle(rt, domain, Some(frame))?;
-    }
-    Ok(())
 }
 
 const COPY: [&str; 10] = [
@@ -321,37 +329,42 @@ const COPY: [&str; 10] = [
     "00000000000000000000000000000000",
 ];
 
-/// Runs the program that copies them.
-fn copy<R: Wait>(rt: &R, alloc: Global, domain: &mut Domain) -> Result<(), Fail> {
-    run_program(rt, alloc, domain, &COPY)?;
-    for _ in 0..10 {
-        tick(rt, domain)?;
-    }
-    Ok(())
-}
-
-/// Does frame 1 begin with these 1,024 bytes?
-fn is_copied(domain: &Domain) -> Result<bool, Fail> {
-    let page = domain.frame(1).ok_or("frame 1")?;
-    let part = page.get(..1024).ok_or("1,024 bytes")?;
-    Ok(
-        part.iter()
+/// Are these 1,024 bytes, each that of its place?
+fn is_copied(page: Option<&[u8]>) -> bool {
+    match page.and_then(|page| page.get(..1024)) {
+        Some(part) => part
+            .iter()
             .enumerate()
             .all(|(i, byte)| usize::from(*byte) == i % 251),
-    )
+        None => false,
+    }
+}
+
+/// Does the journal of this domain leave the same pages again?
+fn is_replayed<R: Wait>(rt: &R, alloc: Global, domain: &Domain) -> bool {
+    match Domain::replay(rt, alloc, domain.start(), domain.journal()) {
+        Ok(again) => {
+            again.frame(1) == domain.frame(1)
+                && again.registers(function()) == domain.registers(function())
+                && again.records().len() == domain.records().len()
+        }
+        Err(_) => false,
+    }
 }
 
 #[test]
 fn a_program_copies_1024_bytes_to_another_frame(rt: HostRuntime) -> Result<(), Fail> {
-    let alloc = rt.alloc();
-    let mut domain = tenant(alloc)?;
-    fill(&rt, alloc, &mut domain)?;
-    copy(&rt, alloc, &mut domain)?;
-    assert!(rt; is_copied(&domain)?);
-    assert!(rt; has_registers(alloc, &domain, 8, "02000000")?);
-    let again = Domain::replay(&rt, alloc, domain.start(), domain.journal())?;
-    assert!(rt; again.frame(1) == domain.frame(1));
-    assert!(rt; again.registers(function()) == domain.registers(function()));
-    assert_eq!(rt; again.records().len(), 4);
+    let mut scene = Scene::new(rt.alloc())?;
+    for number in 0..4u8 {
+        assert!(rt; scene.submits(&rt, &quarter(rt.alloc(), number)?));
+    }
+    assert!(rt; scene.starts(&rt, &COPY));
+    for _ in 0..10 {
+        assert!(rt; scene.ticks(&rt));
+    }
+    assert!(rt; is_copied(scene.domain.frame(1)));
+    assert!(rt; scene.has_registers(8, "02000000"));
+    assert_eq!(rt; scene.domain.records().len(), 4);
+    assert!(rt; is_replayed(&rt, rt.alloc(), &scene.domain));
     Ok(())
 }

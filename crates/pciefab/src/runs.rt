@@ -84,57 +84,59 @@ fn unlike<R: Wait>(
 
 const WRITE: &str = "submit 03:00.0 400000010300000f0000100011223344\nsweep 1000\n";
 
+/// Reads of 03:00.0 behind its write, the records that they leave, and how often the table blocks them.
+const READS: [(&str, &str, u32); 8] = [
+    // Four bytes; two of them, First BE 0110; no byte at all.
+    (
+        "000000010300200f00001000",
+        "20 SC 4a000001000000040300200011223344",
+        0,
+    ),
+    (
+        "000000010300210600001000",
+        "21 SC 4a000001000000020300210111223344",
+        0,
+    ),
+    (
+        "000000010300220000001000",
+        "22 SC 4a000001000000010300220000000000",
+        0,
+    ),
+    // First BE 1100, Last BE 0011.
+    (
+        "0000000203002c3c00001000",
+        "2c SC 4a0000020000000403002c021122334400000000",
+        0,
+    ),
+    // 1,024 DW, and 65.
+    (
+        "00000000030023ff00001000",
+        "23 UR 0a0000000000200403002300",
+        0,
+    ),
+    (
+        "0000004103002bff00001000",
+        "2b UR 0a0000000000200403002b00",
+        0,
+    ),
+    // No such page.
+    (
+        "000000010300260f00005000",
+        "26 UR 0a0000000000200403002600",
+        1,
+    ),
+    // An IO read.
+    (
+        "020000010300400f00001000",
+        "40 UR 0a0000000200200403004000",
+        0,
+    ),
+];
+
 #[test]
 fn what_a_function_reads_is_what_it_wrote(rt: HostRuntime) -> Result<(), Fail> {
-    let rows = [
-        // Four bytes; two of them, First BE 0110; no byte at all.
-        (
-            "000000010300200f00001000",
-            "20 SC 4a000001000000040300200011223344",
-            0,
-        ),
-        (
-            "000000010300210600001000",
-            "21 SC 4a000001000000020300210111223344",
-            0,
-        ),
-        (
-            "000000010300220000001000",
-            "22 SC 4a000001000000010300220000000000",
-            0,
-        ),
-        // First BE 1100, Last BE 0011.
-        (
-            "0000000203002c3c00001000",
-            "2c SC 4a0000020000000403002c021122334400000000",
-            0,
-        ),
-        // 1,024 DW, and 65.
-        (
-            "00000000030023ff00001000",
-            "23 UR 0a0000000000200403002300",
-            0,
-        ),
-        (
-            "0000004103002bff00001000",
-            "2b UR 0a0000000000200403002b00",
-            0,
-        ),
-        // No such page.
-        (
-            "000000010300260f00005000",
-            "26 UR 0a0000000000200403002600",
-            1,
-        ),
-        // An IO read.
-        (
-            "020000010300400f00001000",
-            "40 UR 0a0000000200200403004000",
-            0,
-        ),
-    ];
     let alloc = rt.alloc();
-    for (read, record, blocked) in rows {
+    for (read, record, blocked) in READS {
         let script = format!(in alloc; "{WRITE}submit 03:00.0 {read}\nsweep 1000\n")?;
         let counts = format!(in alloc; "begins 2 blocked {blocked} unexpected 0 open 0")?;
         let records = format!(in alloc; "record 03:00.0 {record}\n")?;
@@ -177,8 +179,88 @@ record 03:00.0 22 SC 4a000001000000010300220000000000
     Ok(())
 }
 
+/// A write of 03:00.0, and three reads of what it wrote.
+const WRITE_AND_READS: [&str; 4] = [
+    "400000010300000f0000100011223344",
+    "000000010300200f00001000",
+    "000000010300210600001000",
+    "000000010300220000001000",
+];
+
+/// So many writes of 06:00.0 in the name of 03:00.0.
+fn add_spoofs(script: &mut String, count: u32) -> Result<(), Fail> {
+    for _ in 0..count {
+        writeln!(
+            script,
+            "submit 06:00.0 400000010300000f00001000deadbeef\nsweep 1000"
+        )?;
+    }
+    Ok(())
+}
+
 #[test]
-fn what_domain_1_begins_is_printed(rt: HostRuntime) -> Result<(), Fail> {
+fn thousands_of_spoofed_writes_leave_domain_1_as_it_was(rt: HostRuntime) -> Result<(), Fail> {
+    let alloc = rt.alloc();
+    let mut script = String::new(alloc);
+    for packet in WRITE_AND_READS {
+        writeln!(script, "submit 03:00.0 {packet}\nsweep 1000")?;
+        add_spoofs(&mut script, 1250)?;
+    }
+    let line = "acs 05:00.0 V from 06:00.0 as 03:00.0 posted\n";
+    let before = line.repeat(alloc, 5000)?;
+    let row = Row {
+        script: script.as_str(),
+        before: before.as_str(),
+        counts_1: "begins 4 blocked 0 unexpected 0 open 0",
+        memory: WRITTEN,
+        records_1: "\
+record 03:00.0 20 SC 4a000001000000040300200011223344
+record 03:00.0 21 SC 4a000001000000020300210111223344
+record 03:00.0 22 SC 4a000001000000010300220000000000
+",
+        counts_2: "begins 5000 blocked 0 unexpected 0 open 0",
+        ..nothing()
+    };
+    assert_eq!(rt; unlike(&rt, alloc, PLATFORM, &row)?, None);
+    Ok(())
+}
+
+/// The lines of a script in which 06:00.0 writes in the name of device 0 of this bus, and of what that prints.
+fn add_spoof_of(script: &mut String, printed: &mut String, bus: u8) -> Result<(), Fail> {
+    writeln!(
+        script,
+        "submit 06:00.0 40000001{bus:02x}00000f00001000deadbeef"
+    )?;
+    if bus != 0x06 {
+        writeln!(
+            printed,
+            "acs 05:00.0 V from 06:00.0 as {bus:02x}:00.0 posted"
+        )?;
+    }
+    Ok(())
+}
+
+#[test]
+fn a_function_may_write_in_the_name_of_its_own_bus_alone(rt: HostRuntime) -> Result<(), Fail> {
+    let alloc = rt.alloc();
+    let mut script = String::new(alloc);
+    let mut before = String::new(alloc);
+    for bus in 0..=255 {
+        add_spoof_of(&mut script, &mut before, bus)?;
+    }
+    writeln!(script, "sweep 1000")?;
+    let row = Row {
+        script: script.as_str(),
+        before: before.as_str(),
+        counts_2: "begins 256 blocked 1 unexpected 0 open 0",
+        ..nothing()
+    };
+    assert_eq!(rt; unlike(&rt, alloc, PLATFORM, &row)?, None);
+    Ok(())
+}
+
+#[test]
+fn what_domain_1_writes_and_reads_is_printed(rt: HostRuntime) -> Result<(), Fail> {
     let rows = [
         nothing(),
         Row {
@@ -208,6 +290,16 @@ fn what_domain_1_begins_is_printed(rt: HostRuntime) -> Result<(), Fail> {
             records_1: "record 03:00.0 24 SC 4a000001080000040300240008004642\nrecord 03:00.0 25 SC 4a002001080000040300250008004642\n",
             ..nothing()
         },
+    ];
+    for row in &rows {
+        assert_eq!(rt; unlike(&rt, rt.alloc(), PLATFORM, row)?, None);
+    }
+    Ok(())
+}
+
+#[test]
+fn what_domain_1_is_refused_is_printed(rt: HostRuntime) -> Result<(), Fail> {
+    let rows = [
         // The other bus of the port: the Tag of 08:00.0 stays open.
         Row {
             script: "submit 08:00.0 000000010900300f00001000\nsweep 1000\n",

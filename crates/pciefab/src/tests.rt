@@ -1,7 +1,6 @@
-use crate::fault::ExitStatus;
-use crate::files::{FileFault, FileGiver, HostFiles};
-use crate::program::command;
+use crate::host::HostFiles;
 use crate::texts::{Ending, PLATFORM, Texts, ended};
+use commands::{ExitStatus, FileFault, FileGiver, command};
 use std::alloc::Global;
 use std::io;
 use std::io::Write;
@@ -225,92 +224,117 @@ fn help_names_each_command_and_each_word(rt: HostRuntime) -> Result<(), Fail> {
     Ok(())
 }
 
-/// The line of each fault of a file, in their precedence, and the exit status.
+/// A file that is no text.
+const NO_TEXT: &[u8] = &[0xff, b'\n'];
+
+/// A script whose third line is faulty.
+const BAD_SCRIPT: &str = "# \ntick 03:00.0\nsweep 0\n";
+
+/// Words over a layout and a script, and the line on standard error that they lead to.
+#[derive(Clone, Copy)]
+struct Case<'a> {
+    words: &'a [&'a str],
+    layout: &'a [u8],
+    script: &'a [u8],
+    line: &'a str,
+}
+
+/// How the command ended, where it is not by that line alone and with status 1.
+fn told_otherwise<R: Wait>(rt: &R, alloc: Global, case: &Case<'_>) -> Result<Option<Ending>, Fail> {
+    let files = Texts {
+        alloc,
+        layout: case.layout,
+        script: case.script,
+    };
+    let end = ended(rt, alloc, case.words, &files)?;
+    if end.err.as_str() == case.line && end.out.as_str() == "" && end.status == 1 {
+        return Ok(None);
+    }
+    Ok(Some(end))
+}
+
 #[test]
-fn the_first_fault_has_one_line(rt: HostRuntime) -> Result<(), Fail> {
-    let alloc = rt.alloc();
-    let no_text: &[u8] = &[0xff, b'\n'];
-    let bad_layout = "pciefab 1\nswitch\n".as_bytes();
-    let bad_script = "# \ntick 03:00.0\nsweep 0\n".as_bytes();
+fn a_file_that_is_no_text_is_unreadable(rt: HostRuntime) -> Result<(), Fail> {
     let good = PLATFORM.as_bytes();
-    let cases: [(&[&str], &[u8], &[u8], &str); 11] = [
-        (
-            &["run", "none", "nor this"],
-            good,
-            good,
-            "file none: unreadable\n",
-        ),
-        (
-            &["run", "layout", "none"],
-            bad_layout,
-            good,
-            "layout 2: 1 Line\n",
-        ),
-        (
-            &["run", "layout", "none"],
-            no_text,
-            good,
-            "file layout: unreadable\n",
-        ),
-        (
-            &["run", "layout", "none"],
-            good,
-            bad_script,
-            "file none: unreadable\n",
-        ),
-        (
-            &["run", "layout", "script"],
-            good,
-            no_text,
-            "file script: unreadable\n",
-        ),
-        (
-            &["run", "layout", "script"],
-            good,
-            bad_script,
-            "script 3: Line\n",
-        ),
-        (
-            &["alone", "layout", "script", "99"],
-            good,
-            bad_script,
-            "script 3: Line\n",
-        ),
-        (
-            &["alone", "layout", "script", "00000"],
-            good,
-            b"",
-            "domain 0: none\n",
-        ),
-        (
-            &["alone", "layout", "script", "003"],
-            good,
-            b"",
-            "domain 3: none\n",
-        ),
-        (
-            &["alone", "layout", "script", "32"],
-            good,
-            b"",
-            "domain 32: none\n",
-        ),
-        (
-            &["alone", "layout", "script", "999999999"],
-            good,
-            b"",
-            "domain 999999999: none\n",
-        ),
+    let cases = [
+        Case {
+            words: &["run", "none", "nor this"],
+            layout: good,
+            script: good,
+            line: "file none: unreadable\n",
+        },
+        Case {
+            words: &["run", "layout", "none"],
+            layout: NO_TEXT,
+            script: good,
+            line: "file layout: unreadable\n",
+        },
+        Case {
+            words: &["run", "layout", "none"],
+            layout: good,
+            script: BAD_SCRIPT.as_bytes(),
+            line: "file none: unreadable\n",
+        },
+        Case {
+            words: &["run", "layout", "script"],
+            layout: good,
+            script: NO_TEXT,
+            line: "file script: unreadable\n",
+        },
     ];
-    for (words, layout, script, line) in cases {
-        let files = Texts {
-            alloc,
-            layout,
-            script,
+    for case in &cases {
+        assert_eq!(rt; told_otherwise(&rt, rt.alloc(), case)?, None);
+    }
+    Ok(())
+}
+
+#[test]
+fn the_layout_comes_before_the_script_and_that_before_the_domain(
+    rt: HostRuntime,
+) -> Result<(), Fail> {
+    let good = PLATFORM.as_bytes();
+    let cases = [
+        Case {
+            words: &["run", "layout", "none"],
+            layout: "pciefab 1\nswitch\n".as_bytes(),
+            script: good,
+            line: "layout 2: 1 Line\n",
+        },
+        Case {
+            words: &["run", "layout", "script"],
+            layout: good,
+            script: BAD_SCRIPT.as_bytes(),
+            line: "script 3: Line\n",
+        },
+        Case {
+            words: &["alone", "layout", "script", "99"],
+            layout: good,
+            script: BAD_SCRIPT.as_bytes(),
+            line: "script 3: Line\n",
+        },
+    ];
+    for case in &cases {
+        assert_eq!(rt; told_otherwise(&rt, rt.alloc(), case)?, None);
+    }
+    Ok(())
+}
+
+#[test]
+fn a_domain_that_owns_no_port_is_named_by_its_number(rt: HostRuntime) -> Result<(), Fail> {
+    let words = [
+        ("00000", "domain 0: none\n"),
+        ("003", "domain 3: none\n"),
+        ("32", "domain 32: none\n"),
+        ("999999999", "domain 999999999: none\n"),
+    ];
+    for (word, line) in words {
+        let case = Case {
+            words: &["alone", "layout", "script", word],
+            layout: PLATFORM.as_bytes(),
+            script: b"",
+            line,
         };
-        let end = ended(&rt, alloc, words, &files)?;
-        assert_eq!(rt; end.err.as_str(), line, "{words:?}");
-        assert_eq!(rt; end.out.as_str(), "", "{words:?}");
-        assert_eq!(rt; end.status, 1, "{words:?}");
+        assert_eq!(rt; told_otherwise(&rt, rt.alloc(), &case)?, None);
     }
     Ok(())
 }

@@ -1,7 +1,6 @@
 //! Commands over files in memory, for tests: what they print, and how they end.
 
-use crate::files::{FileFault, FileGiver};
-use crate::program::command;
+use commands::{FileFault, FileGiver, command};
 use std::alloc::Global;
 use std::sync::Wait;
 use std::test::Fail;

@@ -3,6 +3,8 @@ use Rattle.std.specs.Prelude.{ℕ, suc, ◌==◌, Bool, ◌&&◌, List, map, Opt
 use Rattle.std.specs.Option.{option_map_or}
 use Rattle.std.specs.List.{find, filter, position, list_all}
 use Rattle.fab_types.specs.Id.{bus_of}
+use Rattle.fab_types.specs.declared.place.Direction.{Direction}
+use Rattle.fab_types.specs.declared.place.Way.TheVariants.{Up, Down}
 use Rattle.layout.specs.declared.lines.PortLine.{PortLine}
 use Rattle.layout.specs.declared.lines.SwitchLine.{SwitchLine}
 use Rattle.layout.specs.Rules.{is_on_bus}
@@ -66,3 +68,11 @@ config_unless_below platform id None = option_map (upstream_config platform) (sw
 -- the port of this ID: a downstream port, or the upstream port of a switch
 abbrev pub config_of : Platform → ℕ → Option Config
 config_of platform id = config_unless_below platform id (port_at platform.ports id)
+
+abbrev pub direction_by : ℕ → Option PortLine → Direction
+direction_by id None = record { lower = id; way = Down }
+direction_by id (Some line) = record { lower = id_below line; way = Up }
+
+-- the direction in which packets come into the port: up from what stands below a downstream port, or down
+abbrev pub direction_in : Config → Direction
+direction_in config = direction_by config.id config.line

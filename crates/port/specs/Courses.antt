@@ -90,3 +90,21 @@ course_at tree config head None = down_by config.exits (route_of tree.switches t
 -- what becomes of a packet with this head at the port
 abbrev pub course_of : Tree → Config → Head → Course
 course_of tree config head = course_at tree config head config.line
+
+-- of a request by a function that fails a test
+abbrev pub reported_from : PortLine → Head → Check → Parties → Option Violation
+reported_from line head check (Upward function) = reported_by line head function (Some check)
+reported_from line head check (Downward function) = None
+reported_from line head check (Answer answerer addressee) = None
+
+abbrev pub failed_report : PortLine → Head → Verdict → Option Violation
+failed_report line head (verdict.Violation check) = reported_from line head check head.parties
+failed_report line head verdict.Pass = None
+
+abbrev pub report_at : Head → Option PortLine → Option Violation
+report_at head None = None
+report_at head (Some line) = failed_report line head (verdict_of line head.header)
+
+-- what a port reports of a packet that another than the first port above its sender refuses
+abbrev pub report_elsewhere : Config → Head → Option Violation
+report_elsewhere config head = report_at head config.line

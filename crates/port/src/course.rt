@@ -3,7 +3,7 @@
 ghost use Rattle.std.specs.Prelude.{◌≡◌, ◌≤◌, ℕ, None, IfSome, length};
 ghost use Rattle.bridge.specs.Routes.{target_of, route_of};
 ghost use Rattle.acs.specs.Vetting.{verdict_of};
-ghost use Rattle.port.specs.Courses.{is_posted, report_of, reported_by, stopped, up_by, down_by, down_lane, routed, tested, course_of, IsWithin};
+ghost use Rattle.port.specs.Courses.{failed_report, is_posted, report_elsewhere, report_of, reported_by, reported_from, stopped, up_by, down_by, down_lane, routed, tested, course_of, IsWithin};
 
 use crate::config::lane_to;
 use crate::port::Port;
@@ -62,6 +62,25 @@ fn stopped(line: &PortLine, head: &Head, check: Option<Check>) -> Course
         }
         Parties::Downward(_) => Course::Stray,
         Parties::Answer(..) => Course::Stray,
+    }
+}
+
+fn reported_from(line: &PortLine, head: &Head, check: Check) -> Option<Violation>
+    ensures { result ≡ reported_from line.now head.now check head.now.parties }
+{
+    match head.parties {
+        Parties::Upward(function) => reported_by(line, head, function, Some(check)),
+        Parties::Downward(_) => None,
+        Parties::Answer(..) => None,
+    }
+}
+
+fn failed_report(line: &PortLine, head: &Head) -> Option<Violation>
+    ensures { result ≡ failed_report line.now head.now (verdict_of line.now head.now.header) }
+{
+    match vet(line, &head.header) {
+        Verdict::Violation(check) => reported_from(line, head, check),
+        Verdict::Pass => None,
     }
 }
 
@@ -132,6 +151,18 @@ impl Port {
         match &self.line {
             Some(line) => self.tested(bridge, line, head),
             None => self.down_by(bridge.route(self.id, &head.header)),
+        }
+    }
+
+    /// What the port reports of a packet with this head that another than the first port above its sender
+    /// refuses: a request by a function that fails an ACS test of this port is a violation (PCIe 4.0,
+    /// 6.12.1.1). An upstream port tests nothing.
+    pub fn report_elsewhere(&self, head: &Head) -> Option<Violation>
+        ensures { result ≡ report_elsewhere self.now.config head.now }
+    {
+        match &self.line {
+            Some(line) => failed_report(line, head),
+            None => None,
         }
     }
 }

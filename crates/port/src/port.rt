@@ -3,12 +3,12 @@
 ghost use Rattle.std.specs.Prelude.{◌≡◌, ◌+◌, ◌≤◌, IfOk, option_map, None, [], length};
 ghost use Rattle.std.specs.List.{list_all};
 ghost use Rattle.layout.specs.Share.{is_guarded_port};
-ghost use Rattle.port.specs.Configs.{config_of, downstream_config, upstream_config};
+ghost use Rattle.port.specs.Configs.{config_of, direction_in, downstream_config, upstream_config};
 
 use crate::config::{Exit, exits_of, own_lane, switch_at};
-use fab_types::{NoMemory, PortId, Violation};
+use fab_types::{Direction, NoMemory, PortId, Violation, Way};
 use frame_log::Frame;
-use layout::{Layout, PortLine, SwitchLine, internal_bus, port_at};
+use layout::{Layout, PortLine, SwitchLine, id_below, internal_bus, port_at};
 use std::alloc::Global;
 use std::marker::Model;
 
@@ -102,6 +102,31 @@ impl Port {
         ensures { result ≡ length self.now.config.exits + 1 }
     {
         self.exits.len() + 1
+    }
+
+    /// The lane out of the port itself, by which its answers leave.
+    pub fn own_lane(&self) -> usize
+        ensures value { result ≡ self.now.config.own }
+        ensures within { result ≤ length self.now.config.exits }
+    {
+        self.own
+    }
+
+    /// The direction in which packets come into it: up from what stands below a downstream port, or down to
+    /// an upstream port.
+    pub fn direction_in(&self) -> Direction
+        ensures { result ≡ direction_in self.now.config }
+    {
+        match &self.line {
+            Some(line) => Direction {
+                lower: id_below(line),
+                way: Way::Up,
+            },
+            None => Direction {
+                lower: self.id.id(),
+                way: Way::Down,
+            },
+        }
     }
 
     /// The packets that came and that the port had no case for, in the order in which they came.

@@ -1,21 +1,22 @@
 -- What a domain says of its entry, said of the list that it stands in.
 use Rattle.std.proofs.Common.{◌≡◌, ℕ, List, [], ◌∷◌, ◌++◌, length, Option, Some, None, refl, sym, ap, ◌∙◌, subst, slice_get, slice_set}
-use Rattle.std.specs.Prelude.{Result, Ok, Err, IfOk, IfErr, IsSome, option_map}
+use Rattle.std.specs.Prelude.{Result, Ok, Err, IfOk, IfErr, IsSome, is_some, option_map}
 use Rattle.frame_log.specs.Descriptor.{Descriptor}
 use Rattle.frame_log.specs.declared.fault.FrameFault.{FrameFault}
 use Rattle.frame_log.specs.declared.fault.FrameFault.TheVariants as fault
 use Rattle.layout.specs.Share.{Share}
 use Rattle.domain.specs.declared.entry.Entry.{Entry}
-use Rattle.domain.specs.Domains.{DomainView, Emits as Emitting, IsRefused, Makes}
+use Rattle.domain.specs.Domains.{DomainView, Emits as Emitting, IsRefused, Makes, is_emitting}
 use Rattle.domain.specs.Heads.{descriptor_of}
 use Rattle.domain.specs.Machine.{change}
 use Rattle.domain.specs.State.{Alone, Change, Emission}
+use Rattle.tenants.specs.Aliens.{answers}
 use Rattle.tenants.specs.Tenants.{Emits, IsGivenBack, IsHome, Made, after, made_at, made_by, made_of, sent_by}
 
 abbrev view : Share → Alone → List Entry → DomainView
 view share s js = record { share = share; state = s; journal = js }
 
-abbrev some : {A : Type 0} → A → Option A
+abbrev pub some : {A : Type 0} → A → Option A
 some x = Some x
 
 abbrev all : List DomainView → Option Descriptor → Made
@@ -68,3 +69,17 @@ pub given_back : {T : Type 0} (ds : List DomainView) (i : ℕ) (d : DomainView) 
     → IfErr r (λ f. IsRefused d e frame f) → IfErr r (λ f. IsGivenBack (made_at ds e (Some i)) frame f)
 given_back ds i d e frame (Ok x) at home h = tt
 given_back ds i d e frame (Err f) at home h = given_by ds i d e frame f at (home d at) h
+
+-- ---- does an entry emit?
+
+same_some : (f : Emission → Descriptor) (o : Option Emission) → is_some o ≡ is_some (option_map f o)
+same_some f None = refl
+same_some f (Some e) = refl
+
+emitting_of : (ds : List DomainView) (i : ℕ) (d : DomainView) (e : Entry) (o : Option Change) → is_emitting o ≡ answers (option_map (made_by ds i e d) o)
+emitting_of ds i d e None = refl
+emitting_of ds i d e (Some c) = same_some (descriptor_of d.share.domain (length d.state.flight)) c.emission
+
+-- the list emits where its domain does
+pub emitting_at : (ds : List DomainView) (i : ℕ) (d : DomainView) (e : Entry) → slice_get ds i ≡ Some d → is_emitting (change d.share d.state e) ≡ answers (made_at ds e (Some i))
+emitting_at ds i d e at = emitting_of ds i d e (change d.share d.state e) ∙ sym (ap (λ (o : Option DomainView). answers (made_of ds i e o)) at)

@@ -1,6 +1,7 @@
 //! Which domain a begin or a packet belongs to.
 
 ghost use Rattle.std.specs.Prelude.{◌≡◌, ◌<◌, IfSome, length};
+ghost use Rattle.tenants.specs.Aliens.{owner_of_frame, owns_frame};
 ghost use Rattle.tenants.specs.Tenants.{IsHome, place_of, place_of_function};
 
 use domain::Domain;
@@ -27,4 +28,20 @@ pub(crate) fn place_of_function(domains: &[Domain], function: Bdf) -> Option<usi
     domains
         .iter()
         .position(|domain| domain.start().owns_function(function))
+}
+
+fn owns_frame(domain: &Domain, page: u64) -> bool
+    ensures { result ≡ owns_frame page domain.now }
+{
+    let mut frames = domain.start().frames().iter();
+    frames.any(|frame| u64::from(*frame) == page)
+}
+
+/// The number of the domain that this frame of memory is of.
+pub(crate) fn owner_of_frame(domains: &[Domain], page: u64) -> Option<DomainId>
+    ensures { result ≡ owner_of_frame domains.now page }
+{
+    let mut domains = domains.iter();
+    let owner = domains.find(|domain| owns_frame(domain, page))?;
+    Some(owner.start().domain())
 }

@@ -1,19 +1,21 @@
 //! The domains of a fabric as one value.
 
-ghost use Rattle.std.specs.Prelude.{◌≡◌, IfOk, IfErr, IfSome, None, OnErr, Some};
+ghost use Rattle.std.specs.Prelude.{◌≡◌, IfOk, IfErr, IfSome, None, OnErr, Some, is_some};
 ghost use Rattle.std.specs.Option.{option_copied};
 ghost use Rattle.std.specs.Result.{IsOkUnless};
 ghost use Rattle.fab_types.specs.declared.faults.begin.SubmitFault.{SubmitFault};
 ghost use Rattle.fab_types.specs.declared.faults.begin.TickFault.{TickFault};
 ghost use Rattle.fab_types.specs.declared.faults.begin.MmioFault.{MmioFault};
+ghost use Rattle.tenants.specs.Aliens.{IsUntaken, aliened, answers, owner_of_frame};
 ghost use Rattle.tenants.specs.Tenants.{Emits, IsGivenBack, IsStray, delivered, domain_at, made, made_at, mmio_refusal, place_of, place_of_function, submit_refusal, tenants_of, tick_refusal};
 
+use crate::aliens::{alien_at, answers_alien, has_alien};
 use crate::begins::{mmio_at, submit_at, tick_at};
 use crate::ends::{carry_at, deliver_at, refuse_at};
-use crate::places::{place_of, place_of_function};
+use crate::places::{owner_of_frame, place_of, place_of_function};
 use crate::starts::domains_of;
 use domain::{Domain, HostAccess, Record};
-use fab_types::{Bdf, DomainId, MmioFault, NoMemory, PortId, SubmitFault, TickFault};
+use fab_types::{Bdf, DomainId, MmioFault, NoMemory, Place, PortId, SubmitFault, TickFault};
 use frame_log::{Frame, FrameFault};
 use layout::Layout;
 use std::alloc::Global;
@@ -173,5 +175,48 @@ impl Tenants {
             Some(place) => deliver_at(&mut self.domains, place, frame),
             None => Err(FrameFault::Stray(frame)),
         }
+    }
+
+    /// A packet was taken where its home has no case, as only in layouts that aren't guarded: at this
+    /// place, and the domain of this number gets the entry, with the bytes that the packet's home has in
+    /// flight. The packet's own frame ends here, while its number stays in flight at its home. It is
+    /// `Stray` where there is no such entry. Memory may be refused to any such entry.
+    pub fn alien<R: Wait>(
+        &mut self,
+        rt: &R,
+        number: DomainId,
+        place: Place,
+        frame: Frame,
+    ) -> Result<Option<Frame>, FrameFault>
+        ensures ok { IfOk result (λ sent. aliened self.old number place frame ≡ Some (record { domains = self.new; sent = sent })) }
+        ensures fault { IfErr result (λ fault. IsUntaken (aliened self.old number place frame) frame fault) }
+        ensures stray { aliened self.old number place frame ≡ None → result ≡ Err (FrameFault.Stray frame) }
+        ensures err { OnErr result (self.new ≡ self.old) }
+    {
+        let at = place_of(&self.domains, number);
+        alien_at(rt, &mut self.domains, at, place, frame)
+    }
+
+    /// May the domain of this number have the entry of this packet?
+    pub fn has_alien(&self, number: DomainId, place: Place, frame: &Frame) -> bool
+        ensures { result ≡ is_some (aliened self.now number place frame.now) }
+    {
+        let at = place_of(&self.domains, number);
+        has_alien(&self.domains, at, place, frame)
+    }
+
+    /// Would the entry of this packet in the domain of this number emit another?
+    pub fn answers_alien(&self, number: DomainId, place: Place, frame: &Frame) -> bool
+        ensures { result ≡ answers (aliened self.now number place frame.now) }
+    {
+        let at = place_of(&self.domains, number);
+        answers_alien(&self.domains, at, place, frame)
+    }
+
+    /// The domain that a frame of memory is of, if it is of one.
+    pub fn owner_of_frame(&self, page: u64) -> Option<DomainId>
+        ensures { result ≡ owner_of_frame self.now page }
+    {
+        owner_of_frame(&self.domains, page)
     }
 }

@@ -1,6 +1,8 @@
 use crate::Tenants;
 use domain::{Domain, HostAccess, Operation, Record};
-use fab_types::{Bdf, DomainId, MmioFault, Origin, PortId, Status, SubmitFault, TickFault};
+use fab_types::{
+    Bdf, Direction, DomainId, MmioFault, Origin, Place, PortId, Status, SubmitFault, TickFault, Way,
+};
 use frame_log::{Frame, FrameFault};
 use layout::Layout;
 use port::Desk;
@@ -21,6 +23,19 @@ function 03:00.0 90000000
 function 06:00.0 90100000
 function 07:00.0 90200000
 function 08:00.0 90300000
+map 03:00.0 1 frame 0 rw
+";
+
+/// The same, but the port above 06:00.0 lets any Requester ID pass.
+const OPEN: &str = "pciefab 1
+frames 4
+switch 01:00.0 root
+port 02:00.0 03 03 90000000 900fffff 1f 1
+port 02:01.0 04 07 90100000 902fffff 1f 2
+switch 04:00.0 02:01.0
+port 05:00.0 06 06 90100000 901fffff 1e 2
+function 03:00.0 90000000
+function 06:00.0 90100000
 map 03:00.0 1 frame 0 rw
 ";
 
@@ -144,6 +159,69 @@ fn what_is_of_no_domain_is_refused(rt: HostRuntime) -> Result<(), Fail> {
     };
     assert!(rt; tenants.refuse(&rt, write, PortId::new(id(0x0200))).is_err());
     assert_eq!(rt; counts(&tenants, 1), Some((1, 0)));
+    assert_eq!(rt; counts(&tenants, 2), Some((1, 0)));
+    Ok(())
+}
+
+/// The queue of the host.
+fn at_host() -> Place {
+    Place::Ingress(Direction {
+        lower: id(0x0100),
+        way: Way::Up,
+    })
+}
+
+#[test]
+fn a_write_in_the_name_of_another_domain_is_its_entry(rt: HostRuntime) -> Result<(), Fail> {
+    let layout = Layout::read(rt.alloc(), OPEN).ok().ok_or("a layout")?;
+    let mut tenants = Tenants::new(rt.alloc(), &layout)?;
+    let owner = tenants.owner_of_frame(0).ok_or("an owner")?;
+    assert_eq!(rt; owner, DomainId::new(1).ok_or("a number")?);
+    assert!(rt; tenants.owner_of_frame(1).is_none());
+
+    // Function 06:00.0 of domain 2 writes with the ID of 03:00.0 of domain 1.
+    let write = tenants.submit(&rt, id(0x0600), &WRITE);
+    let write = write.ok().ok_or("a write")?;
+    let number = write.number();
+    assert!(rt; !tenants.answers_alien(owner, at_host(), &write));
+    let sent = tenants.alien(&rt, owner, at_host(), write);
+    assert!(rt; matches!(sent, Ok(None)));
+
+    let one = domain(&tenants, 1).ok_or("domain 1")?;
+    assert_eq!(rt; one.journal().len(), 1);
+    let page = one.frame(0).ok_or("its frame")?;
+    assert!(rt; page.starts_with(&[0x11, 0x22, 0x33, 0x44]));
+    let two = domain(&tenants, 2).ok_or("domain 2")?;
+    assert_eq!(rt; two.journal().len(), 1);
+    assert!(rt; two.bytes(number).is_some());
+    Ok(())
+}
+
+#[test]
+fn a_read_taken_by_a_function_of_another_domain_is_answered(rt: HostRuntime) -> Result<(), Fail> {
+    let layout = Layout::read(rt.alloc(), OPEN).ok().ok_or("a layout")?;
+    let mut tenants = Tenants::new(rt.alloc(), &layout)?;
+    let place = Place::Ingress(Direction {
+        lower: id(0x0300),
+        way: Way::Down,
+    });
+
+    // Page 1 is no register page: the function answers that it knows no such address.
+    let request = tenants.submit(&rt, id(0x0600), &read(6, 5));
+    let request = request.ok().ok_or("a read")?;
+    let owner = DomainId::new(1).ok_or("a number")?;
+    assert!(rt; tenants.answers_alien(owner, place, &request));
+    let sent = tenants.alien(&rt, owner, place, request);
+    let answer = sent.ok().ok_or("a legal entry")?.ok_or("an answer")?;
+    assert_eq!(rt; answer.domain(), owner);
+
+    // In a guarded layout there is no such entry.
+    let layout = Layout::read(rt.alloc(), PLATFORM).ok().ok_or("a layout")?;
+    let mut tenants = Tenants::new(rt.alloc(), &layout)?;
+    let request = tenants.submit(&rt, id(0x0600), &read(6, 5));
+    let request = request.ok().ok_or("a read")?;
+    let sent = tenants.alien(&rt, owner, place, request);
+    assert!(rt; matches!(sent, Err(FrameFault::Stray(_))));
     assert_eq!(rt; counts(&tenants, 2), Some((1, 0)));
     Ok(())
 }

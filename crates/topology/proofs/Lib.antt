@@ -2,6 +2,7 @@ pub mod Brought
 pub mod Buses
 pub mod Ends
 pub mod Found
+pub mod Indexed
 pub mod Lanes
 pub mod Members
 pub mod OwnEnds

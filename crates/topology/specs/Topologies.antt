@@ -1,10 +1,11 @@
 -- What a contract sees of a topology.
-use Rattle.std.specs.Prelude.{◌≢◌, ℕ, ◌<◌, ⊤, List, All, length, slice_index_or, Option, Some, None}
+use Rattle.std.specs.Prelude.{◌≡◌, ◌≢◌, ℕ, ◌<◌, ⊤, List, All, length, slice_index_or, Option, Some, None}
 use Rattle.layout.specs.Platform.{Platform}
 use Rattle.topology.specs.declared.links.Link.{Link}
 use Rattle.topology.specs.declared.nodes.LinkEnd.{LinkEnd}
 use Rattle.topology.specs.declared.places.PortPlace.{PortPlace}
 use Rattle.topology.specs.declared.topology.Topology.TheInside.{Inside}
+use Rattle.topology.specs.BusIndexes.{firsts_of, link_buses, place_buses}
 use Rattle.topology.specs.Links.{links_of}
 use Rattle.topology.specs.Nodes.{lanes_of}
 use Rattle.topology.specs.Places.{places_of}
@@ -41,3 +42,9 @@ pub record IsPlace (lanes : List ℕ) (place : PortPlace) : Type 0 where
 pub record IsSound (t : Tree) : Type 0 where
   pub links : All (IsLink t.lanes) t.links
   pub places : All (IsPlace t.lanes) t.places
+
+-- its fields: the indexes are those of its lists
+pub record IsIndexed (t : Inside) : Type 0 where
+  pub sound : IsSound (view_of t)
+  pub links : t.links_by_bus ≡ firsts_of (link_buses t.links.items)
+  pub places : t.places_by_bus ≡ firsts_of (place_buses t.places.items)

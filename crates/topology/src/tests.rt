@@ -59,6 +59,11 @@ fn has_ports(tree: &Topology) -> bool {
         && stands(tree, 0x0508, 2, None)
 }
 
+/// Is the port of this ID the one of this number among the places?
+fn has_number(tree: &Topology, id: u16, number: usize) -> bool {
+    tree.place_number(PortId::new(Bdf::from_bits(id))) == Some(number)
+}
+
 #[test]
 fn each_link_and_port_of_two_switches_has_its_place(rt: HostRuntime) {
     let Some(tree) = tree(rt.alloc()) else {
@@ -69,4 +74,9 @@ fn each_link_and_port_of_two_switches_has_its_place(rt: HostRuntime) {
     assert!(rt; tree.links().len() == 4 && tree.places().len() == 6);
     assert!(rt; has_links(&tree) && has_ports(&tree));
     assert!(rt; tree.link(Bdf::from_bits(0x0700)).is_none());
+    assert!(rt; has_number(&tree, 0x0208, 3) && has_number(&tree, 0x0508, 5));
+    assert!(rt;
+        tree.place_number(PortId::new(Bdf::from_bits(0x0210)))
+            .is_none()
+    );
 }

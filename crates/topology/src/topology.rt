@@ -1,13 +1,16 @@
 //! The tree of a layout.
 
-ghost use Rattle.std.specs.Prelude.{◌≡◌, IfOk};
+ghost use Rattle.std.specs.Prelude.{◌≡◌, ◌==◌, ◌<◌, ◌≤◌, IfOk, IfSome, length};
+ghost use Rattle.std.specs.List.{position, position_or_len};
 ghost use Rattle.std.specs.Option.{option_copied};
-ghost use Rattle.std.specs.Prelude.{◌==◌};
+ghost use Rattle.fab_types.specs.Id.{bus_of};
+ghost use Rattle.topology.specs.BusIndexes.{firsts_of, link_buses, place_buses};
 ghost use Rattle.topology.specs.Nodes.{lanes_of};
 ghost use Rattle.topology.specs.Links.{link_at, sender_of};
 ghost use Rattle.topology.specs.Places.{place_at};
 ghost use Rattle.topology.specs.Topologies.{IsSound, tree_of};
 
+use crate::bus_index::BusIndex;
 use crate::links::{Link, links_of};
 use crate::nodes::{LinkEnd, lanes_of_switch};
 use crate::places::{PortPlace, places_of};
@@ -23,16 +26,18 @@ pub struct Topology {
     lanes: Vec<usize>,
     links: Vec<Link>,
     places: Vec<PortPlace>,
+    links_by_bus: BusIndex,
+    places_by_bus: BusIndex,
 }
 
 impl Model for Topology {
-    ghost use Rattle.topology.specs.Topologies.{Tree, IsSound, view_of};
+    ghost use Rattle.topology.specs.Topologies.{Tree, IsIndexed, view_of};
 
     ghost Value = { Tree };
 
     ghost view = { view_of };
 
-    ghost invariant = { λ t. IsSound (view_of t) };
+    ghost invariant = { IsIndexed };
 }
 
 fn lanes_of(alloc: Global, layout: &Layout) -> Result<Vec<usize>, NoMemory>
@@ -50,6 +55,35 @@ fn lanes_of(alloc: Global, layout: &Layout) -> Result<Vec<usize>, NoMemory>
     )
 }
 
+fn buses_of_links(alloc: Global, links: &[Link]) -> Result<Vec<u8>, NoMemory>
+    ensures { IfOk result (λ buses. buses.items ≡ link_buses links.now) }
+{
+    Ok(links.iter().map(|link| link.lower.bus()).collect(alloc)?)
+}
+
+fn buses_of_places(alloc: Global, places: &[PortPlace]) -> Result<Vec<u8>, NoMemory>
+    ensures { IfOk result (λ buses. buses.items ≡ place_buses places.now) }
+{
+    Ok(
+        places
+            .iter()
+            .map(|place| place.id.id().bus())
+            .collect(alloc)?,
+    )
+}
+
+fn index_links(alloc: Global, links: &[Link]) -> Result<BusIndex, NoMemory>
+    ensures { IfOk result (λ index. index ≡ firsts_of (link_buses links.now)) }
+{
+    BusIndex::new(alloc, &buses_of_links(alloc, links)?)
+}
+
+fn index_places(alloc: Global, places: &[PortPlace]) -> Result<BusIndex, NoMemory>
+    ensures { IfOk result (λ index. index ≡ firsts_of (place_buses places.now)) }
+{
+    BusIndex::new(alloc, &buses_of_places(alloc, places)?)
+}
+
 fn find_link(links: &[Link], lower: Bdf) -> Option<&Link>
     ensures { option_copied result ≡ link_at links.now lower }
 {
@@ -62,6 +96,13 @@ fn find_place(places: &[PortPlace], id: PortId) -> Option<&PortPlace>
     places.iter().find(|place| place.id == id)
 }
 
+fn find_number(places: &[PortPlace], id: PortId) -> Option<usize>
+    ensures value { result ≡ position (λ place. place.id == id) places.now }
+    ensures within { IfSome result (λ i. i < length places.now) }
+{
+    places.iter().position(|place| place.id == id)
+}
+
 impl Topology {
     /// The tree of a layout. It answers `NoMemory` where memory was refused.
     pub fn new(alloc: Global, layout: &Layout) -> Result<Topology, NoMemory>
@@ -69,10 +110,14 @@ impl Topology {
     {
         // It tells what holds of every platform.
         let _ = layout.ports();
+        let links = links_of(alloc, layout)?;
+        let places = places_of(alloc, layout)?;
         Ok(Topology {
             lanes: lanes_of(alloc, layout)?,
-            links: links_of(alloc, layout)?,
-            places: places_of(alloc, layout)?,
+            links_by_bus: index_links(alloc, &links)?,
+            places_by_bus: index_places(alloc, &places)?,
+            links,
+            places,
         })
     }
 
@@ -99,11 +144,28 @@ impl Topology {
         &self.places
     }
 
+    /// The number of the first link whose lower end stands on a bus, or how many links there are.
+    fn first_link_on(&self, bus: u8) -> usize
+        ensures value { result ≡ position_or_len (λ link. bus_of link.lower == bus) self.now.links }
+        ensures within { result ≤ length self.now.links }
+    {
+        self.links_by_bus.first(bus)
+    }
+
+    /// The number of the first port on a bus, or how many ports there are.
+    fn first_place_on(&self, bus: u8) -> usize
+        ensures value { result ≡ position_or_len (λ place. bus_of place.id == bus) self.now.places }
+        ensures within { result ≤ length self.now.places }
+    {
+        self.places_by_bus.first(bus)
+    }
+
     /// The link of which this ID is the lower end, if it is a function or an upstream port.
     pub fn link(&self, lower: Bdf) -> Option<Link>
         ensures { result ≡ link_at self.now.links lower }
     {
-        find_link(&self.links, lower).copied()
+        let start = self.first_link_on(lower.bus());
+        find_link(&self.links[start..], lower).copied()
     }
 
     /// Where the packets of this direction are sent from, if there is such a link.
@@ -117,6 +179,17 @@ impl Topology {
     pub fn place(&self, id: PortId) -> Option<PortPlace>
         ensures { result ≡ place_at self.now.places id }
     {
-        find_place(&self.places, id).copied()
+        let start = self.first_place_on(id.id().bus());
+        find_place(&self.places[start..], id).copied()
+    }
+
+    /// The number of the port of this ID among `places`, if it is one of a switch.
+    pub fn place_number(&self, id: PortId) -> Option<usize>
+        ensures value { result ≡ position (λ place. place.id == id) self.now.places }
+        ensures within { IfSome result (λ i. i < length self.now.places) }
+    {
+        let start = self.first_place_on(id.id().bus());
+        let further = find_number(&self.places[start..], id)?;
+        Some(start + further)
     }
 }

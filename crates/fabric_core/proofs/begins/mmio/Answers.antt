@@ -1,4 +1,4 @@
-use Rattle.std.proofs.Common.{Result, Err, ap, ◌∙◌}
+use Rattle.std.proofs.Common.{Err, ap, ◌∙◌}
 use Rattle.fab_types.specs.declared.faults.begin.MmioFault.{MmioFault}
 use Rattle.fab_types.specs.declared.faults.begin.MmioFault.TheVariants as mmio
 use Rattle.tenants.specs.Tenants.{mmio_refusal}
@@ -12,4 +12,5 @@ returns-in-Err-NoMemory g c h violations strays =
     let domains = c.args.edge.now.domains in
     let is = c.in-Err-NoMemory.is ∙ ap (λ (f : MmioFault). Err f) c.in-Err-NoMemory.field-0-is in
     let free = unrefused mmio.NoMemory (mmio_refusal domains c.args.domain c.args.access.now) c.mmio.result c.mmio.ensures.refused is (mmio_memory domains c.args.domain c.args.access.now) in
-    (some_map _ _ (some_map _ _ (mmio_legal domains c.args.domain c.args.access.now free)), ap (λ (e : EdgeView). world_over h e violations strays) c.in-Err-NoMemory.ensures.err)
+    let legal = some_map _ _ (mmio_legal domains c.args.domain c.args.access.now free) in
+    (some_map _ _ legal, legal, ap (λ (e : EdgeView). world_over h e violations strays) c.in-Err-NoMemory.ensures.err)

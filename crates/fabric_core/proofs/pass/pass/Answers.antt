@@ -1,6 +1,81 @@
-use Rattle.fabric_core.proofs.Passages.{pass_step}
+use Rattle.std.proofs.Common.{List, sym, ap, ◌∙◌}
+use Rattle.std.specs.Option.{is_some}
+use Rattle.fab_types.specs.declared.class.Class.TheVariants.{Completion}
+use Rattle.link.specs.Channels.{Channel, is_full}
+use Rattle.tenants.specs.Aliens.{aliened}
+use Rattle.hierarchy.specs.Moves.{channel_at}
+use Rattle.hierarchy.specs.Views.{channels}
+use Rattle.hierarchy.proofs.Room.{full_left}
+use Rattle.fabric_core.specs.Losing.{is_at_port_of}
+use Rattle.fabric_core.proofs.LostAnswers.{lost_answers}
+use Rattle.fabric_core.proofs.Losses.{first_of, keeps_it, lose_step, nothing_lost, second_of, some_made, turned_step, was_back}
+use Rattle.fabric_core.proofs.Over.{rest_after}
+use Rattle.fabric_core.proofs.Settled.{Took, took_after}
 use Rattle.fabric_core.proofs.pass.pass.Goals as goal
 
-pub returns : goal.returns
-returns g c strays kept =
-    pass_step c.args.hierarchy.now c.pass.new.self c.args.edge.now c.pass.new.desk c.args.reports.now.violations c.pass.new.reporter.violations strays c.args.class c.pass.result kept c.args.port c.pass.ensures
+pub returns-in_default : goal.returns-in_default
+returns-in_default g c strays kept =
+    let h = c.args.hierarchy.now in
+    let edge = c.args.edge.now in
+    let violations = c.args.reports.now.violations in
+    turned_step h c.lost_at.new.self c.pass.new.self edge c.pass.new.desk violations c.pass.new.reporter.violations strays c.args.class c.pass.result c.args.port kept c.lost_at.ensures.rest c.lost_at.ensures.same
+    (nothing_lost h edge violations strays c.args.port c.args.class (sym c.in_default.ensures.value)) c.pass.ensures
+
+pub lose-requires-clause-full : goal.lose-requires-clause-full
+lose-requires-clause-full g c =
+    let lost = c.in-Some.lost in
+    let mid = c.is_full_at-is_full.new.self in
+    c.is_full_at-is_full.ensures.full
+    ∙ (ap (λ (cs : List (List Channel)). is_full Completion (channel_at cs lost.own)) (sym c.is_full_at-is_full.ensures.same)
+    ∙ (sym (full_left (channels mid) lost.input lost.own c.in-Some-take_at.ensures.taken.0 Completion)
+    ∙ ap (λ (cs : List (List Channel)). is_full Completion (channel_at cs lost.own)) (sym c.in-Some-take_at.ensures.taken.2)))
+
+pub lose-requires-clause-completion : goal.lose-requires-clause-completion
+lose-requires-clause-completion g c =
+    let edge = c.args.edge.now in
+    let lost = c.in-Some.lost in
+    let frame = c.in-Some-take_at.frame in
+    lost_answers edge.domains lost.place frame
+    (first_of (is_at_port_of edge.domains frame.domain lost.place) (is_some (aliened edge.domains frame.domain lost.place frame)) (sym c.may_lose.ensures ∙ c.if-may_lose.true))
+
+pub returns-then-may_lose : goal.returns-then-may_lose
+returns-then-may_lose g c strays kept =
+    let h = c.args.hierarchy.now in
+    let edge = c.args.edge.now in
+    let violations = c.args.reports.now.violations in
+    let lost = c.in-Some.lost in
+    let frame = c.in-Some-take_at.frame in
+    let looked = c.lost_at.new.self in
+    let mid = c.is_full_at-is_full.new.self in
+    let taking = c.take_at.new.self in
+    let class = c.args.class in
+    let both = sym c.may_lose.ensures ∙ c.if-may_lose.true in
+    let at_port = first_of (is_at_port_of edge.domains frame.domain lost.place) (is_some (aliened edge.domains frame.domain lost.place frame)) both in
+    let made = some_made (aliened edge.domains frame.domain lost.place frame) (second_of (is_at_port_of edge.domains frame.domain lost.place) (is_some (aliened edge.domains frame.domain lost.place frame)) both) in
+    let t : Took h taking lost.input class frame =
+    took_after h looked taking lost.input class frame c.lost_at.ensures.same c.lost_at.ensures.rest
+    (took_after looked mid taking lost.input class frame c.is_full_at-is_full.ensures.same c.is_full_at-is_full.ensures.rest
+    (record { left = c.in-Some-take_at.ensures.taken.0; found = c.in-Some-take_at.ensures.taken.1; now = c.in-Some-take_at.ensures.taken.2; restores = c.in-Some-take_at.ensures.restores; rest = c.take_at.ensures.rest })) in
+    lose_step h taking c.lose.new.hierarchy edge c.lose.new.edge violations c.lose.new.reports.violations strays c.args.port class lost frame made.0 t (sym c.in-Some.ensures.value) at_port made.1 c.lose.result (c.lose.ensures made.0 made.1)
+
+pub returns-else-may_lose : goal.returns-else-may_lose
+returns-else-may_lose g c strays kept =
+    let h = c.args.hierarchy.now in
+    let edge = c.args.edge.now in
+    let violations = c.args.reports.now.violations in
+    let lost = c.in-Some.lost in
+    let frame = c.in-Some-take_at.frame in
+    let looked = c.lost_at.new.self in
+    let mid = c.is_full_at-is_full.new.self in
+    let taking = c.take_at.new.self in
+    let back = c.put_back_at.new.self in
+    let class = c.args.class in
+    let t : Took h taking lost.input class frame =
+    took_after h looked taking lost.input class frame c.lost_at.ensures.same c.lost_at.ensures.rest
+    (took_after looked mid taking lost.input class frame c.is_full_at-is_full.ensures.same c.is_full_at-is_full.ensures.rest
+    (record { left = c.in-Some-take_at.ensures.taken.0; found = c.in-Some-take_at.ensures.taken.1; now = c.in-Some-take_at.ensures.taken.2; restores = c.in-Some-take_at.ensures.restores; rest = c.take_at.ensures.rest })) in
+    let same = was_back h taking back lost.input class frame t c.put_back_at.ensures.waiting in
+    turned_step h back c.pass-else-may_lose.new.self edge c.pass-else-may_lose.new.desk violations c.pass-else-may_lose.new.reporter.violations strays class c.pass-else-may_lose.result c.args.port kept
+    (rest_after h taking back t.rest c.put_back_at.ensures.rest) same
+    (keeps_it h edge violations strays c.args.port class lost frame t.left (record { lost_is = sym c.in-Some.ensures.value; found = t.found }) (sym c.may_lose.ensures ∙ c.if-may_lose.false))
+    c.pass-else-may_lose.ensures

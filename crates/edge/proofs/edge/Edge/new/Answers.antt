@@ -1,4 +1,3 @@
-use Rattle.std.proofs.Common.{refl}
 use Rattle.edge.proofs.Settling.{settled}
 use Rattle.edge.proofs.Starting.{kept_at_start, start_seen}
 use Rattle.tenants.specs.Tenants.{tenants_of}

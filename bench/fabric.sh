@@ -1,0 +1,308 @@
+#!/usr/bin/env bash
+# Runs scripts over the fabric of the largest layout, and prints for each how long it takes by processor time, how
+# many events it makes, how many of them move something a second, and the most memory. The scripts: 65,000 lines of
+# mixed packets, ticks and accesses of hosts with a sweep after every 2,000 of them, the same with a sweep behind
+# each, and 5,000 writes in the name of another domain, each with a sweep. Last comes an idle fabric, which is swept
+# 2,000 times: how many events a second that move nothing. It builds the program in a temporary folder, from the
+# sources of this repository, and proves what no check has proved there before. With a folder as its argument it
+# writes the texts there and does nothing else.
+set -euo pipefail
+here=$(cd "$(dirname "$0")/.." && pwd)
+
+# texts FOLDER
+texts() {
+    PYTHONPATH="$here/bench" PYTHONDONTWRITEBYTECODE=1 python3 - "$1" <<'GENERATOR'
+import random, sys
+
+from switches import ROOT, switch_lines, text
+
+dice = random.Random(1)
+folder = sys.argv[1]
+
+# The largest tree, in which the last seven functions have no line, so that 50 are left.
+FUNCTIONS = 50
+
+lines, functions = ['pciefab 1', 'frames 1024'], []
+switch_lines(ROOT, 'root', 1, 0x90000000, range(1, 9), lines, functions, FUNCTIONS)
+
+# Each function has pages 1 to 8 in frames of its domain.
+for number, (bdf, owner, base) in enumerate(functions):
+    for page in range(1, 9):
+        lines.append(f'map {text(bdf)} {page:x} frame {(owner - 1) * 128 + (number * 8 + page) % 128} rw')
+lines += [f'budget {owner} 16384' for owner in range(1, 9)]
+
+
+def write(name, lines):
+    with open(f'{folder}/{name}', 'w') as file:
+        file.write('\n'.join(lines) + '\n')
+
+
+write('layout', lines)
+
+
+def dword(*numbers):
+    return ''.join(f'{number:08x}' for number in numbers)
+
+
+# A write or a read of a mapped page, of a page that isn't mapped, of another's register page, or with the name of
+# another; with tags in turn.
+def packet(tag):
+    bdf, owner, base = dice.choice(functions)
+    requester = dice.choice(functions)[0] if dice.random() < 0.1 else bdf
+    count = dice.choice([1, 1, 4, 16, 64])
+    address = dice.choice([0x1000 * dice.randrange(1, 10), dice.choice(functions)[2] + 0x400])
+    enables = 0x0f if count == 1 else 0xff
+    if dice.random() < 0.6:
+        head = dword(0x40000000 | count, requester << 16 | enables, address)
+        return bdf, head + f'{dice.getrandbits(32):08x}' * count
+    return bdf, dword(count, requester << 16 | tag % 256 << 8 | enables, address)
+
+
+def command(tag):
+    if dice.random() < 0.9:
+        bdf, word = packet(tag)
+        return f'submit {text(bdf)} {word}'
+    bdf, owner, base = dice.choice(functions)
+    if dice.random() < 0.5:
+        return f'tick {text(bdf)}'
+    return f'mmio {owner} write {text(bdf)} 400 {dice.getrandbits(32):08x}'
+
+
+def spoofed(number):
+    return f'submit {text(functions[-1][0])} {dword(0x40000001, functions[0][0] << 16 | 0x0f, 0x1000, number)}'
+
+
+def script(name, count, command, between):
+    lines = []
+    for number in range(count):
+        lines.append(command(number))
+        if number % between == between - 1:
+            lines.append('sweep 1000')
+    write(name, lines)
+
+
+script('65,000 lines, a sweep after 2,000', 64_967, command, 2_000)
+script('65,000 lines, a sweep after each', 32_500, command, 1)
+script('5,000 spoofed writes', 5_000, spoofed, 1)
+write('idle', ['sweep 1'] * 2_000)
+GENERATOR
+}
+
+if [ $# -gt 0 ]; then
+    texts "$1"
+    exit
+fi
+work=$(mktemp -d)
+trap 'rm -rf "$work"' EXIT
+mkdir -p "$work/crates/fabrics/src" "$work/texts"
+# All but the program itself.
+grep -v '^pciefab:' "$here/crates.txt" > "$work/crates.txt"
+cut -d: -f1 "$work/crates.txt" | while read -r crate; do
+    cp -r "$here/crates/$crate" "$work/crates/$crate"
+    rm -rf "$work/crates/$crate/must-fail"
+done
+cp "$here/HANDLES" "$work"
+echo 'fabrics: fab_types frame_log layout script domain fabric_core' >> "$work/crates.txt"
+
+cat > "$work/crates/fabrics/src/main.rt" <<'PROGRAM'
+#![tactic(auto)]
+
+use domain::Domain;
+use fab_types::{Bdf, Class, Direction, Origin, Outcome, PortId, Way};
+use fabric_core::{Event, Fabric};
+use frame_log::PacketBytes;
+use layout::Layout;
+use script::{Command, Script};
+use std::alloc::{AllocError, Global};
+use std::io::Write;
+use std::sync::Wait;
+use std::time::CpuClock;
+use std::{env, fs, io};
+
+/// How many events moved something, and how many there were.
+#[derive(Clone, Copy)]
+struct Count {
+    moved: u64,
+    all: u64,
+}
+
+const CLASSES: [Class; 3] = [Class::Posted, Class::NonPosted, Class::Completion];
+
+fn add_enters(events: &mut Vec<Event>, origin: Origin) -> Result<(), AllocError> {
+    for class in CLASSES {
+        events.push(Event::Enter(origin, class))?;
+    }
+    Ok(())
+}
+
+fn add_passes(events: &mut Vec<Event>, port: Bdf) -> Result<(), AllocError> {
+    for class in CLASSES {
+        events.push(Event::Pass(PortId::new(port), class))?;
+    }
+    Ok(())
+}
+
+fn add_direction(events: &mut Vec<Event>, lower: Bdf, way: Way) -> Result<(), AllocError> {
+    let direction = Direction { lower, way };
+    for class in CLASSES {
+        events.push(Event::Send(direction, class))?;
+    }
+    events.push(Event::Take(direction))?;
+    events.push(Event::Credit(direction))?;
+    Ok(())
+}
+
+fn add_link(events: &mut Vec<Event>, lower: Bdf) -> Result<(), AllocError> {
+    add_direction(events, lower, Way::Up)?;
+    add_direction(events, lower, Way::Down)
+}
+
+fn add_function(events: &mut Vec<Event>, function: Bdf) -> Result<(), AllocError> {
+    for class in CLASSES {
+        events.push(Event::Arrive(function, class))?;
+    }
+    add_enters(events, Origin::Function(function))?;
+    add_link(events, function)
+}
+
+/// Each event once.
+fn sweep_events(
+    alloc: Global,
+    layout: &Layout,
+    domains: &[Domain],
+) -> Result<Vec<Event>, AllocError> {
+    let mut events = Vec::new(alloc);
+    for line in layout.functions() {
+        add_function(&mut events, line.id)?;
+    }
+    for line in layout.ports() {
+        add_passes(&mut events, line.id.id())?;
+    }
+    for line in layout.switches() {
+        add_passes(&mut events, line.id)?;
+        add_link(&mut events, line.id)?;
+    }
+    for domain in domains {
+        add_enters(&mut events, Origin::Host(domain.start().domain()))?;
+    }
+    for class in CLASSES {
+        events.push(Event::Root(class))?;
+    }
+    Ok(events)
+}
+
+fn step<R: Wait>(rt: &R, fabric: &mut Fabric, event: &Event, count: &mut Count) -> bool {
+    let moved = fabric.step(rt, event) == Outcome::Moved;
+    count.all = count.all.wrapping_add(1);
+    count.moved = count.moved.wrapping_add(u64::from(moved));
+    moved
+}
+
+/// Did anything move?
+fn sweep<R: Wait>(rt: &R, fabric: &mut Fabric, events: &[Event], count: &mut Count) -> bool {
+    let before = count.moved;
+    for event in events {
+        step(rt, fabric, event, count);
+    }
+    count.moved != before
+}
+
+fn sweeps<R: Wait>(rt: &R, fabric: &mut Fabric, events: &[Event], most: u32, count: &mut Count) {
+    for _ in 0..most {
+        if !sweep(rt, fabric, events, count) {
+            return;
+        }
+    }
+}
+
+fn make<R: Wait>(
+    rt: &R,
+    alloc: Global,
+    fabric: &mut Fabric,
+    events: &[Event],
+    command: &Command,
+    count: &mut Count,
+) -> Result<(), AllocError> {
+    match command {
+        Command::Submit(function, bytes) => {
+            let bytes = PacketBytes::copy_of(alloc, bytes.as_slice())?;
+            step(rt, fabric, &Event::Submit(*function, bytes), count);
+        }
+        Command::Tick(function) => {
+            step(rt, fabric, &Event::Tick(*function), count);
+        }
+        Command::Mmio(domain, access) => {
+            let access = access.try_clone(alloc)?;
+            step(rt, fabric, &Event::Mmio(*domain, access), count);
+        }
+        Command::Sweep(most) => sweeps(rt, fabric, events, *most, count),
+    }
+    Ok(())
+}
+
+fn run<R: Wait>(
+    rt: &R,
+    alloc: Global,
+    fabric: &mut Fabric,
+    events: &[Event],
+    script: &Script,
+) -> Result<Count, AllocError> {
+    let mut count = Count { moved: 0, all: 0 };
+    for line in script.lines() {
+        make(rt, alloc, fabric, events, &line.command, &mut count)?;
+    }
+    Ok(count)
+}
+
+/// The line of the system's on the most memory that the process had.
+fn most_memory(status: &str) -> &str {
+    match status.lines().find(|line| line.starts_with("VmHWM:")) {
+        Some(line) => line,
+        None => "VmHWM: 0",
+    }
+}
+
+/// Runs the script that the second word names over the layout that the first one names. It prints the nanoseconds,
+/// the events that moved something, all events, and the memory.
+fn main(rt: HostRuntime) -> io::Result<()> {
+    let alloc = rt.alloc();
+    let mut out = rt.stdout();
+    let Some(path) = env::args(&rt)?.nth(1) else {
+        return Ok(());
+    };
+    let Some(name) = env::args(&rt)?.nth(2) else {
+        return Ok(());
+    };
+    let layout = fs::read_to_string(&rt, path.as_str())?;
+    let script = fs::read_to_string(&rt, name.as_str())?;
+    let Ok(layout) = Layout::read(alloc, layout.as_str()) else {
+        return writeln!(out, "the layout is refused");
+    };
+    let Ok(script) = Script::read(alloc, script.as_str()) else {
+        return writeln!(out, "the script is refused");
+    };
+    let Ok(mut fabric) = Fabric::new(alloc, &layout) else {
+        return writeln!(out, "no memory");
+    };
+    let events = sweep_events(alloc, &layout, fabric.domains())?;
+    let before = rt.process_cpu_time()?;
+    let count = run(&rt, alloc, &mut fabric, &events, &script)?;
+    let time = rt.process_cpu_time()?.saturating_sub(before);
+    let status = fs::read_to_string(&rt, "/proc/self/status")?;
+    let memory = most_memory(status.as_str());
+    writeln!(out, "{} {} {} {memory}", time.as_nanos(), count.moved, count.all)
+}
+PROGRAM
+# Not by rt try, whose build tests each access and is far slower.
+( cd "$work/crates/fabrics" && rt run > "$work/fabrics.log" 2>&1 ) || { tail -20 "$work/fabrics.log"; exit 1; }
+
+texts "$work/texts"
+cd "$work/texts"
+printf '%s\n' * | grep -v '^layout$' | sort -V | while read -r name; do
+    "$work/crates/fabrics/out/fabrics" layout "$name" | awk -v name="$name" '
+        {
+            seconds = $1 / 1e9
+            printf "%s: %.2f s, %d events, %.2f million a second; %d moved something, %.2f million a second; %.1f MB\n",
+                name, seconds, $3, $3 / seconds / 1e6, $2, $2 / seconds / 1e6, $5 / 1000
+        }'
+done

@@ -1,0 +1,117 @@
+-- Runs that go on: events of a sweep, sweeps, and lines of a script.
+use Rattle.std.proofs.Common.{◌≡◌, ℕ, zero, suc, ◌+◌, ◌-◌, ◌<◌, ◌≤◌, Bool, true, false, List, [], ◌∷◌, ◌++◌, length, take, refl, sym, ap, ap₂, ◌∙◌, subst, arith, append_assoc}
+use Rattle.std.specs.Prelude.{◌||◌, slice_index_or}
+use Rattle.std.specs.List.{list_any}
+use Rattle.std.proofs.lemmas.List.{append-nil, take_more}
+use Rattle.std.proofs.lemmas.List.Folds.{list_any-append}
+use Rattle.fab_types.specs.declared.outcome.Outcome.{Outcome}
+use Rattle.fab_types.specs.declared.outcome.Outcome.TheVariants.{Idle, Moved, Refused, NoMemory}
+use Rattle.script.specs.declared.lines.Line.{Line}
+use Rattle.fabric_core.specs.declared.event.Event.{Event}
+use Rattle.fabric_core.specs.Events.{StepsTo}
+use Rattle.fabric_core.specs.Runs.{Run}
+use Rattle.fabric_core.specs.World.{World}
+use Rattle.commands.specs.Driving.{Does, Drives}
+use Rattle.commands.specs.Sweeps.{Sweeps, SweepsUpTo, is_moved, lacks_memory}
+
+pub take_all : {X : Type 0} (xs : List X) (i : ℕ) → length xs ≤ i → take i xs ≡ xs
+take_all [] zero le = refl
+take_all [] (suc i) le = refl
+take_all (x ∷ xs) zero le = absurd (omega arith)
+take_all {X = X} (x ∷ xs) (suc i) le = ap (λ (ys : List X). x ∷ ys) (take_all xs i (omega arith))
+
+pub take_next : {X : Type 0} (xs : List X) (i : ℕ) (x : X) → i < length xs → x ≡ slice_index_or xs i x → take (i + 1) xs ≡ take i xs ++ x ∷ []
+take_next {X = X} xs i x lt is = take_more xs i x lt ∙ ap (λ (y : X). take i xs ++ y ∷ []) (sym is)
+
+-- ---- events of a sweep
+
+run_more : (w v u : World) (es : List Event) (os : List Outcome) (e : Event) (o : Outcome) → Run w es os v → StepsTo v e o u → Run w (es ++ e ∷ []) (os ++ o ∷ []) u
+run_more w v u [] [] e o r s = (u, subst (λ (x : World). StepsTo x e o u) r s, refl)
+run_more w v u (x ∷ es) (y ∷ os) e o r s = (r.0, r.1, run_more r.0 v u es os e o r.2 s)
+run_more w v u [] (y ∷ os) e o r s = absurd r
+run_more w v u (x ∷ es) [] e o r s = absurd r
+
+one : (o : Outcome) → list_any is_moved (o ∷ []) ≡ is_moved o
+one Moved = refl
+one Idle = refl
+one (Refused fault) = refl
+one NoMemory = refl
+
+only : (o : Outcome) → list_any lacks_memory (o ∷ []) ≡ lacks_memory o
+only Moved = refl
+only Idle = refl
+only (Refused fault) = refl
+only NoMemory = refl
+
+sweep_more : (w v u : World) (es : List Event) (e : Event) (m : Bool) (o : Outcome) → lacks_memory o ≡ false → Sweeps es w m v → StepsTo v e o u → Sweeps (es ++ e ∷ []) w (m || is_moved o) u
+sweep_more w v u es e m o enough s step = record {
+  outcomes = s.outcomes ++ o ∷ [];
+  run = run_more w v u es s.outcomes e o s.run step;
+  memory = list_any-append lacks_memory s.outcomes (o ∷ []) ∙ ap₂ (λ (a b : Bool). a || b) s.memory (only o ∙ enough);
+  moves =
+      ap (λ (b : Bool). b || is_moved o) s.moves
+      ∙ (ap (λ (b : Bool). list_any is_moved s.outcomes || b) (sym (one o)) ∙ sym (list_any-append is_moved s.outcomes (o ∷ [])));
+}
+
+pub sweep_start : (w : World) (es : List Event) → Sweeps (take 0 es) w false w
+sweep_start w es = record { outcomes = []; run = refl; memory = refl; moves = refl }
+
+-- one event more of a list
+pub sweep_next : (w v u : World) (es : List Event) (i : ℕ) (e : Event) (m n : Bool) (o : Outcome) → i < length es → e ≡ slice_index_or es i e → n ≡ (m || is_moved o)
+    → lacks_memory o ≡ false → Sweeps (take i es) w m v → StepsTo v e o u → Sweeps (take (i + 1) es) w n u
+sweep_next w v u es i e m n o lt is both enough s step =
+    subst (λ (xs : List Event). Sweeps xs w n u) (sym (take_next es i e lt is))
+    (subst (λ (b : Bool). Sweeps (take i es ++ e ∷ []) w b u) (sym both) (sweep_more w v u (take i es) e m o enough s step))
+
+-- the sweep of all events, once the loop has gone through them
+pub sweep_whole : (w v : World) (es : List Event) (m : Bool) (i : ℕ) → length es ≤ i → Sweeps (take i es) w m v → Sweeps es w m v
+sweep_whole w v es m i le s = subst (λ (xs : List Event). Sweeps xs w m v) (take_all es i le) s
+
+-- ---- sweeps
+
+-- with these ends of what is left, the whole has the same
+abbrev pub Leads : List Event → ℕ → World → ℕ → World → Type 0
+Leads es most w left v = (u : World) → SweepsUpTo es left v u → SweepsUpTo es most w u
+
+pub leads_start : (es : List Event) (most : ℕ) (w : World) → Leads es most w (most - 0) w
+leads_start es most w = λ u h. let all : most - 0 ≡ most = omega arith in subst (λ (n : ℕ). SweepsUpTo es n w u) all h
+
+-- a sweep that moved something, with more that are left
+pub leads_next : (es : List Event) (most : ℕ) (w v x : World) (i : ℕ) (m : Bool) → i < most → m ≡ true → Leads es most w (most - i) v → Sweeps es v m x → Leads es most w (most - (i + 1)) x
+leads_next es most w v x i m lt moved so_far s = λ u h.
+    let left : most - i ≡ suc (most - (i + 1)) = omega arith in
+    so_far u (subst (λ (n : ℕ). SweepsUpTo es n v u) (sym left) (true, x, subst (λ (b : Bool). Sweeps es v b x) moved s, h))
+
+-- a sweep that moved nothing is the last
+pub leads_last : (es : List Event) (most : ℕ) (w v x : World) (i : ℕ) (m : Bool) → i < most → m ≡ false → Leads es most w (most - i) v → Sweeps es v m x → SweepsUpTo es most w x
+leads_last es most w v x i m lt still so_far s =
+    let left : most - i ≡ suc (most - (i + 1)) = omega arith in
+    so_far x (subst (λ (n : ℕ). SweepsUpTo es n v x) (sym left) (false, x, subst (λ (b : Bool). Sweeps es v b x) still s, refl))
+
+-- none are left
+pub leads_end : (es : List Event) (most : ℕ) (w v : World) (i : ℕ) → most ≤ i → Leads es most w (most - i) v → SweepsUpTo es most w v
+leads_end es most w v i le so_far =
+    let left : most - i ≡ 0 = omega arith in
+    so_far v (subst (λ (n : ℕ). SweepsUpTo es n v v) (sym left) refl)
+
+-- ---- lines of a script
+
+drive_more : (es : List Event) (w v u : World) (ls : List Line) (l : Line) (text more : List ℕ) → Drives es w ls v text → Does es l.number v l.command u more → Drives es w (ls ++ l ∷ []) u (text ++ more)
+drive_more es w v u [] l text more d now =
+    (u, more, [], subst (λ (x : World). Does es l.number x l.command u more) d.0 now, (refl, refl), ap (λ (t : List ℕ). t ++ more) d.1 ∙ sym (append-nil more))
+drive_more es w v u (k ∷ ls) l text more d now =
+    let mid = d.0 in
+    let first = d.1 in
+    let rest = d.2 in
+    (mid, first, rest ++ more, d.3, drive_more es mid v u ls l rest more d.4 now, ap (λ (t : List ℕ). t ++ more) d.5 ∙ append_assoc first rest more)
+
+pub drive_start : (es : List Event) (w : World) (ls : List Line) → Drives es w (take 0 ls) w []
+drive_start es w ls = (refl, refl)
+
+pub drive_next : (es : List Event) (w v u : World) (ls : List Line) (i : ℕ) (l : Line) (text more : List ℕ) → i < length ls → l ≡ slice_index_or ls i l
+    → Drives es w (take i ls) v text → Does es l.number v l.command u more → Drives es w (take (i + 1) ls) u (text ++ more)
+drive_next es w v u ls i l text more lt is d now =
+    subst (λ (xs : List Line). Drives es w xs u (text ++ more)) (sym (take_next ls i l lt is)) (drive_more es w v u (take i ls) l text more d now)
+
+pub drive_whole : (es : List Event) (w v : World) (ls : List Line) (i : ℕ) (text : List ℕ) → length ls ≤ i → Drives es w (take i ls) v text → Drives es w ls v text
+drive_whole es w v ls i text le d = subst (λ (xs : List Line). Drives es w xs v text) (take_all ls i le) d

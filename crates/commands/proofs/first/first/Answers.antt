@@ -1,0 +1,23 @@
+use Rattle.std.proofs.Common.{◌++◌, refl}
+use Rattle.std.specs.List.{flat_map}
+use Rattle.commands.specs.Report.{memory_lines}
+use Rattle.commands.proofs.Writing.{joined}
+use Rattle.commands.proofs.first.first.Goals as goal
+
+-- the refusal, if any, and then the memory
+pub returns-clause-printed : goal.returns-clause-printed
+returns-clause-printed g c =
+    let written = c.in_ok-fabric.ensures.ok in (
+      written.0 ++ flat_map memory_lines c.in_ok-fabric.fabric.edge.domains,
+      record {
+        bytes = c.in-Ok.bytes;
+        stands = rw c.as_bytes.ensures.value at c.in-Ok.ensures;
+        platform = c.in-Ok-read.layout;
+        reads = c.in-Ok-read.ensures.exact;
+        world = c.in_ok-fabric.fabric;
+        refused = written.0;
+        driven = rw c.from_bits.ensures at written.1;
+        lines = refl;
+      },
+      joined _ _ _ _ _ written.2 (rw c.domains.ensures at c.in_ok-write_memory.ensures),
+    )

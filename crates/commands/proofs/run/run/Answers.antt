@@ -1,0 +1,24 @@
+use Rattle.std.proofs.Common.{◌++◌, refl}
+use Rattle.commands.proofs.Writing.{joined}
+use Rattle.commands.proofs.run.run.Goals as goal
+
+pub returns : goal.returns
+returns g c =
+    let layout = c.in_ok-layout.ensures in
+    let script = c.in_ok-script.ensures in
+    let refused = c.in_ok-fabric.ensures.ok in
+    let written = c.in_ok-write_report.ensures in (
+      refused.0 ++ written.0,
+      record {
+        platform = c.in_ok-layout.layout;
+        lines = c.in_ok-script.script;
+        files = record { layout_text = layout.0; layout_file = layout.1; layout = layout.2; script_text = script.0; script_file = script.1; script = script.2 };
+        world = c.in_ok-fabric.fabric;
+        refused = refused.0;
+        driven = rw c.lines.ensures at refused.1;
+        report = written.0;
+        reports = written.1;
+        all = refl;
+      },
+      joined _ _ _ _ _ refused.2 written.2,
+    )

@@ -1,0 +1,32 @@
+-- How the program ends.
+use Rattle.std.specs.Prelude.{◌≡◌, ◌≢◌, ◌⊎◌, ℕ, ⊤}
+use Rattle.std.specs.IoError.{error_kind}
+use Rattle.std.specs.declared.io.Error.{Error}
+use Rattle.std.specs.declared.io.ErrorKind.TheVariants as error_kinds
+use Rattle.commands.specs.declared.fault.ExitStatus.{ExitStatus}
+use Rattle.commands.specs.declared.fault.ExitStatus.TheVariants as exit_status
+use Rattle.commands.specs.declared.fault.Fault.{Fault}
+use Rattle.commands.specs.declared.fault.Fault.TheVariants as fault
+
+-- the number that the host sees
+abbrev pub exit_code : ExitStatus → ℕ
+exit_code exit_status.Done = 0
+exit_code exit_status.Stopped = 1
+exit_code exit_status.NoMemory = 2
+
+-- the exit status after a fault: want of memory has its own
+abbrev pub status_of : Fault → ExitStatus
+status_of fault.NoMemory = exit_status.NoMemory
+status_of _ = exit_status.Stopped
+
+-- what may stop a run: want of memory, or an output that takes no more
+abbrev pub IsRunFault : Fault → Type 0
+IsRunFault fault.NoMemory = ⊤
+IsRunFault fault.Unwritable = ⊤
+IsRunFault _ = ⊥
+
+-- what the failure of a writer comes to
+abbrev pub IsWriterFault : Error → Fault → Type 0
+IsWriterFault error f =
+    ((error_kind error ≡ error_kinds.OutOfMemory) × (f ≡ fault.NoMemory))
+    ⊎ ((error_kind error ≢ error_kinds.OutOfMemory) × (f ≡ fault.Unwritable))

@@ -1,0 +1,66 @@
+-- What the commands `run` and `alone` print.
+use Rattle.std.specs.Prelude.{◌≡◌, ℕ, List, ◌++◌, Ok, Some}
+use Rattle.layout.specs.Platform.{Platform}
+use Rattle.layout.specs.Reading.{reading}
+use Rattle.layout.specs.Share.{Share}
+use Rattle.layout.specs.Views.{share_of_owner}
+use Rattle.script.specs.Reading as script
+use Rattle.script.specs.declared.lines.Line.{Line}
+use Rattle.domain.specs.Domains.{DomainView}
+use Rattle.domain.specs.Machine.{replay}
+use Rattle.tenants.specs.Tenants.{domain_at, place_of}
+use Rattle.fabric_core.specs.World.{World}
+use Rattle.commands.specs.Driving.{IsDriven}
+use Rattle.commands.specs.Report.{IsPart, IsReport}
+use Rattle.commands.specs.CommandLine.{Asked, First, Run, Alone}
+use Rattle.commands.specs.First.{Prints}
+
+-- the files of these names have the texts of a platform and of a script
+pub record AreFiles (holds : List ℕ → List ℕ → Type 0) (layout_name script_name : List ℕ) (platform : Platform) (lines : List Line) : Type 0 where
+  pub layout_text : List ℕ
+  pub layout_file : holds layout_name layout_text
+  pub layout : reading layout_text ≡ Ok platform
+  pub script_text : List ℕ
+  pub script_file : holds script_name script_text
+  pub script : script.reading script_text ≡ Ok lines
+
+-- what `run` prints: the fabric of the one file is driven by the other, and of that the begins that were refused, as
+-- they came, and then the report
+pub record RunPrints (holds : List ℕ → List ℕ → Type 0) (layout_name script_name : List ℕ) (text : List ℕ) : Type 0 where
+  pub platform : Platform
+  pub lines : List Line
+  pub files : AreFiles holds layout_name script_name platform lines
+  pub world : World
+  pub refused : List ℕ
+  pub driven : IsDriven platform lines world refused
+  pub report : List ℕ
+  pub reports : IsReport world report
+  pub all : text ≡ refused ++ report
+
+-- a domain is the replay of its journal in such a run, from what the layout gives it
+pub record IsReplayed (platform : Platform) (lines : List Line) (share : Share) (domain : DomainView) : Type 0 where
+  pub world : World
+  pub refused : List ℕ
+  pub driven : IsDriven platform lines world refused
+  pub ran : DomainView
+  pub there : domain_at world.edge.domains (place_of world.edge.domains share.domain) ≡ Some ran
+  pub share_is : domain.share ≡ share
+  pub journal : domain.journal ≡ ran.journal
+  pub replays : replay share ran.journal ≡ Some domain.state
+
+-- what `alone` prints: the part of the report that the domain of this number has, from the replay of its journal
+pub record AlonePrints (holds : List ℕ → List ℕ → Type 0) (layout_name script_name : List ℕ) (number : ℕ) (text : List ℕ) : Type 0 where
+  pub platform : Platform
+  pub lines : List Line
+  pub files : AreFiles holds layout_name script_name platform lines
+  pub share : Share
+  pub owner : share_of_owner platform number ≡ Some share
+  pub domain : DomainView
+  pub replayed : IsReplayed platform lines share domain
+  pub part : IsPart domain text
+
+-- what a command prints that was asked for, where files may have these bytes under these names
+abbrev pub AskedPrints : (List ℕ → List ℕ → Type 0) → Asked → List ℕ → Type 0
+AskedPrints holds (First packet) text = Prints packet text
+AskedPrints holds (Run layout script) text = RunPrints holds layout script text
+AskedPrints holds (Alone layout script number) text = AlonePrints holds layout script number text

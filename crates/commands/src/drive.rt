@@ -1,0 +1,95 @@
+//! A fabric that does what the lines of a script ask for.
+
+ghost use Rattle.std.specs.Prelude.{◌≡◌, IfErr, IfOk, OnOk};
+ghost use Rattle.commands.specs.Driving.{Begins, Does, Drives, IsDriven, Wrote};
+ghost use Rattle.commands.specs.Endings.{IsRunFault};
+
+use crate::fault::Fault;
+use crate::report;
+use crate::sweep::{sweep_events, sweeps};
+use fab_types::Outcome;
+use fabric_core::{Event, Fabric};
+use frame_log::PacketBytes;
+use layout::Layout;
+use script::{Command, Line};
+use std::alloc::Global;
+use std::io::Write;
+use std::sync::Wait;
+
+/// Runs the fabric of a layout by these lines, from its start. For each begin that is refused, a line is
+/// written at once.
+pub fn driven<'a, R: Wait, W: Write>(
+    rt: &R,
+    alloc: Global,
+    layout: &Layout,
+    lines: &[Line],
+    out: &mut W,
+) -> Result<Fabric, Fault<'a>>
+    ensures ok { IfOk result (λ fabric. Wrote (W.contents out.old) (W.contents out.new) (IsDriven layout.now lines.now fabric)) }
+    ensures fault { IfErr result (λ fault. IsRunFault fault) }
+{
+    let mut fabric = Fabric::new(alloc, layout)?;
+    let events = sweep_events(alloc, layout, fabric.domains())?;
+    drive_all(rt, alloc, &mut fabric, &events, lines, out)?;
+    Ok(fabric)
+}
+
+fn drive_all<'a, R: Wait, W: Write>(
+    rt: &R,
+    alloc: Global,
+    fabric: &mut Fabric,
+    events: &[Event],
+    lines: &[Line],
+    out: &mut W,
+) -> Result<(), Fault<'a>>
+    ensures ok { OnOk result (Wrote (W.contents out.old) (W.contents out.new) (Drives events.now fabric.old lines.now fabric.new)) }
+    ensures fault { IfErr result (λ fault. IsRunFault fault) }
+{
+    for line in lines {
+        drive(rt, alloc, fabric, events, line, out)?;
+    }
+    Ok(())
+}
+
+fn drive<'a, R: Wait, W: Write>(
+    rt: &R,
+    alloc: Global,
+    fabric: &mut Fabric,
+    events: &[Event],
+    line: &Line,
+    out: &mut W,
+) -> Result<(), Fault<'a>>
+    ensures ok { OnOk result (Wrote (W.contents out.old) (W.contents out.new) (Does events.now line.now.number fabric.old line.now.command fabric.new)) }
+    ensures fault { IfErr result (λ fault. IsRunFault fault) }
+{
+    let number = line.number;
+    match &line.command {
+        Command::Submit(function, bytes) => {
+            let bytes = PacketBytes::copy_of(alloc, bytes.as_slice())?;
+            begin(rt, fabric, number, &Event::Submit(*function, bytes), out)
+        }
+        Command::Tick(function) => begin(rt, fabric, number, &Event::Tick(*function), out),
+        Command::Mmio(domain, access) => {
+            let access = access.try_clone(alloc)?;
+            begin(rt, fabric, number, &Event::Mmio(*domain, access), out)
+        }
+        Command::Sweep(most) => Ok(sweeps(rt, fabric, events, *most)?),
+    }
+}
+
+fn begin<'a, R: Wait, W: Write>(
+    rt: &R,
+    fabric: &mut Fabric,
+    line: u32,
+    event: &Event,
+    out: &mut W,
+) -> Result<(), Fault<'a>>
+    ensures ok { OnOk result (Wrote (W.contents out.old) (W.contents out.new) (Begins line fabric.old event.now fabric.new)) }
+    ensures fault { IfErr result (λ fault. IsRunFault fault) }
+{
+    match fabric.step(rt, event) {
+        Outcome::Moved | Outcome::Idle => Ok(()),
+        Outcome::Refused(fault) => Ok(report::write_refusal(out, line, fault)?),
+        Outcome::NoMemory => Err(Fault::NoMemory),
+    }
+}

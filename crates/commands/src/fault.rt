@@ -1,0 +1,139 @@
+//! Why the program stops before its work is done, and its exit status.
+
+ghost use Rattle.std.specs.Prelude.{◌≡◌, ◌≢◌};
+ghost use Rattle.commands.specs.Endings.{exit_code, status_of};
+
+use fab_types::{LayoutCause, LayoutFault, NoMemory, ReplayFault, ScriptCause};
+use std::alloc::AllocError;
+use std::io;
+use std::io::ErrorKind;
+use thiserror::Error;
+
+/// How the program ended.
+#[derive(Clone, Copy, Debug, PartialEq, Eq)]
+pub enum ExitStatus {
+    Done,
+    Stopped,
+    NoMemory,
+}
+
+impl ExitStatus {
+    /// The number that the host sees.
+    pub fn code(self) -> u8
+        ensures { result ≡ exit_code self }
+    {
+        match self {
+            ExitStatus::Done => 0,
+            ExitStatus::Stopped => 1,
+            ExitStatus::NoMemory => 2,
+        }
+    }
+}
+
+/// Why the program stopped. It prints as the one line that standard error then has.
+#[derive(Clone, Copy, Debug, PartialEq, Eq, Error)]
+pub enum Fault<'a> {
+    /// The words are no command.
+    #[error("usage")]
+    Usage,
+    /// The file of this name cannot be read, or is no UTF-8 text.
+    #[error("file {name}: unreadable")]
+    Unreadable { name: &'a str },
+    /// A line of a layout is faulty.
+    #[error("layout {line}: {code} {name}", line = .0.line(), code = .0.number(), name = .0.name())]
+    Layout(LayoutFault),
+    /// A line of a script is not understood. The word of `first` counts as line 1.
+    #[error("script {line}: Line")]
+    ScriptLine { line: u32 },
+    /// No domain of this number owns a port.
+    #[error("domain {number}: none")]
+    NoDomain { number: u32 },
+    /// A journal has an entry that is illegal after those before it.
+    #[error("replay: illegal")]
+    IllegalReplay,
+    /// Memory was refused.
+    #[error("out of memory")]
+    NoMemory,
+    /// Standard output takes no more.
+    #[error("output: unwritable")]
+    Unwritable,
+}
+
+impl Fault<'_> {
+    /// The fault of a script's line.
+    pub fn at_line(line: u32, cause: ScriptCause) -> Self
+        ensures line { cause ≡ ScriptCause.Line → result ≡ Fault.ScriptLine line }
+        ensures memory { cause ≡ ScriptCause.NoMemory → result ≡ Fault.NoMemory }
+    {
+        match cause {
+            ScriptCause::Line => Fault::ScriptLine { line },
+            ScriptCause::NoMemory => Fault::NoMemory,
+        }
+    }
+
+    /// The fault of a layout.
+    pub fn of_layout(fault: LayoutFault) -> Self
+        ensures line { fault.cause ≢ LayoutCause.NoMemory → result ≡ Fault.Layout fault }
+        ensures memory { fault.cause ≡ LayoutCause.NoMemory → result ≡ Fault.NoMemory }
+    {
+        match fault.cause {
+            LayoutCause::NoMemory => Fault::NoMemory,
+            _ => Fault::Layout(fault),
+        }
+    }
+
+    /// The fault of a replay.
+    pub fn of_replay(fault: ReplayFault) -> Self
+        ensures memory { fault ≡ ReplayFault.NoMemory → result ≡ Fault.NoMemory }
+        ensures illegal { fault ≢ ReplayFault.NoMemory → result ≡ Fault.IllegalReplay }
+    {
+        match fault {
+            ReplayFault::NoMemory => Fault::NoMemory,
+            ReplayFault::Illegal(_) => Fault::IllegalReplay,
+        }
+    }
+
+    /// The exit status that goes with the line.
+    pub fn status(&self) -> ExitStatus
+        ensures { result ≡ status_of self.now }
+    {
+        match self {
+            Fault::NoMemory => ExitStatus::NoMemory,
+            _ => ExitStatus::Stopped,
+        }
+    }
+}
+
+impl From<AllocError> for Fault<'_> {
+    ghost use Rattle.commands.specs.declared.fault.Fault.TheVariants as fault;
+
+    ghost from_gives = { λ _ f. f ≡ fault.NoMemory };
+
+    fn from(_error: AllocError) -> Self {
+        Fault::NoMemory
+    }
+}
+
+impl From<NoMemory> for Fault<'_> {
+    ghost use Rattle.commands.specs.declared.fault.Fault.TheVariants as fault;
+
+    ghost from_gives = { λ _ f. f ≡ fault.NoMemory };
+
+    fn from(_error: NoMemory) -> Self {
+        Fault::NoMemory
+    }
+}
+
+impl From<io::Error> for Fault<'_> {
+    ghost use Rattle.commands.specs.Endings.{IsWriterFault};
+
+    ghost from_gives = { IsWriterFault };
+
+    /// A writer failed.
+    fn from(error: io::Error) -> Self {
+        match error.kind() {
+            ErrorKind::OutOfMemory => Fault::NoMemory,
+            _ => Fault::Unwritable,
+        }
+    }
+}

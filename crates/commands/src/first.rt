@@ -1,0 +1,79 @@
+//! The command `first`: one packet through the smallest fabric.
+
+ghost use Rattle.std.specs.Prelude.{◌≡◌, ◌↔◌, IsErrOf, OnOk};
+ghost use Rattle.std.specs.List.{flat_map};
+ghost use Rattle.std.specs.Io.KnownBytes.{Appends};
+ghost use Rattle.script.specs.PacketWord.{IsPacketWord};
+ghost use Rattle.commands.specs.Driving.{Wrote};
+ghost use Rattle.commands.specs.First.{Prints};
+ghost use Rattle.commands.specs.Report.{memory_lines};
+
+use crate::drive::driven;
+use crate::fault::Fault;
+use crate::report;
+use domain::Domain;
+use fab_types::Bdf;
+use layout::Layout;
+use script::{Command, Line, packet_bytes};
+use std::alloc::Global;
+use std::io;
+use std::io::Write;
+use std::sync::Wait;
+
+/// One switch, and below it one function, whose page 1 is mapped to frame 0.
+const PLATFORM: &str = "\
+pciefab 1
+frames 1
+switch 01:00.0 root
+port 02:00.0 03 03 90000000 900fffff 1f 1
+function 03:00.0 90000000
+map 03:00.0 1 frame 0 rw
+";
+
+/// The function that submits the packet: 03:00.0, the only one.
+const FUNCTION: u16 = 0x0300;
+
+/// How many sweeps may follow.
+const SWEEPS: u32 = 1000;
+
+/// Submits the packet that the word stands for, lets the fabric carry it, and writes the rows of the
+/// memory of domain 1, or why the packet was refused.
+pub fn first<'a, R: Wait, W: Write>(
+    rt: &R,
+    alloc: Global,
+    packet: &str,
+    out: &mut W,
+) -> Result<(), Fault<'a>>
+    ensures printed { OnOk result (Wrote (W.contents out.old) (W.contents out.new) (Prints packet.now)) }
+    ensures line { IsErrOf result (Fault.ScriptLine 1) ↔ (¬ IsPacketWord packet.now) }
+{
+    let bytes = match packet_bytes(alloc, packet.as_bytes()) {
+        Ok(bytes) => bytes,
+        Err(cause) => return Err(Fault::at_line(1, cause)),
+    };
+    let layout = match Layout::read(alloc, PLATFORM) {
+        Ok(layout) => layout,
+        Err(fault) => return Err(Fault::of_layout(fault)),
+    };
+    let submit = Line {
+        number: 1,
+        command: Command::Submit(Bdf::from_bits(FUNCTION), bytes),
+    };
+    let sweep = Line {
+        number: 2,
+        command: Command::Sweep(SWEEPS),
+    };
+    let fabric = driven(rt, alloc, &layout, &[submit, sweep], out)?;
+    write_memory(out, fabric.domains())?;
+    Ok(())
+}
+
+/// Writes the memory of each domain.
+fn write_memory<W: Write>(out: &mut W, domains: &[Domain]) -> io::Result<()>
+    ensures { OnOk result (Appends (W.contents out.old) (W.contents out.new) (flat_map memory_lines domains.now)) }
+{
+    for domain in domains {
+        report::write_frames(out, domain)?;
+    }
+    Ok(())
+}

@@ -1,0 +1,86 @@
+//! The program over given words, files and outputs.
+
+ghost use Rattle.std.specs.Prelude.{◌≡◌, OnOk, map};
+ghost use Rattle.commands.specs.CommandLine.{Ask, Asked, IsAsked};
+ghost use Rattle.commands.specs.Driving.{Wrote};
+ghost use Rattle.commands.specs.Endings.{status_of};
+ghost use Rattle.commands.specs.Runs.{AskedPrints};
+
+use crate::command_line;
+use crate::command_line::Request;
+use crate::fault::{ExitStatus, Fault};
+use crate::files::FileGiver;
+use crate::first::first;
+use crate::run::{alone, run};
+use std::alloc::Global;
+use std::convert::AsStr;
+use std::io::Write;
+use std::sync::Wait;
+
+/// Carries out the command that the words are, without the program's name. What it prints goes to
+/// `out`, and where it stops before its work is done, one line of why goes to `err`. The files are those that
+/// the words name. Where the words ask for a command and it is done, it has written what that prints.
+pub fn command<R: Wait, S: AsStr, F: FileGiver, O: Write, E: Write>(
+    rt: &R,
+    alloc: Global,
+    words: &[S],
+    files: &F,
+    out: &mut O,
+    err: &mut E,
+) -> ExitStatus
+    ensures asked { (asked : Asked) → Ask (map S.text words.now) asked → result ≡ ExitStatus.Done → Wrote (O.contents out.old) (O.contents out.new) (AskedPrints (F.holds files.now) asked) }
+    ensures silent { result ≡ ExitStatus.Done → err.new ≡ err.old }
+{
+    match carried_out(rt, alloc, words, files, out) {
+        Ok(()) => ExitStatus::Done,
+        Err(fault) => stopped(fault, err),
+    }
+}
+
+fn carried_out<'a, R: Wait, S: AsStr, F: FileGiver, O: Write>(
+    rt: &R,
+    alloc: Global,
+    words: &'a [S],
+    files: &F,
+    out: &mut O,
+) -> Result<(), Fault<'a>>
+    ensures { (asked : Asked) → Ask (map S.text words.entry.now) asked → OnOk result (Wrote (O.contents out.old) (O.contents out.new) (AskedPrints (F.holds files.now) asked)) }
+{
+    let request = command_line::read_request(alloc, words)?;
+    perform(rt, alloc, request, files, out)?;
+    out.flush()?;
+    Ok(())
+}
+
+fn perform<'a, R: Wait, F: FileGiver, O: Write>(
+    rt: &R,
+    alloc: Global,
+    request: Request<'a>,
+    files: &F,
+    out: &mut O,
+) -> Result<(), Fault<'a>>
+    ensures { (asked : Asked) → IsAsked request.entry asked → OnOk result (Wrote (O.contents out.old) (O.contents out.new) (AskedPrints (F.holds files.now) asked)) }
+{
+    match request {
+        Request::Help(help) => {
+            write!(out, "{help}")?;
+            Ok(())
+        }
+        Request::First { packet } => first(rt, alloc, packet, out),
+        Request::Run { files: names } => run(rt, alloc, files, names, out),
+        Request::Alone {
+            files: names,
+            domain,
+        } => alone(rt, alloc, files, names, domain, out),
+    }
+}
+
+/// Writes the line of the fault, and gives its exit status.
+pub fn stopped<E: Write>(fault: Fault<'_>, err: &mut E) -> ExitStatus
+    ensures { result ≡ status_of fault.entry }
+{
+    // Where the line cannot be written either, the status alone tells.
+    let _ = writeln!(err, "{fault}");
+    let _ = err.flush();
+    fault.status()
+}

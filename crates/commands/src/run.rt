@@ -1,0 +1,96 @@
+//! The commands `run` and `alone`: a layout's fabric, driven by a script.
+
+ghost use Rattle.std.specs.Prelude.{◌≡◌, IfOk, IfSome, OnOk, Some};
+ghost use Rattle.layout.specs.Views.{share_of_owner};
+ghost use Rattle.commands.specs.Driving.{Wrote};
+ghost use Rattle.commands.specs.Runs.{AlonePrints, IsReplayed, RunPrints};
+
+use crate::command_line::Files;
+use crate::drive::driven;
+use crate::fault::Fault;
+use crate::files::FileGiver;
+use crate::inputs::{layout_of, script_of};
+use crate::report;
+use domain::Domain;
+use fab_types::{DomainId, NoMemory};
+use layout::{Layout, Start};
+use script::Line;
+use std::alloc::Global;
+use std::io;
+use std::io::Write;
+use std::sync::Wait;
+
+/// Runs the fabric of a layout by a script, and writes the begins that were refused and what the run ends
+/// in.
+pub fn run<'a, R: Wait, F: FileGiver, W: Write>(
+    rt: &R,
+    alloc: Global,
+    files: &F,
+    names: Files<'a>,
+    out: &mut W,
+) -> Result<(), Fault<'a>>
+    ensures { OnOk result (Wrote (W.contents out.old) (W.contents out.new) (RunPrints (F.holds files.now) names.entry.layout.now names.entry.script.now)) }
+{
+    let layout = layout_of(alloc, files, names.layout)?;
+    let script = script_of(alloc, files, names.script)?;
+    let fabric = driven(rt, alloc, &layout, script.lines(), out)?;
+    report::write_report(alloc, out, &fabric)?;
+    Ok(())
+}
+
+/// Runs the same, and writes the part of the report of this domain, as the replay of its journal leaves it.
+pub fn alone<'a, R: Wait, F: FileGiver, W: Write>(
+    rt: &R,
+    alloc: Global,
+    files: &F,
+    names: Files<'a>,
+    number: u32,
+    out: &mut W,
+) -> Result<(), Fault<'a>>
+    ensures { OnOk result (Wrote (W.contents out.old) (W.contents out.new) (AlonePrints (F.holds files.now) names.entry.layout.now names.entry.script.now number)) }
+{
+    let layout = layout_of(alloc, files, names.layout)?;
+    let script = script_of(alloc, files, names.script)?;
+    let Some(start) = start_of(alloc, &layout, number)? else {
+        return Err(Fault::NoDomain { number });
+    };
+    let domain = replayed(rt, alloc, &layout, script.lines(), &start)?;
+    report::write_domain(alloc, out, &domain)?;
+    Ok(())
+}
+
+/// What the domain of this number starts from, if there is one that owns a port.
+fn start_of(alloc: Global, layout: &Layout, number: u32) -> Result<Option<Start>, NoMemory>
+    ensures { IfOk result (λ start. IfSome start (λ share. share_of_owner layout.now number ≡ Some share)) }
+{
+    let Ok(number) = u8::try_from(number) else {
+        return Ok(None);
+    };
+    let Some(domain) = DomainId::new(number) else {
+        return Ok(None);
+    };
+    layout.start(alloc, domain)
+}
+
+/// The domain that the journal of a run makes of this start.
+fn replayed<'a, R: Wait>(
+    rt: &R,
+    alloc: Global,
+    layout: &Layout,
+    lines: &[Line],
+    start: &Start,
+) -> Result<Domain, Fault<'a>>
+    ensures { IfOk result (λ domain. IsReplayed layout.now lines.now start.now domain) }
+{
+    let fabric = driven(rt, alloc, layout, lines, &mut io::sink())?;
+    let number = start.domain();
+    let Some(domain) = fabric.domain(number) else {
+        return Err(Fault::NoDomain {
+            number: u32::from(number.get()),
+        });
+    };
+    match Domain::replay(rt, alloc, start, domain.journal()) {
+        Ok(domain) => Ok(domain),
+        Err(fault) => Err(Fault::of_replay(fault)),
+    }
+}

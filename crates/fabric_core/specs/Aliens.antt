@@ -1,0 +1,57 @@
+-- Who gets the entry of a packet that its home has no case for where it is taken. Only layouts in which a port lacks one of
+-- the five controls have such packets.
+use Rattle.std.specs.Prelude.{ℕ, ◌/◌, List, Option, Some, None}
+use Rattle.fab_types.specs.declared.head.AddressType.{AddressType}
+use Rattle.fab_types.specs.declared.head.AddressType.TheVariants.{Untranslated, TranslationRequest, Translated, Reserved}
+use Rattle.fab_types.specs.declared.head.Header.{Header}
+use Rattle.fab_types.specs.declared.head.Header.TheVariants.{Malformed, Memory, OtherRequest, Completion}
+use Rattle.fab_types.specs.declared.place.Direction.{Direction}
+use Rattle.fab_types.specs.declared.place.Place.TheVariants.{Ingress}
+use Rattle.fab_types.specs.declared.place.Way.TheVariants.{Up, Down}
+use Rattle.frame_log.specs.Descriptor.{Descriptor}
+use Rattle.layout.specs.declared.lines.PortLine.{PortLine}
+use Rattle.layout.specs.Owners.{owner_of}
+use Rattle.domain.specs.Domains.{DomainView}
+use Rattle.edge.specs.Edges.{EdgeView, aliened_at_function, aliened_at_host}
+use Rattle.tenants.specs.Aliens.{owner_of_frame}
+
+-- the link between the host and the top switch
+abbrev pub to_host : Direction
+to_host = record { lower = 0x0100; way = Up }
+
+abbrev pub to_function : ℕ → Direction
+to_function function = record { lower = function; way = Down }
+
+-- a memory request at the host: the owner of its Requester ID, or of the frame of memory whose number is its page
+abbrev pub addressed_to : List PortLine → List DomainView → ℕ → AddressType → ℕ → Option ℕ
+addressed_to ports domains requester Untranslated address = owner_of ports requester
+addressed_to ports domains requester TranslationRequest address = None
+addressed_to ports domains requester Translated address = owner_of_frame domains (address / 4096)
+addressed_to ports domains requester Reserved address = None
+
+-- a completion at the host: the domain whose host it is for
+abbrev pub receiver_by : List PortLine → List DomainView → Header → Option ℕ
+receiver_by ports domains Malformed = None
+receiver_by ports domains (Memory requester address_type address) = addressed_to ports domains requester address_type address
+receiver_by ports domains (OtherRequest requester) = None
+receiver_by ports domains (Completion target relaxed_ordering) = owner_of ports target
+
+abbrev pub or_home : ℕ → Option ℕ → ℕ
+or_home home None = home
+or_home home (Some receiver) = receiver
+
+-- the domain that gets the entry of a packet that the host took: such a one, or else its home
+abbrev pub receiver_at_host : List PortLine → List DomainView → Descriptor → ℕ
+receiver_at_host ports domains frame = or_home frame.domain (receiver_by ports domains frame.head.header)
+
+-- what the entry makes of the edge; none where the layout has no such entries
+abbrev pub alien_at_host : List PortLine → EdgeView → Descriptor → Option EdgeView
+alien_at_host ports edge frame = aliened_at_host edge (receiver_at_host ports edge.domains frame) (Ingress to_host) frame
+
+abbrev pub alien_at_function : EdgeView → ℕ → Descriptor → Option EdgeView
+alien_at_function edge function frame = aliened_at_function edge function (Ingress (to_function function)) frame
+
+-- the one that its home's machine makes, or else this
+abbrev pub or_else : Option EdgeView → Option EdgeView → Option EdgeView
+or_else None other = other
+or_else (Some edge) other = Some edge

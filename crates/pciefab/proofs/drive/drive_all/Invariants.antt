@@ -1,7 +1,0 @@
-use Rattle.std.proofs.Common.{take}
-use Rattle.pciefab.specs.Driving.{Drives, Wrote}
-use Rattle.pciefab.proofs.drive.drive_all.Given as goal
-
--- the lines so far were done
-abbrev pub invariant-loop-line : goal.invariant-loop-line
-invariant-loop-line g l = Wrote (g.W.Write.contents l.initial.out) (g.W.Write.contents l.out) (Drives l.events l.initial.fabric (take l.line-index l.lines) l.fabric)

@@ -1,7 +1,0 @@
-use Rattle.std.proofs.Common.{◌-◌}
-use Rattle.pciefab.proofs.Running.{Leads}
-use Rattle.pciefab.proofs.sweep.sweeps.Given as goal
-
--- what is left gives the whole
-abbrev pub invariant-loop : goal.invariant-loop
-invariant-loop g l = Leads l.events l.most l.initial.fabric (l.most - l.counter) l.fabric
