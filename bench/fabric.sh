@@ -102,18 +102,18 @@ cut -d: -f1 "$work/crates.txt" | while read -r crate; do
     rm -rf "$work/crates/$crate/must-fail"
 done
 cp "$here/HANDLES" "$work"
-echo 'fabrics: fab_types frame_log layout script domain fabric_core' >> "$work/crates.txt"
+echo 'fabrics: fab_types frame_log layout script domain fabric_core commands' >> "$work/crates.txt"
 
 cat > "$work/crates/fabrics/src/main.rt" <<'PROGRAM'
 #![tactic(auto)]
 
-use domain::Domain;
-use fab_types::{Bdf, Class, Direction, Origin, Outcome, PortId, Way};
+use commands::sweep_events;
+use fab_types::{NoMemory, Outcome};
 use fabric_core::{Event, Fabric};
 use frame_log::PacketBytes;
 use layout::Layout;
 use script::{Command, Script};
-use std::alloc::{AllocError, Global};
+use std::alloc::Global;
 use std::io::Write;
 use std::sync::Wait;
 use std::time::CpuClock;
@@ -124,71 +124,6 @@ use std::{env, fs, io};
 struct Count {
     moved: u64,
     all: u64,
-}
-
-const CLASSES: [Class; 3] = [Class::Posted, Class::NonPosted, Class::Completion];
-
-fn add_enters(events: &mut Vec<Event>, origin: Origin) -> Result<(), AllocError> {
-    for class in CLASSES {
-        events.push(Event::Enter(origin, class))?;
-    }
-    Ok(())
-}
-
-fn add_passes(events: &mut Vec<Event>, port: Bdf) -> Result<(), AllocError> {
-    for class in CLASSES {
-        events.push(Event::Pass(PortId::new(port), class))?;
-    }
-    Ok(())
-}
-
-fn add_direction(events: &mut Vec<Event>, lower: Bdf, way: Way) -> Result<(), AllocError> {
-    let direction = Direction { lower, way };
-    for class in CLASSES {
-        events.push(Event::Send(direction, class))?;
-    }
-    events.push(Event::Take(direction))?;
-    events.push(Event::Credit(direction))?;
-    Ok(())
-}
-
-fn add_link(events: &mut Vec<Event>, lower: Bdf) -> Result<(), AllocError> {
-    add_direction(events, lower, Way::Up)?;
-    add_direction(events, lower, Way::Down)
-}
-
-fn add_function(events: &mut Vec<Event>, function: Bdf) -> Result<(), AllocError> {
-    for class in CLASSES {
-        events.push(Event::Arrive(function, class))?;
-    }
-    add_enters(events, Origin::Function(function))?;
-    add_link(events, function)
-}
-
-/// Each event once.
-fn sweep_events(
-    alloc: Global,
-    layout: &Layout,
-    domains: &[Domain],
-) -> Result<Vec<Event>, AllocError> {
-    let mut events = Vec::new(alloc);
-    for line in layout.functions() {
-        add_function(&mut events, line.id)?;
-    }
-    for line in layout.ports() {
-        add_passes(&mut events, line.id.id())?;
-    }
-    for line in layout.switches() {
-        add_passes(&mut events, line.id)?;
-        add_link(&mut events, line.id)?;
-    }
-    for domain in domains {
-        add_enters(&mut events, Origin::Host(domain.start().domain()))?;
-    }
-    for class in CLASSES {
-        events.push(Event::Root(class))?;
-    }
-    Ok(events)
 }
 
 fn step<R: Wait>(rt: &R, fabric: &mut Fabric, event: &Event, count: &mut Count) -> bool {
@@ -222,7 +157,7 @@ fn make<R: Wait>(
     events: &[Event],
     command: &Command,
     count: &mut Count,
-) -> Result<(), AllocError> {
+) -> Result<(), NoMemory> {
     match command {
         Command::Submit(function, bytes) => {
             let bytes = PacketBytes::copy_of(alloc, bytes.as_slice())?;
@@ -246,7 +181,7 @@ fn run<R: Wait>(
     fabric: &mut Fabric,
     events: &[Event],
     script: &Script,
-) -> Result<Count, AllocError> {
+) -> Result<Count, NoMemory> {
     let mut count = Count { moved: 0, all: 0 };
     for line in script.lines() {
         make(rt, alloc, fabric, events, &line.command, &mut count)?;
@@ -284,9 +219,13 @@ fn main(rt: HostRuntime) -> io::Result<()> {
     let Ok(mut fabric) = Fabric::new(alloc, &layout) else {
         return writeln!(out, "no memory");
     };
-    let events = sweep_events(alloc, &layout, fabric.domains())?;
+    let Ok(events) = sweep_events(alloc, &layout, fabric.domains()) else {
+        return writeln!(out, "no memory");
+    };
     let before = rt.process_cpu_time()?;
-    let count = run(&rt, alloc, &mut fabric, &events, &script)?;
+    let Ok(count) = run(&rt, alloc, &mut fabric, &events, &script) else {
+        return writeln!(out, "no memory");
+    };
     let time = rt.process_cpu_time()?.saturating_sub(before);
     let status = fs::read_to_string(&rt, "/proc/self/status")?;
     let memory = most_memory(status.as_str());

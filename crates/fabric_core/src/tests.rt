@@ -39,10 +39,6 @@ const FUNCTION_06: u16 = 0x0600;
 /// Nothing of the layout has this ID.
 const NOBODY: u16 = 0x0900;
 
-fn function(id: u16) -> Origin {
-    Origin::Function(Bdf::from_bits(id))
-}
-
 fn direction(lower: u16, way: Way) -> Direction {
     Direction {
         lower: Bdf::from_bits(lower),
@@ -50,8 +46,34 @@ fn direction(lower: u16, way: Way) -> Direction {
     }
 }
 
-fn pass(id: u16, class: Class) -> Event {
-    Event::Pass(PortId::new(Bdf::from_bits(id)), class)
+/// An event by which a packet goes on. IDs are given by their bits, a link by the one at its lower end.
+#[derive(Clone, Copy)]
+enum Move {
+    EnterOfFunction(u16, Class),
+    EnterOfHost(DomainId, Class),
+    Send(u16, Way, Class),
+    Take(u16, Way),
+    Credit(u16, Way),
+    Pass(u16, Class),
+    Root(Class),
+    Arrive(u16, Class),
+}
+
+impl Move {
+    fn event(self) -> Event {
+        match self {
+            Move::EnterOfFunction(id, class) => {
+                Event::Enter(Origin::Function(Bdf::from_bits(id)), class)
+            }
+            Move::EnterOfHost(domain, class) => Event::Enter(Origin::Host(domain), class),
+            Move::Send(lower, way, class) => Event::Send(direction(lower, way), class),
+            Move::Take(lower, way) => Event::Take(direction(lower, way)),
+            Move::Credit(lower, way) => Event::Credit(direction(lower, way)),
+            Move::Pass(port, class) => Event::Pass(PortId::new(Bdf::from_bits(port)), class),
+            Move::Root(class) => Event::Root(class),
+            Move::Arrive(id, class) => Event::Arrive(Bdf::from_bits(id), class),
+        }
+    }
 }
 
 /// A fabric, and what is done in it.
@@ -68,19 +90,24 @@ impl Scene {
         })
     }
 
-    fn moves<R: Wait>(&mut self, rt: &R, event: Event) -> bool {
-        self.fabric.step(rt, &event) == Outcome::Moved
-    }
-
-    fn is_idle<R: Wait>(&mut self, rt: &R, event: Event) -> bool {
-        self.fabric.step(rt, &event) == Outcome::Idle
-    }
-
     fn submits<R: Wait>(&mut self, rt: &R, alloc: Global, id: u16, bytes: &[u8]) -> bool {
         match PacketBytes::copy_of(alloc, bytes) {
-            Ok(bytes) => self.moves(rt, Event::Submit(Bdf::from_bits(id), bytes)),
+            Ok(bytes) => {
+                let submit = Event::Submit(Bdf::from_bits(id), bytes);
+                self.fabric.step(rt, &submit) == Outcome::Moved
+            }
             Err(_) => false,
         }
+    }
+
+    /// Has each of these this outcome, one after another?
+    fn has_each<R: Wait>(&mut self, rt: &R, moves: &[Move], outcome: Outcome) -> bool {
+        for one in moves {
+            if self.fabric.step(rt, &one.event()) != outcome {
+                return false;
+            }
+        }
+        true
     }
 
     /// The journal of the domain of this number, which is empty if there is no such domain.
@@ -91,10 +118,22 @@ impl Scene {
         }
     }
 
-    /// A packet goes over the link with this lower end.
-    fn travels<R: Wait>(&mut self, rt: &R, lower: u16, way: Way, class: Class) -> bool {
-        self.moves(rt, Event::Send(direction(lower, way), class))
-            && self.moves(rt, Event::Take(direction(lower, way)))
+    /// How many completions that domain was delivered.
+    fn records(&self, number: u8) -> usize {
+        match DomainId::new(number).and_then(|number| self.fabric.domain(number)) {
+            Some(domain) => domain.records().len(),
+            None => 0,
+        }
+    }
+
+    /// The headers of non-posted requests that may still be sent, if there is such a link.
+    fn headers_left(&self, direction: Direction) -> Option<u16> {
+        let left = self.fabric.credits(direction)?;
+        Some(left.non_posted.headers.value())
+    }
+
+    fn violations(&self) -> usize {
+        self.fabric.violations().len()
     }
 }
 
@@ -103,42 +142,55 @@ fn a_read_goes_up_and_its_completion_down(rt: HostRuntime) -> Result<(), Fail> {
     let mut scene = Scene::new(rt.alloc())?;
     let host = DomainId::new(2).ok_or("a domain")?;
     assert!(rt; scene.submits(&rt, rt.alloc(), FUNCTION_06, &READ_BY_06));
-    assert!(rt; scene.moves(&rt, Event::Enter(function(FUNCTION_06), NonPosted)));
-    assert!(rt; scene.travels(&rt, FUNCTION_06, Way::Up, NonPosted));
-    assert!(rt; scene.moves(&rt, pass(0x0500, NonPosted)));
-    assert!(rt; scene.travels(&rt, 0x0400, Way::Up, NonPosted));
-    assert!(rt; scene.moves(&rt, pass(0x0208, NonPosted)));
-    assert!(rt; scene.travels(&rt, 0x0100, Way::Up, NonPosted));
-    assert!(rt; scene.moves(&rt, Event::Root(NonPosted)));
-    assert!(rt; scene.moves(&rt, Event::Enter(Origin::Host(host), Completion)));
-    assert!(rt; scene.travels(&rt, 0x0100, Way::Down, Completion));
-    assert!(rt; scene.moves(&rt, pass(0x0100, Completion)));
-    assert!(rt; scene.travels(&rt, 0x0400, Way::Down, Completion));
-    assert!(rt; scene.moves(&rt, pass(0x0400, Completion)));
-    assert!(rt; scene.travels(&rt, FUNCTION_06, Way::Down, Completion));
-    assert!(rt; scene.moves(&rt, Event::Arrive(Bdf::from_bits(FUNCTION_06), Completion)));
-    assert!(rt; scene.fabric.violations().is_empty());
-    assert_eq!(rt;
-        scene
-            .fabric
-            .domain(host)
-            .map(|domain| domain.records().len()),
-        Some(1)
-    );
+    let up = [
+        Move::EnterOfFunction(FUNCTION_06, NonPosted),
+        Move::Send(FUNCTION_06, Way::Up, NonPosted),
+        Move::Take(FUNCTION_06, Way::Up),
+        Move::Pass(0x0500, NonPosted),
+        Move::Send(0x0400, Way::Up, NonPosted),
+        Move::Take(0x0400, Way::Up),
+        Move::Pass(0x0208, NonPosted),
+        Move::Send(0x0100, Way::Up, NonPosted),
+        Move::Take(0x0100, Way::Up),
+        Move::Root(NonPosted),
+    ];
+    assert!(rt; scene.has_each(&rt, &up, Outcome::Moved));
+    let down = [
+        Move::EnterOfHost(host, Completion),
+        Move::Send(0x0100, Way::Down, Completion),
+        Move::Take(0x0100, Way::Down),
+        Move::Pass(0x0100, Completion),
+        Move::Send(0x0400, Way::Down, Completion),
+        Move::Take(0x0400, Way::Down),
+        Move::Pass(0x0400, Completion),
+        Move::Send(FUNCTION_06, Way::Down, Completion),
+        Move::Take(FUNCTION_06, Way::Down),
+        Move::Arrive(FUNCTION_06, Completion),
+    ];
+    assert!(rt; scene.has_each(&rt, &down, Outcome::Moved));
+    assert_eq!(rt; scene.violations(), 0);
+    assert_eq!(rt; scene.records(2), 1);
     Ok(())
 }
+
+/// A read of 06:00.0 in the name of another is stopped by its first port, whose answer comes down again.
+const STOPPED: [Move; 7] = [
+    Move::EnterOfFunction(FUNCTION_06, NonPosted),
+    Move::Send(FUNCTION_06, Way::Up, NonPosted),
+    Move::Take(FUNCTION_06, Way::Up),
+    Move::Pass(0x0500, NonPosted),
+    Move::Send(FUNCTION_06, Way::Down, Completion),
+    Move::Take(FUNCTION_06, Way::Down),
+    Move::Arrive(FUNCTION_06, Completion),
+];
 
 #[test]
 fn a_read_in_the_name_of_another_is_answered_by_the_port(rt: HostRuntime) -> Result<(), Fail> {
     let mut scene = Scene::new(rt.alloc())?;
     assert!(rt; scene.submits(&rt, rt.alloc(), FUNCTION_03, &READ_BY_03));
     assert!(rt; scene.submits(&rt, rt.alloc(), FUNCTION_06, &READ_BY_03));
-    assert!(rt; scene.moves(&rt, Event::Enter(function(FUNCTION_06), NonPosted)));
-    assert!(rt; scene.travels(&rt, FUNCTION_06, Way::Up, NonPosted));
-    assert!(rt; scene.moves(&rt, pass(0x0500, NonPosted)));
-    assert!(rt; scene.travels(&rt, FUNCTION_06, Way::Down, Completion));
-    assert!(rt; scene.moves(&rt, Event::Arrive(Bdf::from_bits(FUNCTION_06), Completion)));
-    assert!(rt; scene.fabric.violations().len() == 1);
+    assert!(rt; scene.has_each(&rt, &STOPPED, Outcome::Moved));
+    assert_eq!(rt; scene.violations(), 1);
     assert!(rt; matches!(scene.journal(1), [Entry::Submit(_, _)]));
     assert!(rt;
         matches!(
@@ -146,20 +198,26 @@ fn a_read_in_the_name_of_another_is_answered_by_the_port(rt: HostRuntime) -> Res
             [Entry::Submit(_, _), Entry::Refuse(0), Entry::Deliver(1)]
         )
     );
-    assert!(rt; scene.is_idle(&rt, Event::Take(direction(FUNCTION_06, Way::Down))));
+    let tenth = [Move::Take(FUNCTION_06, Way::Down)];
+    assert!(rt; scene.has_each(&rt, &tenth, Outcome::Idle));
     Ok(())
 }
+
+/// Events of what the layout has not, and one where nothing waits.
+const OF_NOTHING: [Move; 7] = [
+    Move::Pass(NOBODY, Posted),
+    Move::EnterOfFunction(NOBODY, Posted),
+    Move::Send(NOBODY, Way::Up, Posted),
+    Move::Take(NOBODY, Way::Down),
+    Move::Credit(NOBODY, Way::Up),
+    Move::Arrive(NOBODY, Posted),
+    Move::Root(Posted),
+];
 
 #[test]
 fn what_the_layout_has_not_is_idle(rt: HostRuntime) -> Result<(), Fail> {
     let mut scene = Scene::new(rt.alloc())?;
-    assert!(rt; scene.is_idle(&rt, pass(NOBODY, Posted)));
-    assert!(rt; scene.is_idle(&rt, Event::Enter(function(NOBODY), Posted)));
-    assert!(rt; scene.is_idle(&rt, Event::Send(direction(NOBODY, Way::Up), Posted)));
-    assert!(rt; scene.is_idle(&rt, Event::Take(direction(NOBODY, Way::Down))));
-    assert!(rt; scene.is_idle(&rt, Event::Credit(direction(NOBODY, Way::Up))));
-    assert!(rt; scene.is_idle(&rt, Event::Arrive(Bdf::from_bits(NOBODY), Posted)));
-    assert!(rt; scene.is_idle(&rt, Event::Root(Posted)));
+    assert!(rt; scene.has_each(&rt, &OF_NOTHING, Outcome::Idle));
     assert!(rt; scene.fabric.credits(direction(NOBODY, Way::Up)).is_none());
     Ok(())
 }
@@ -168,12 +226,13 @@ fn what_the_layout_has_not_is_idle(rt: HostRuntime) -> Result<(), Fail> {
 fn a_run_has_an_outcome_of_each_event(rt: HostRuntime) -> Result<(), Fail> {
     let mut scene = Scene::new(rt.alloc())?;
     let up = direction(FUNCTION_06, Way::Up);
+    let before = scene.headers_left(up);
     let events = vec![in rt.alloc();
         Event::Submit(
             Bdf::from_bits(FUNCTION_06),
             PacketBytes::copy_of(rt.alloc(), &READ_BY_06)?
         ),
-        Event::Enter(function(FUNCTION_06), NonPosted),
+        Move::EnterOfFunction(FUNCTION_06, NonPosted).event(),
         Event::Send(up, NonPosted),
         Event::Credit(up),
         Event::Tick(Bdf::from_bits(NOBODY)),
@@ -181,12 +240,6 @@ fn a_run_has_an_outcome_of_each_event(rt: HostRuntime) -> Result<(), Fail> {
     let outcomes = scene.fabric.run(&rt, rt.alloc(), &events)?;
     assert!(rt; outcomes.len() == 5);
     assert!(rt; outcomes[2] == Outcome::Moved && outcomes[3] == Outcome::Idle);
-    let before = Scene::new(rt.alloc())?.fabric.credits(up).ok_or("a link")?;
-    let after = scene.fabric.credits(up).ok_or("a link")?;
-    assert_eq!(rt;
-        after.non_posted.headers.value() + 1,
-        before.non_posted.headers.value()
-    );
-    assert_eq!(rt; after.posted, before.posted);
+    assert!(rt; scene.headers_left(up) < before);
     Ok(())
 }
