@@ -126,11 +126,16 @@ struct Count {
     all: u64,
 }
 
-fn step<R: Wait>(rt: &R, fabric: &mut Fabric, event: &Event, count: &mut Count) -> bool {
-    let moved = fabric.step(rt, event) == Outcome::Moved;
-    count.all = count.all.wrapping_add(1);
-    count.moved = count.moved.wrapping_add(u64::from(moved));
-    moved
+impl Count {
+    fn add(&mut self, moved: bool) {
+        self.all = self.all.wrapping_add(1);
+        self.moved = self.moved.wrapping_add(u64::from(moved));
+    }
+}
+
+fn step<R: Wait>(rt: &R, fabric: &mut Fabric, event: &Event, count: &mut Count) {
+    let outcome = fabric.step(rt, event);
+    count.add(matches!(outcome, Outcome::Moved));
 }
 
 /// Did anything move?

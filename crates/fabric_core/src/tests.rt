@@ -94,16 +94,26 @@ impl Scene {
         match PacketBytes::copy_of(alloc, bytes) {
             Ok(bytes) => {
                 let submit = Event::Submit(Bdf::from_bits(id), bytes);
-                self.fabric.step(rt, &submit) == Outcome::Moved
+                matches!(self.fabric.step(rt, &submit), Outcome::Moved)
             }
             Err(_) => false,
         }
     }
 
-    /// Has each of these this outcome, one after another?
-    fn has_each<R: Wait>(&mut self, rt: &R, moves: &[Move], outcome: Outcome) -> bool {
+    /// Does each of these move something, one after another?
+    fn moves<R: Wait>(&mut self, rt: &R, moves: &[Move]) -> bool {
         for one in moves {
-            if self.fabric.step(rt, &one.event()) != outcome {
+            if !matches!(self.fabric.step(rt, &one.event()), Outcome::Moved) {
+                return false;
+            }
+        }
+        true
+    }
+
+    /// Is each of these idle?
+    fn rests<R: Wait>(&mut self, rt: &R, moves: &[Move]) -> bool {
+        for one in moves {
+            if !matches!(self.fabric.step(rt, &one.event()), Outcome::Idle) {
                 return false;
             }
         }
@@ -154,7 +164,7 @@ fn a_read_goes_up_and_its_completion_down(rt: HostRuntime) -> Result<(), Fail> {
         Move::Take(0x0100, Way::Up),
         Move::Root(NonPosted),
     ];
-    assert!(rt; scene.has_each(&rt, &up, Outcome::Moved));
+    assert!(rt; scene.moves(&rt, &up));
     let down = [
         Move::EnterOfHost(host, Completion),
         Move::Send(0x0100, Way::Down, Completion),
@@ -167,7 +177,7 @@ fn a_read_goes_up_and_its_completion_down(rt: HostRuntime) -> Result<(), Fail> {
         Move::Take(FUNCTION_06, Way::Down),
         Move::Arrive(FUNCTION_06, Completion),
     ];
-    assert!(rt; scene.has_each(&rt, &down, Outcome::Moved));
+    assert!(rt; scene.moves(&rt, &down));
     assert_eq!(rt; scene.violations(), 0);
     assert_eq!(rt; scene.records(2), 1);
     Ok(())
@@ -189,7 +199,7 @@ fn a_read_in_the_name_of_another_is_answered_by_the_port(rt: HostRuntime) -> Res
     let mut scene = Scene::new(rt.alloc())?;
     assert!(rt; scene.submits(&rt, rt.alloc(), FUNCTION_03, &READ_BY_03));
     assert!(rt; scene.submits(&rt, rt.alloc(), FUNCTION_06, &READ_BY_03));
-    assert!(rt; scene.has_each(&rt, &STOPPED, Outcome::Moved));
+    assert!(rt; scene.moves(&rt, &STOPPED));
     assert_eq!(rt; scene.violations(), 1);
     assert!(rt; matches!(scene.journal(1), [Entry::Submit(_, _)]));
     assert!(rt;
@@ -199,7 +209,7 @@ fn a_read_in_the_name_of_another_is_answered_by_the_port(rt: HostRuntime) -> Res
         )
     );
     let tenth = [Move::Take(FUNCTION_06, Way::Down)];
-    assert!(rt; scene.has_each(&rt, &tenth, Outcome::Idle));
+    assert!(rt; scene.rests(&rt, &tenth));
     Ok(())
 }
 
@@ -217,7 +227,7 @@ const OF_NOTHING: [Move; 7] = [
 #[test]
 fn what_the_layout_has_not_is_idle(rt: HostRuntime) -> Result<(), Fail> {
     let mut scene = Scene::new(rt.alloc())?;
-    assert!(rt; scene.has_each(&rt, &OF_NOTHING, Outcome::Idle));
+    assert!(rt; scene.rests(&rt, &OF_NOTHING));
     assert!(rt; scene.fabric.credits(direction(NOBODY, Way::Up)).is_none());
     Ok(())
 }
@@ -239,7 +249,7 @@ fn a_run_has_an_outcome_of_each_event(rt: HostRuntime) -> Result<(), Fail> {
     ]?;
     let outcomes = scene.fabric.run(&rt, rt.alloc(), &events)?;
     assert!(rt; outcomes.len() == 5);
-    assert!(rt; outcomes[2] == Outcome::Moved && outcomes[3] == Outcome::Idle);
+    assert!(rt; matches!(outcomes[2], Outcome::Moved) && matches!(outcomes[3], Outcome::Idle));
     assert!(rt; scene.headers_left(up) < before);
     Ok(())
 }

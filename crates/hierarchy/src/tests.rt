@@ -141,7 +141,10 @@ fn is_idle<W: Wait>(
     desk: &mut Nobody,
     reports: &mut Reports,
 ) -> bool {
-    hierarchy.pass(rt, port(id), Posted, desk, reports) == Outcome::Idle
+    matches!(
+        hierarchy.pass(rt, port(id), Posted, desk, reports),
+        Outcome::Idle
+    )
 }
 
 /// A packet goes on the link with this lower end, and through the port above it.
