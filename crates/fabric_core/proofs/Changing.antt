@@ -21,7 +21,7 @@ module _ {A : Type 0} where
   all_front P [] ys h = All-nil P
   all_front P (x ∷ xs) ys h = All-cons P x xs (All-head P x (xs ++ ys) h) (all_front P xs ys (All-tail P x (xs ++ ys) h))
 
-  all_back : (P : A → Type 0) (xs ys : List A) → All P (xs ++ ys) → All P ys
+  pub all_back : (P : A → Type 0) (xs ys : List A) → All P (xs ++ ys) → All P ys
   all_back P [] ys h = h
   all_back P (x ∷ xs) ys h = all_back P xs ys (All-tail P x (xs ++ ys) h)
 

@@ -45,7 +45,7 @@ no_share = record { domain = 0; budget = 0; frames = []; maps = []; switches = [
 nobody : DomainView
 nobody = record { share = no_share; state = start_state no_share; journal = [] }
 
-function_home : (w : World) (g : IsGuardedFabric w) (function : ℕ) (place : Option ℕ) → place_of_function w.edge.domains function ≡ place → is_some place ≡ true → FunctionHome w g function
+pub function_home : (w : World) (g : IsGuardedFabric w) (function : ℕ) (place : Option ℕ) → place_of_function w.edge.domains function ≡ place → is_some place ≡ true → FunctionHome w g function
 unfolding place_of_function
 function_home w g function None found there = absurd cc
 function_home w g function (Some number) found there =
@@ -59,7 +59,7 @@ function_home w g function (Some number) found there =
     }
 
 module _ (w : World) (g : IsGuardedFabric w) (function : ℕ) (home : FunctionHome w g function) (t : Taken) (k : SoundlyTaken w g (to_function function) t) where
-  listed : is_function g.platform.functions function ≡ true
+  pub listed : is_function g.platform.functions function ≡ true
   listed = home.own.listed
 
   own : IsFunctionOf g.platform t.frame.domain function
@@ -69,10 +69,10 @@ module _ (w : World) (g : IsGuardedFabric w) (function : ℕ) (home : FunctionHo
   same_domain : home.d.share.domain ≡ t.frame.domain
   same_domain = same_Some home.d.share.domain t.frame.domain (sym home.own.owner ∙ own.owner)
 
-  of_domain : is_function_of w.edge.domains function t.frame.domain ≡ true
+  pub of_domain : is_function_of w.edge.domains function t.frame.domain ≡ true
   of_domain = ap (is_of_domain t.frame.domain) home.found ∙ eq-eqb home.d.share.domain t.frame.domain same_domain
 
-  carry_legal : is_reply t.frame.head.header ≡ false → IsLegalThere w g t.frame (Carry t.frame.number)
+  pub carry_legal : is_reply t.frame.head.header ≡ false → IsLegalThere w g t.frame (Carry t.frame.number)
   carry_legal request d old share flies =
       accesses g.platform g.guarded function t.frame d.state d.journal listed k.sound request (subst (λ (s : Share). replay s d.journal ≡ Some d.state) share old.replayed) flies
 
@@ -90,7 +90,7 @@ module _ (w : World) (g : IsGuardedFabric w) (function : ℕ) (home : FunctionHo
   delivered_here reply =
       guarded_delivery w g (to_function function) t k (λ d old share flies. delivers g.platform g.guarded t.frame d.state (Function function) (reply_at g.platform g.guarded function t.frame listed k.sound reply) flies)
 
-  meant : (h : Header) → t.frame.head.header ≡ h → IsMeantFor g.platform t.frame.domain function t.frame.head.parties h
+  pub meant : (h : Header) → t.frame.head.header ≡ h → IsMeantFor g.platform t.frame.domain function t.frame.head.parties h
   meant h same = subst (IsMeantFor g.platform t.frame.domain function t.frame.head.parties) same (meant_at g.platform g.guarded function t.frame listed k.sound)
 
   arrived_as : (h : Header) → t.frame.head.header ≡ h → IsGuardedFabric (left_by (ending_by_function t.frame.head.parties h))

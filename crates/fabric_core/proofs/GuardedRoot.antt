@@ -28,10 +28,10 @@ use Rattle.fabric_core.proofs.Guarding.{guarded_with, sound_from}
 use Rattle.fabric_core.proofs.SoundLinks.{sound_put}
 
 -- only a memory request is a request of a function's own
-no_malformed : (requester address : ℕ) (at : AddressType) → header.Malformed ≡ header.Memory requester at address → ⊥
+pub no_malformed : (requester address : ℕ) (at : AddressType) → header.Malformed ≡ header.Memory requester at address → ⊥
 no_malformed requester address at e = cc
 
-no_other : (other requester address : ℕ) (at : AddressType) → header.OtherRequest other ≡ header.Memory requester at address → ⊥
+pub no_other : (other requester address : ℕ) (at : AddressType) → header.OtherRequest other ≡ header.Memory requester at address → ⊥
 no_other other requester address at e = cc
 
 module _ (w w' : World) (g : IsGuardedFabric w) (class : Class) (t : Taken) (k : SoundlyTaken w g to_host t) where

@@ -58,7 +58,7 @@ use Rattle.fabric_core.proofs.SoundLinks.{SoundFrom, SoundOn, sound_put}
 module _ (w w' : World) (g : IsGuardedFabric w) (direction : Direction) (t : Taken) (k : SoundlyTaken w g direction t) where
   -- ---- it goes on
 
-  may_pass_on : (site : Site) → site.config.is_guarded ≡ true → may_go_on true (requester_owner g.platform.ports t.frame.head.header) t.frame ≡ true → may_pass w site t.frame ≡ true
+  pub may_pass_on : (site : Site) → site.config.is_guarded ≡ true → may_go_on true (requester_owner g.platform.ports t.frame.head.header) t.frame ≡ true → may_pass w site t.frame ≡ true
   may_pass_on site guarded owned =
       ap (λ (b : Bool). may_go_on b (requester_owner w.routes.ports t.frame.head.header) t.frame) guarded
       ∙ (ap (λ (r : Routes). may_go_on true (requester_owner r.ports t.frame.head.header) t.frame) g.of_it.routes ∙ owned)
@@ -157,7 +157,7 @@ downstream_if up w w' g i line class (Some t) listed out is = passed_downstream 
 -- ---- the port of an ID
 
 -- what comes into a place that is this one, with this configuration
-at_place : (w w' : World) (class : Class) (i : ℕ) (place same_place : PortPlace) (config : Config) → place ≡ same_place → (port_number w i).config ≡ config → passed_at w class i place ≡ Some w'
+pub at_place : (w w' : World) (class : Class) (i : ℕ) (place same_place : PortPlace) (config : Config) → place ≡ same_place → (port_number w i).config ≡ config → passed_at w class i place ≡ Some w'
     → option_and_then (passed w (record { number = i; node = same_place.node; config = config }) class) (taken_at w.channels class same_place.input) ≡ Some w'
 at_place w w' class i place same_place config at configured is =
     ap (λ (c : Config). option_and_then (passed w (record { number = i; node = same_place.node; config = c }) class) (taken_at w.channels class same_place.input)) (sym configured)

@@ -50,7 +50,7 @@ module _ {X : Type 0} where
   other_stays (z ∷ xs) (suc i) zero y other = refl
   other_stays (z ∷ xs) (suc i) (suc j) y other = other_stays xs i j y (λ e. other (ap suc e))
 
-  either_there : (xs : List X) (i j : ℕ) (y x : X) → slice_get (set xs i y) j ≡ Some x → ((j ≡ i) × (x ≡ y)) ⊎ (slice_get xs j ≡ Some x)
+  pub either_there : (xs : List X) (i j : ℕ) (y x : X) → slice_get (set xs i y) j ≡ Some x → ((j ≡ i) × (x ≡ y)) ⊎ (slice_get xs j ≡ Some x)
   either_there [] i j y x e = inr e
   either_there (z ∷ xs) zero zero y x e = inl (refl, sym (some_is y x e))
   either_there (z ∷ xs) zero (suc j) y x e = inr e

@@ -67,7 +67,7 @@ at_place : (boxes : List Outbox) (origin other : Origin) (place found : Option �
 at_place boxes origin other None found waiting here there = inl refl
 at_place boxes origin other (Some i) found waiting here there = at_found boxes origin other i (slice_get boxes i) found waiting here refl there
 
-either_waiting : (boxes : List Outbox) (origin other : Origin) (waiting : List Descriptor)
+pub either_waiting : (boxes : List Outbox) (origin other : Origin) (waiting : List Descriptor)
     → (waiting_of (with_waiting boxes origin waiting) other ≡ waiting_of boxes other) ⊎ ((other ≡ origin) × (waiting_of (with_waiting boxes origin waiting) other ≡ waiting))
 either_waiting boxes origin other waiting =
     subst (λ (o : Option ℕ). (waiting_at (with_waiting boxes origin waiting) o ≡ waiting_of boxes other) ⊎ ((other ≡ origin) × (waiting_at (with_waiting boxes origin waiting) o ≡ waiting)))

@@ -31,7 +31,7 @@ either_set (x ∷ xs) (suc i) (suc j) y d = again (either_set xs i j y d)
     again (inr h) = inr (ap suc h.0, h.1)
 
 -- the direction of an end is as it was, or is the one that changed
-abbrev Either : List (List Channel) → LinkEnd → LinkEnd → Channel → Type 0
+abbrev pub Either : List (List Channel) → LinkEnd → LinkEnd → Channel → Type 0
 Either channels end other c = (channel_at (with_channel channels end c) other ≡ channel_at channels other) ⊎ ((other ≡ end) × (channel_at (with_channel channels end c) other ≡ c))
 
 abbrev lanes_at : List (List Channel) → LinkEnd → List Channel
@@ -44,7 +44,7 @@ in_lane channels end other c now node (inl same) =
     inl (ap (λ (ls : List Channel). get_or ls other.lane no_channel) now ∙ (same ∙ ap (λ (n : ℕ). get_or (get_or channels n []) other.lane no_channel) (sym node)))
 in_lane channels end other c now node (inr h) = inr ((λ i. record { node = node i; lane = h.0 i }), ap (λ (ls : List Channel). get_or ls other.lane no_channel) now ∙ h.1)
 
-either_channel : (channels : List (List Channel)) (end other : LinkEnd) (c : Channel) → Either channels end other c
+pub either_channel : (channels : List (List Channel)) (end other : LinkEnd) (c : Channel) → Either channels end other c
 either_channel channels end other c = by (either_set channels end.node other.node (set (lanes_at channels end) end.lane c) [])
   where
     by : (get_or (with_channel channels end c) other.node [] ≡ lanes_at channels other) ⊎ ((other.node ≡ end.node) × (get_or (with_channel channels end c) other.node [] ≡ set (lanes_at channels end) end.lane c)) → Either channels end other c

@@ -12,5 +12,7 @@ pub mod Runs
 pub mod Places
 pub mod Soundness
 pub mod Orderly
+pub mod Trails
+pub mod Orders
 pub mod Invariant
 pub mod Kept

@@ -1,8 +1,13 @@
 //! Laws of the fabric's definitions. Each is the contract of a function that does nothing.
 
-ghost use Rattle.std.specs.Prelude.{◌≡◌, List, Some, true};
+ghost use Rattle.std.specs.Prelude.{◌≡◌, ◌≤◌, ℕ, IsSome, List, Some, length, slice_get, true};
 ghost use Rattle.fab_types.specs.declared.class.Class.TheVariants.{Completion, NonPosted};
 ghost use Rattle.frame_log.specs.Descriptor.{Descriptor};
+ghost use Rattle.fab_types.specs.declared.place.Place.{Place};
+ghost use Rattle.domain.specs.Consumed.{is_in_order};
+ghost use Rattle.domain.specs.Orders.{IsPosted};
+ghost use Rattle.domain.specs.Sent.{Sent, sent};
+ghost use Rattle.domain.specs.State.{item_at};
 ghost use Rattle.domain.specs.declared.entry.Entry.TheVariants.{Refuse};
 ghost use Rattle.domain.specs.Domains.{DomainView};
 ghost use Rattle.layout.specs.Platform.{Platform};
@@ -13,6 +18,7 @@ ghost use Rattle.fabric_core.specs.declared.event.Event.{Event};
 ghost use Rattle.fabric_core.specs.Events.{effect};
 ghost use Rattle.fabric_core.specs.Invariant.{IsFabric, IsKept};
 ghost use Rattle.fabric_core.specs.Isolation.{IsApart};
+ghost use Rattle.fabric_core.specs.Orders.{AreOrdered, GoesBy, KeepsToWay, StayOrdered, TurnOf};
 ghost use Rattle.fabric_core.specs.Places.{HaveOnePlace, IsFlown};
 ghost use Rattle.fabric_core.specs.Soundness.{IsGuardedFabric};
 ghost use Rattle.fabric_core.specs.World.{World, is_guarded, world_of};
@@ -52,3 +58,38 @@ pub fn events_leave_other_domains_alone()
 pub fn packets_have_one_place()
     ensures { (w : World) → IsFabric w → is_guarded w ≡ true → HaveOnePlace w }
 {}
+
+/// Two packets of a domain that keep their order (PCIe 4.0, 2.4.1), and stand in turn on the way that they go, do so after
+/// every event of a guarded fabric while the first is in flight: wherever either moves, the second never passes the first.
+/// No entry of the domain's journal consumes the second before one consumes the first.
+pub fn packets_keep_their_order()
+    ensures { (old new : World) (event : Event) (fabric : IsFabric old) (guarded : is_guarded old ≡ true) → effect old event ≡ Some new
+        → (place : ℕ) (d d' : DomainView) → slice_get old.edge.domains place ≡ Some d → slice_get new.edge.domains place ≡ Some d'
+        → (n m : ℕ) (pair : AreOrdered d n m) → IsSome (item_at d.state.flight n) → (places : List Place) → GoesBy (fabric.guarded guarded).platform d.share.domain pair.first places
+        → TurnOf old d places n m → is_in_order n m d.journal ≡ true → StayOrdered new d' places n m }
+{
+    acs::guarded_requests_go_up();
+}
+
+/// A posted packet that stands on its way, and nowhere else, does so after every event of a guarded fabric while it is in
+/// flight.
+pub fn posted_packets_keep_to_their_way()
+    ensures { (old new : World) (event : Event) (fabric : IsFabric old) (guarded : is_guarded old ≡ true) → effect old event ≡ Some new
+        → (place : ℕ) (d d' : DomainView) → slice_get old.edge.domains place ≡ Some d → slice_get new.edge.domains place ≡ Some d'
+        → (n : ℕ) (packet : Sent) → slice_get (sent d.share d.journal) n ≡ Some packet → IsPosted packet.emission → IsSome (item_at d.state.flight n)
+        → (places : List Place) → GoesBy (fabric.guarded guarded).platform d.share.domain packet places → KeepsToWay old d places n
+        → IsSome (item_at d'.state.flight n) → KeepsToWay new d' places n }
+{
+    acs::guarded_requests_go_up();
+}
+
+/// A packet that a domain makes, and that is to keep its order behind a posted one which stands on its way, stands in turn
+/// with it from the event on that makes it.
+pub fn new_packets_stand_behind()
+    ensures { (old new : World) (event : Event) (fabric : IsFabric old) (guarded : is_guarded old ≡ true) → effect old event ≡ Some new
+        → (place : ℕ) (d d' : DomainView) → slice_get old.edge.domains place ≡ Some d → slice_get new.edge.domains place ≡ Some d'
+        → (n m : ℕ) (pair : AreOrdered d' n m) → length (sent d.share d.journal) ≤ m → IsSome (item_at d.state.flight n) → IsSome (item_at d'.state.flight n)
+        → (places : List Place) → GoesBy (fabric.guarded guarded).platform d.share.domain pair.first places → KeepsToWay old d places n → TurnOf new d places n m }
+{
+    acs::guarded_requests_go_up();
+}

@@ -1,0 +1,5 @@
+use Rattle.fabric_core.proofs.NewPairs.{new_turn}
+use Rattle.fabric_core.proofs.laws.new_packets_stand_behind.Goals as goal
+
+pub returns : goal.returns
+returns c = new_turn c.guarded_requests_go_up.ensures.routed

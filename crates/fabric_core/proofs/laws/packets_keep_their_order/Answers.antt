@@ -1,0 +1,5 @@
+use Rattle.fabric_core.proofs.OrderedSteps.{ordered_step}
+use Rattle.fabric_core.proofs.laws.packets_keep_their_order.Goals as goal
+
+pub returns : goal.returns
+returns c = ordered_step c.guarded_requests_go_up.ensures.routed

@@ -1,0 +1,44 @@
+-- Packets of a domain that keep their order (PCIe 4.0, 2.4.1), on the way that they go.
+use Rattle.std.specs.Prelude.{◌≡◌, ℕ, ◌<◌, true, List, slice_get, Some, IsSome}
+use Rattle.fab_types.specs.declared.place.Origin.TheVariants.{Function, Host}
+use Rattle.fab_types.specs.declared.place.Place.{Place}
+use Rattle.layout.specs.Platform.{Platform}
+use Rattle.domain.specs.Consumed.{is_in_order}
+use Rattle.domain.specs.Domains.{DomainView}
+use Rattle.domain.specs.Orders.{IsTo, KeepOrder}
+use Rattle.domain.specs.Sent.{Sent, sent}
+use Rattle.domain.specs.State.{item_at}
+use Rattle.passage.specs.Guarded.{IsFunctionOf}
+use Rattle.passage.specs.Links.{IsWay}
+use Rattle.fabric_core.specs.Places.{is_numbered}
+use Rattle.fabric_core.specs.Trails.{InTurn, from_function, from_host, never, standing_at}
+use Rattle.fabric_core.specs.World.{World}
+
+-- the places that a packet goes through: up from the function that sent it, or down from the host to the function that it
+-- is for
+pub data GoesBy (platform : Platform) (domain : ℕ) (packet : Sent) : List Place → Type 0 where
+  Up : (function : ℕ) (links : List ℕ) → packet.source ≡ Some (Function function) → IsFunctionOf platform domain function → IsWay platform function links → GoesBy platform domain packet (from_function function links)
+  Down : (function : ℕ) (links : List ℕ) → packet.source ≡ Some (Host domain) → IsTo function packet.emission.parties → IsFunctionOf platform domain function → IsWay platform function links → GoesBy platform domain packet (from_host domain links)
+
+-- two packets that a domain made and that keep their order
+pub record AreOrdered (d : DomainView) (n m : ℕ) : Type 0 where
+  pub less : n < m
+  pub first : Sent
+  pub second : Sent
+  pub first_at : slice_get (sent d.share d.journal) n ≡ Some first
+  pub second_at : slice_get (sent d.share d.journal) m ≡ Some second
+  pub keep : KeepOrder d.share.ports d.share.domain first second
+
+-- the packets of these numbers are in turn at these places
+abbrev pub TurnOf : World → DomainView → List Place → ℕ → ℕ → Type 0
+TurnOf w d places n m = InTurn (standing_at w) places (is_numbered d.share.domain n) (is_numbered d.share.domain m)
+
+-- a packet stands at these places, and nowhere else
+abbrev pub KeepsToWay : World → DomainView → List Place → ℕ → Type 0
+KeepsToWay w d places n = InTurn (standing_at w) places (is_numbered d.share.domain n) never
+
+-- after an event they are in turn while the first is in flight, and no entry consumed the second before one consumed the
+-- first
+pub record StayOrdered (new : World) (d : DomainView) (places : List Place) (n m : ℕ) : Type 0 where
+  pub turn : IsSome (item_at d.state.flight n) → TurnOf new d places n m
+  pub order : is_in_order n m d.journal ≡ true

@@ -1,0 +1,104 @@
+-- The packets on the way from an outbox to where the way ends, in their order, those nearest to its end first.
+use Rattle.std.specs.Prelude.{◌≡◌, ◌⊎◌, ℕ, Bool, true, false, ◌&&◌, ◌||◌, not, List, [], ◌∷◌, ◌++◌, All, Option, Some, None, option_map}
+use Rattle.std.specs.List.{flat_map}
+use Rattle.fab_types.specs.declared.place.Direction.{Direction}
+use Rattle.fab_types.specs.declared.place.Origin.TheVariants as origin
+use Rattle.fab_types.specs.declared.place.Place.{Place}
+use Rattle.fab_types.specs.declared.place.Place.TheVariants as place
+use Rattle.fab_types.specs.declared.place.Place.TheVariants.{Egress, Wire, Ingress}
+use Rattle.fab_types.specs.declared.place.Way.TheVariants.{Up, Down}
+use Rattle.frame_log.specs.Descriptor.{Descriptor}
+use Rattle.edge.specs.Edges.{Outbox, waiting_of}
+use Rattle.link.specs.Channels.{Channel}
+use Rattle.topology.specs.Links.{sender_of}
+use Rattle.topology.specs.declared.links.Link.{Link}
+use Rattle.hierarchy.specs.Moves.{channel_at}
+use Rattle.fabric_core.specs.World.{World}
+
+-- ---- where packets stand
+
+abbrev pub egress_of : Option Channel → List Descriptor
+egress_of None = []
+egress_of (Some c) = c.egress
+
+abbrev pub wire_of : Option Channel → List Descriptor
+wire_of None = []
+wire_of (Some c) = c.wire
+
+abbrev pub ingress_of : Option Channel → List Descriptor
+ingress_of None = []
+ingress_of (Some c) = c.ingress
+
+abbrev pub channel_in : List Link → List (List Channel) → Direction → Option Channel
+channel_in links channels direction = option_map (channel_at channels) (sender_of links direction)
+
+-- the packets at a place, oldest first
+abbrev pub standing_in : List Link → List (List Channel) → List Outbox → Place → List Descriptor
+standing_in links channels boxes (place.Outbox origin) = waiting_of boxes origin
+standing_in links channels boxes (Egress direction) = egress_of (channel_in links channels direction)
+standing_in links channels boxes (Wire direction) = wire_of (channel_in links channels direction)
+standing_in links channels boxes (Ingress direction) = ingress_of (channel_in links channels direction)
+
+abbrev pub standing_at : World → Place → List Descriptor
+standing_at w place = standing_in w.tree.links w.channels w.edge.outboxes place
+
+-- the packets at places that follow each other
+abbrev pub trail : World → List Place → List Descriptor
+trail w places = flat_map (standing_at w) places
+
+-- ---- the places of a way
+
+abbrev pub up : ℕ → Direction
+up link = record { lower = link; way = Up }
+
+abbrev pub down : ℕ → Direction
+down link = record { lower = link; way = Down }
+
+-- a direction's, its receiver's first
+abbrev pub places_on : Direction → List Place
+places_on direction = Ingress direction ∷ Wire direction ∷ Egress direction ∷ []
+
+-- of the links from a function's own on, up
+abbrev pub places_up : List ℕ → List Place
+places_up [] = []
+places_up (link ∷ links) = places_up links ++ places_on (up link)
+
+-- and down
+abbrev pub places_down : List ℕ → List Place
+places_down [] = []
+places_down (link ∷ links) = places_on (down link) ++ places_down links
+
+-- from the host back to the outbox of a function whose way these links are
+abbrev pub from_function : ℕ → List ℕ → List Place
+from_function function links = places_up links ++ place.Outbox (origin.Function function) ∷ []
+
+-- from such a function back to the outbox of a domain's host
+abbrev pub from_host : ℕ → List ℕ → List Place
+from_host domain links = places_down links ++ place.Outbox (origin.Host domain) ∷ []
+
+-- ---- their order
+
+-- does one packet of the first kind stand among these, with none of the second kind in front of it?
+abbrev pub is_ahead : (Descriptor → Bool) → (Descriptor → Bool) → List Descriptor → Bool
+is_ahead first second [] = false
+is_ahead first second (x ∷ xs) = first x || (not (second x) && is_ahead first second xs)
+
+-- ---- two kinds of packets on a way
+
+abbrev pub In : Place → List Place → Type 0
+In place [] = ⊥
+In place (x ∷ xs) = (place ≡ x) ⊎ In place xs
+
+-- no packet at all
+abbrev pub never : Descriptor → Bool
+never x = false
+
+-- no packet of this kind stands anywhere but at these places
+abbrev pub StandOn : (Place → List Descriptor) → List Place → (Descriptor → Bool) → Type 0
+StandOn standing places is_one = (place : Place) → In place places ⊎ All (λ (x : Descriptor). is_one x ≡ false) (standing place)
+
+-- of these places alone, and with the first kind in front
+pub record InTurn (standing : Place → List Descriptor) (places : List Place) (first second : Descriptor → Bool) : Type 0 where
+  pub ahead : is_ahead first second (flat_map standing places) ≡ true
+  pub first_on : StandOn standing places first
+  pub second_on : StandOn standing places second
