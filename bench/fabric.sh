@@ -88,12 +88,7 @@ write('idle', ['sweep 1'] * 2_000)
 GENERATOR
 }
 
-if [ $# -gt 0 ]; then
-    texts "$1"
-    exit
-fi
-work=$(mktemp -d)
-trap 'rm -rf "$work"' EXIT
+. "$here/bench/work.sh"
 mkdir -p "$work/crates/fabrics/src" "$work/texts"
 # All but the program itself.
 grep -v '^pciefab:' "$here/crates.txt" > "$work/crates.txt"

@@ -49,12 +49,7 @@ for count in 250_000, 500_000, 1_000_000:
 GENERATOR
 }
 
-if [ $# -gt 0 ]; then
-    texts "$1"
-    exit
-fi
-work=$(mktemp -d)
-trap 'rm -rf "$work"' EXIT
+. "$here/bench/work.sh"
 mkdir -p "$work/crates/layouts/src" "$work/texts"
 for crate in fab_types text statement layout; do
     cp -r "$here/crates/$crate" "$work/crates/$crate"
