@@ -14,7 +14,7 @@ use Rattle.fabric_core.specs.Trails.{InTurn, standing_at}
 use Rattle.fabric_core.specs.World.{World}
 use Rattle.fabric_core.proofs.Deeds.{Deed, Finishes, IsLast, JoiningIf, Leaps, Starts}
 use Rattle.fabric_core.proofs.InTurns.{turn_joined, turn_left, turn_still}
-use Rattle.fabric_core.proofs.Standings.{Leaving, Moving, Standings}
+use Rattle.fabric_core.proofs.AtPlaces.{Leaving, Moving, Standings}
 
 -- an entry of this packet's home took it out of flight
 pub record IsTaken (w w' : World) (frame : Descriptor) : Type 0 where

@@ -9,7 +9,7 @@ use Rattle.frame_log.specs.Descriptor.{Descriptor}
 use Rattle.fabric_core.specs.Trails.{In, InTurn, is_ahead, never}
 use Rattle.fabric_core.proofs.Ahead.{ahead_more}
 use Rattle.fabric_core.proofs.InTurns.{IsNo, all_joined}
-use Rattle.fabric_core.proofs.Standings.{Joining, Standings}
+use Rattle.fabric_core.proofs.AtPlaces.{Joining, Standings}
 use Rattle.fabric_core.proofs.Trails.{IsNot}
 
 module _ (p q : Descriptor → Bool) where

@@ -20,7 +20,7 @@ use Rattle.fabric_core.specs.Trails.{standing_in}
 use Rattle.fabric_core.proofs.Deeds.{JoiningIf}
 use Rattle.fabric_core.proofs.Settling.{origins_stay, replaced}
 use Rattle.fabric_core.proofs.SoundBoxes.{either_waiting}
-use Rattle.fabric_core.proofs.Standings.{Joining, Leaving}
+use Rattle.fabric_core.proofs.AtPlaces.{Joining, Leaving}
 
 no_box : (origin : Origin) → Outbox
 no_box origin = record { origin = origin; waiting = [] }

@@ -30,7 +30,7 @@ use Rattle.fabric_core.proofs.Guarding.{one_direction}
 use Rattle.fabric_core.proofs.Renewing.{sender_there}
 use Rattle.fabric_core.proofs.Settling.{made_from}
 use Rattle.fabric_core.proofs.Standing.{IsThere}
-use Rattle.fabric_core.proofs.Standings.{AreSentApart, leave_and_join, put_to, received_there, sent_there, still_there}
+use Rattle.fabric_core.proofs.AtPlaces.{AreSentApart, leave_and_join, put_to, received_there, sent_there, still_there}
 
 module _ (w w' : World) (kept : IsKept w) (g : IsGuardedFabric w) where
   pub apart : AreSentApart w.tree.links

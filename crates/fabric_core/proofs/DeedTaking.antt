@@ -20,7 +20,7 @@ use Rattle.fabric_core.proofs.Deeds.{Deed, Leaps}
 use Rattle.fabric_core.proofs.GuardedEnds.{SoundlyTaken, soundly_taken}
 use Rattle.fabric_core.proofs.Renewing.{SameLanes, sender_there}
 use Rattle.fabric_core.proofs.Standing.{same_lanes}
-use Rattle.fabric_core.proofs.Standings.{Joining, Leaving, leave_and_join, left_there, put_to}
+use Rattle.fabric_core.proofs.AtPlaces.{Joining, Leaving, leave_and_join, left_there, put_to}
 
 module _ (w : World) (kept : IsKept w) (g : IsGuardedFabric w) (direction : Direction) where
   -- it is in flight, sound, and left its place

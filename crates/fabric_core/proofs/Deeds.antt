@@ -29,7 +29,7 @@ use Rattle.fabric_core.specs.Events.{link_of}
 use Rattle.fabric_core.specs.Places.{IsFlown}
 use Rattle.fabric_core.specs.Trails.{down, standing_at, up}
 use Rattle.fabric_core.specs.World.{World}
-use Rattle.fabric_core.proofs.Standings.{Joining, Leaving, Moving, Standings}
+use Rattle.fabric_core.proofs.AtPlaces.{Joining, Leaving, Moving, Standings}
 
 -- from where to where a packet goes
 pub data Leaps (platform : Platform) (frame : Descriptor) : Place → Place → Type 0 where

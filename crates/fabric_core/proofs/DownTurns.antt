@@ -25,7 +25,7 @@ use Rattle.fabric_core.specs.World.{World}
 use Rattle.fabric_core.proofs.Changing.{all_front}
 use Rattle.fabric_core.proofs.Deeds.{Finishes, IsLast, Leaps}
 use Rattle.fabric_core.proofs.InTurns.{IsNo, moved_stood, none_older, not_taken, stood, turn_along, turn_moved}
-use Rattle.fabric_core.proofs.Standings.{Leaving, MayPass, Moving, Standings}
+use Rattle.fabric_core.proofs.AtPlaces.{Leaving, MayPass, Moving, Standings}
 use Rattle.fabric_core.proofs.Tracks.{host_distinct, host_enters, host_falls, host_first, host_ingress, host_received, host_sent}
 use Rattle.fabric_core.proofs.Trails.{Adjoin}
 

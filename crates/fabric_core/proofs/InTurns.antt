@@ -12,7 +12,7 @@ use Rattle.port.specs.Lanes.{class_of}
 use Rattle.fabric_core.specs.Trails.{In, InTurn, is_ahead}
 use Rattle.fabric_core.proofs.Ahead.{ahead_filter, ahead_passed, either, none_ahead}
 use Rattle.fabric_core.proofs.Changing.{grown, without_one}
-use Rattle.fabric_core.proofs.Standings.{Joining, Leaving, MayPass, Moving, Standings}
+use Rattle.fabric_core.proofs.AtPlaces.{Joining, Leaving, MayPass, Moving, Standings}
 use Rattle.fabric_core.proofs.Tracks.{target_in}
 use Rattle.fabric_core.proofs.Trails.{Adjoin, AreDistinct, filtered_flat, overtakes}
 

@@ -55,7 +55,7 @@ pub mod Refusing
 pub mod Apart
 pub mod Ahead
 pub mod Trails
-pub mod Standings
+pub mod AtPlaces
 pub mod Boxes
 pub mod Deeds
 pub mod DeedMoves

@@ -23,7 +23,7 @@ use Rattle.fabric_core.proofs.InTurns.{IsNo, all_left, none_of, turn_left}
 use Rattle.fabric_core.proofs.KeptOrder.{all_standing, is_domain}
 use Rattle.fabric_core.proofs.OnePlace.{one_place}
 use Rattle.fabric_core.proofs.OrderedSteps.{flown_here}
-use Rattle.fabric_core.proofs.Standings.{Joining, Leaving, Standings}
+use Rattle.fabric_core.proofs.AtPlaces.{Joining, Leaving, Standings}
 use Rattle.fabric_core.proofs.Tracks.{not_down, not_up}
 
 source_is : (a b : Origin) → ◌≡◌ {A = Option Origin} (Some a) (Some b) → a ≡ b

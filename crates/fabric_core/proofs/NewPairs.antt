@@ -38,7 +38,7 @@ use Rattle.fabric_core.proofs.KeptOrder.{is_domain}
 use Rattle.fabric_core.proofs.NewPackets.{answer_behind, new_behind}
 use Rattle.fabric_core.proofs.OrderedSteps.{Next, flown_here, fresh, next, still, well_kept}
 use Rattle.fabric_core.proofs.Settling.{is_home, made_from}
-use Rattle.fabric_core.proofs.Standings.{Leaving, Standings}
+use Rattle.fabric_core.proofs.AtPlaces.{Leaving, Standings}
 
 -- what is sent last, if it has the number that is next
 last_sent : (xs : List Sent) (from : Option Origin) (o : Option Emission) (m : ℕ) (x : Sent) → length xs ≤ m → slice_get (xs ++ sent_of from o) m ≡ Some x → (y : Emission) × (o ≡ Some y) × (from ≡ x.source)

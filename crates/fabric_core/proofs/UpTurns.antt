@@ -44,7 +44,7 @@ use Rattle.fabric_core.proofs.Ahead.{ahead_after}
 use Rattle.fabric_core.proofs.Changing.{all_front}
 use Rattle.fabric_core.proofs.Deeds.{Finishes, IsLast, Leaps}
 use Rattle.fabric_core.proofs.InTurns.{IsNo, moved_stood, none_of, none_older, not_taken, stood, turn_along, turn_moved}
-use Rattle.fabric_core.proofs.Standings.{Leaving, MayPass, Moving, Standings}
+use Rattle.fabric_core.proofs.AtPlaces.{Leaving, MayPass, Moving, Standings}
 use Rattle.fabric_core.proofs.Tracks.{On, in_front, function_distinct, function_enters, function_first, function_ingress, function_received, function_rises, function_sent, further_link, only_function, up_place}
 use Rattle.fabric_core.proofs.Trails.{Adjoin}
 
