@@ -1,0 +1,30 @@
+-- What a comparison of two runs by the journal of one domain answers.
+use Rattle.std.specs.Prelude.{◌≡◌, ◌≢◌, ℕ, List, Option, option_map}
+use Rattle.fab_types.specs.declared.outcome.Outcome.{Outcome}
+use Rattle.domain.specs.declared.entry.Entry.{Entry}
+use Rattle.fabric_core.specs.declared.event.Event.{Event}
+use Rattle.fabric_core.specs.Isolation.{domain_of}
+use Rattle.fabric_core.specs.Runs.{Run}
+use Rattle.fabric_core.specs.World.{World}
+
+-- the events lead from one world to the other, whatever the outcome of each
+pub record IsRun (start : World) (events : List Event) (end : World) : Type 0 where
+  pub outcomes : List Outcome
+  pub run : Run start events outcomes end
+
+abbrev pub journal_of : ℕ → World → Option (List Entry)
+journal_of d w = option_map (λ domain. domain.journal) (domain_of w d)
+
+-- each fabric is a run of its list from the same start
+pub record AreRuns (start : World) (events others : List Event) (first second : World) : Type 0 where
+  pub first : IsRun start events first
+  pub second : IsRun start others second
+
+-- the domain's journal is the same in both, and so is all that its state holds
+pub record AreEqual (d : ℕ) (start : World) (events others : List Event) (first second : World) : Type 0 where
+  pub runs : AreRuns start events others first second
+  pub same : domain_of second d ≡ domain_of first d
+
+pub record DifferInJournals (d : ℕ) (start : World) (events others : List Event) (first second : World) : Type 0 where
+  pub runs : AreRuns start events others first second
+  pub differ : journal_of d second ≢ journal_of d first
