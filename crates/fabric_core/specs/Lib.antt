@@ -16,3 +16,5 @@ pub mod Trails
 pub mod Orders
 pub mod Invariant
 pub mod Kept
+pub mod TakenOut
+pub mod Comparisons
