@@ -14,7 +14,7 @@ use Rattle.host_memory.specs.Pages.{page_of}
 use Rattle.layout.specs.Owners.{is_own_function}
 use Rattle.layout.specs.Share.{Share}
 use Rattle.domain.specs.Domains.{DomainView}
-use Rattle.domain.specs.Heads.{origin_id}
+use Rattle.disposition.specs.Heads.{origin_id}
 use Rattle.domain.specs.State.{Delivery}
 use Rattle.fabric_core.specs.World.{World}
 use Rattle.monitor.specs.Lines.{violation_line}

@@ -3,7 +3,7 @@
 ghost use Rattle.std.specs.Prelude.{◌≡◌, IfOk, OnOk};
 ghost use Rattle.std.specs.List.{flat_map};
 ghost use Rattle.std.specs.Io.KnownBytes.{Appends};
-ghost use Rattle.domain.specs.Heads.{origin_id};
+ghost use Rattle.disposition.specs.Heads.{origin_id};
 ghost use Rattle.commands.specs.Driving.{Wrote};
 ghost use Rattle.commands.specs.Report.{AreParts, IsPart, IsReport, counts_line, memory_lines, own_functions, packet_text, record_head, record_line, refusal_line, register_lines, status_name, violation_lines, violation_row};
 ghost use Rattle.commands.specs.Rising.{IsRising};

@@ -27,46 +27,43 @@ use Rattle.tlp_view.specs.Malformed.{malformed}
 use Rattle.tlp_view.specs.Packet.{Packet, dw_count}
 use Rattle.tlp_view.specs.Runs.{is_write}
 use Rattle.tlp_view.specs.View.{address_type_in}
-use Rattle.domain.specs.declared.ending.Deed.{Deed}
-use Rattle.domain.specs.declared.ending.Deed.TheVariants.{Leave, Block, Store, Access}
-use Rattle.domain.specs.declared.ending.Ending.{Ending}
+use Rattle.disposition.specs.declared.ending.Deed.{Deed}
+use Rattle.disposition.specs.declared.ending.Deed.TheVariants.{Leave, Block, Store, Access}
+use Rattle.disposition.specs.declared.ending.Ending.{Ending}
 use Rattle.domain.specs.declared.entry.Entry.{Entry}
 use Rattle.domain.specs.declared.entry.Entry.TheVariants.{Submit, Tick, Mmio, Refuse, Carry, Deliver, Alien}
-use Rattle.domain.specs.declared.fate.Fate.{Fate}
-use Rattle.domain.specs.declared.fate.Fate.TheVariants.{Vanish, Refused, ToHost}
+use Rattle.disposition.specs.declared.fate.Fate.{Fate}
+use Rattle.disposition.specs.declared.fate.Fate.TheVariants.{Vanish, Refused, ToHost}
 use Rattle.domain.specs.declared.reception.Reception.{Reception}
 use Rattle.domain.specs.declared.reception.Reception.TheVariants.{Ends, Arrives}
-use Rattle.domain.specs.declared.taker.Taker.{Taker}
-use Rattle.domain.specs.declared.taker.Taker.TheVariants.{Host, Function, Port, Upstream}
-use Rattle.domain.specs.Aliens.{answerer_of, at_frame_if, at_port, completion_at_host, frame_at, is_access, is_excluded, lies_in, or_discarded, received, received_if, reception_at, reception_by, reception_of, reception_unless, request_at_function, request_at_host, unserved, unserved_by_host}
-use Rattle.domain.specs.Answers.{address_of, bar_of, function_answer, function_refusal, host_refusal}
-use Rattle.domain.specs.Carries.{access_of, discarded, from_frame, is_owner, refusal_by, refused_by_host, serve, to_frame}
+use Rattle.disposition.specs.declared.taker.Taker.{Taker}
+use Rattle.disposition.specs.declared.taker.Taker.TheVariants.{Host, Function, Port, Upstream}
+use Rattle.disposition.specs.Requests.{at_frame_if, at_port, frame_at, is_access, lies_in, or_discarded, request_at_function, request_at_host, unserved, unserved_by_host}
+use Rattle.domain.specs.Aliens.{answerer_of, completion_at_host, is_excluded, received, received_if, reception_at, reception_by, reception_of, reception_unless}
+use Rattle.disposition.specs.Answers.{address_of, bar_of, function_answer, function_refusal, host_refusal}
+use Rattle.disposition.specs.Carries.{access_of, discarded, from_frame, is_owner, refusal_by, refused_by_host, serve, to_frame}
 use Rattle.domain.specs.Deliveries.{arrival_at, is_port}
 use Rattle.domain.specs.Domains.{DomainView, Makes}
 use Rattle.domain.specs.Ends.{BytesFit, DeedFits}
-use Rattle.domain.specs.Fates.{fate_at}
-use Rattle.domain.specs.Heads.{descriptor_of, origin_id, target_for}
+use Rattle.disposition.specs.Fates.{fate_at}
+use Rattle.disposition.specs.Heads.{descriptor_of, origin_id, target_for}
 use Rattle.domain.specs.Machine.{aliens_from, aliens_in, change, replay, replay_from, with_alien}
 use Rattle.domain.specs.Receptions.{IsReceivable}
-use Rattle.domain.specs.State.{Alone, Change, Emission, start_state}
+use Rattle.disposition.specs.Emissions.{Emission}
+use Rattle.domain.specs.State.{Alone, Change, start_state}
 use Rattle.domain.specs.Tags.{is_open}
-use Rattle.domain.specs.Takers.{taker_of, takes}
+use Rattle.disposition.specs.Takers.{taker_of, takes}
 use Rattle.domain.proofs.Accounting.{aliens_more, goes_on}
 use Rattle.domain.proofs.EndLemmas.{serve_fits}
 use Rattle.domain.proofs.Keeping.{makes_end, makes_seen}
 use Rattle.domain.proofs.PageFits.{write_in_page}
-use Rattle.domain.proofs.WellMadeLemmas.{is_an_access}
+use Rattle.disposition.proofs.WellMadeLemmas.{is_an_access}
 
 abbrev some : {A : Type 0} → A → Option A
 some x = Some x
 
 some_is : {A : Type 0} (x y : A) → some x ≡ some y → x ≡ y
 some_is x y e = cc
-
--- the second of two
-pub else_is : {X : Type 0} (b : Bool) (x y r : X) → b ≡ false → r ≡ y → r ≡ cond b x y
-else_is true x y r e same = absurd cc
-else_is false x y r e same = same
 
 abbrev pub ends : Ending → Reception
 ends a = Ends a

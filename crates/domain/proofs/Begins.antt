@@ -5,15 +5,16 @@ use Rattle.fab_types.specs.declared.faults.begin.SubmitFault.{SubmitFault}
 use Rattle.layout.specs.Share.{Share}
 use Rattle.domain.proofs.Accounting.{submit_budget}
 use Rattle.domain.specs.declared.deliver.Arrival.{Arrival}
-use Rattle.domain.specs.declared.ending.Deed.{Deed}
-use Rattle.domain.specs.declared.ending.Deed.TheVariants.{Leave, Block, Store, Access}
-use Rattle.domain.specs.declared.ending.Ending.{Ending}
+use Rattle.disposition.specs.declared.ending.Deed.{Deed}
+use Rattle.disposition.specs.declared.ending.Deed.TheVariants.{Leave, Block, Store, Access}
+use Rattle.disposition.specs.declared.ending.Ending.{Ending}
 use Rattle.domain.specs.declared.entry.Entry.TheVariants.{Submit, Refuse, Carry, Deliver}
-use Rattle.domain.specs.Carries.{carriage_end, refusal_end}
+use Rattle.disposition.specs.Carries.{carriage_end, refusal_end}
 use Rattle.domain.specs.Deliveries.{arrival, arrived, recorded, unexpected}
 use Rattle.domain.specs.Ends.{conclude, done, replied}
 use Rattle.domain.specs.Machine.{change, ended}
-use Rattle.domain.specs.State.{Alone, Change, Delivery, Emission, emits_nothing, item_at, without}
+use Rattle.disposition.specs.Emissions.{Emission}
+use Rattle.domain.specs.State.{Alone, Change, Delivery, emits_nothing, item_at, without}
 use Rattle.domain.specs.Submits.{submit_fault, submit_unless}
 
 abbrev some : {A : Type 0} → A → Option A

@@ -7,12 +7,13 @@ use Rattle.fab_types.specs.declared.place.Origin.{Origin}
 use Rattle.tlp_view.specs.Bytes.{packet_of}
 use Rattle.tlp_view.specs.Runs.{runs}
 use Rattle.domain.proofs.FlightLemmas.{clear_push, item_push}
-use Rattle.domain.specs.declared.ending.Deed.{Deed}
-use Rattle.domain.specs.declared.ending.Deed.TheVariants.{Leave, Block, Store, Access}
+use Rattle.disposition.specs.declared.ending.Deed.{Deed}
+use Rattle.disposition.specs.declared.ending.Deed.TheVariants.{Leave, Block, Store, Access}
 use Rattle.function.specs.declared.tags.OpenTag.{OpenTag}
 use Rattle.domain.specs.Deliveries.{closed}
 use Rattle.domain.specs.Ends.{DeedFits, blocked, done, replied, with_access, with_stored}
-use Rattle.domain.specs.State.{Alone, Delivery, Emission, item_at, without}
+use Rattle.disposition.specs.Emissions.{Emission}
+use Rattle.domain.specs.State.{Alone, Delivery, item_at, without}
 use Rattle.domain.specs.Tags.{is_open, same_origin}
 
 abbrev pub with_flight : Alone → List (Option Emission) → Alone

@@ -4,13 +4,14 @@ use Rattle.std.specs.Prelude.{IsSome, nat_lt}
 use Rattle.std.proofs.Math.Dec.{eqb-suc-suc, eqb-suc-zero, eqb-zero-suc, leb-suc-suc, leb-suc-zero, leb-zero}
 use Rattle.std.proofs.lemmas.List.Sums.{sum_by-cons}
 use Rattle.layout.specs.Share.{Share}
-use Rattle.domain.specs.declared.ending.Ending.{Ending}
+use Rattle.disposition.specs.declared.ending.Ending.{Ending}
 use Rattle.domain.specs.declared.entry.Entry.{Entry}
 use Rattle.domain.specs.declared.entry.Entry.TheVariants.{Submit, Tick, Mmio, Refuse, Carry, Deliver, Alien}
-use Rattle.domain.specs.Carries.{carriage_end, refusal_end}
+use Rattle.disposition.specs.Carries.{carriage_end, refusal_end}
 use Rattle.domain.specs.Consumed.{AreConsumedOnce, consumes, times_consumed, times_waiting}
 use Rattle.domain.specs.Machine.{change, deliver, ended, replay, replay_from}
-use Rattle.domain.specs.State.{Alone, Change, Emission, item_at, start_state}
+use Rattle.disposition.specs.Emissions.{Emission}
+use Rattle.domain.specs.State.{Alone, Change, item_at, start_state}
 use Rattle.domain.proofs.Accounting.{goes_on}
 use Rattle.domain.proofs.Joining.{mmio_flight, submit_flight, tick_flight}
 use Rattle.domain.proofs.Leaving.{alien_flight, carry_flight, deliver_flight, joined, refuse_flight}

@@ -17,18 +17,19 @@ use Rattle.tlp_view.specs.Malformed.{malformed}
 use Rattle.tlp_view.specs.Packet.{Packet, dw_count}
 use Rattle.tlp_view.specs.Runs.{is_write}
 use Rattle.domain.proofs.PageFits.{write_in_page}
-use Rattle.domain.specs.declared.ending.Deed.TheVariants.{Leave, Access}
-use Rattle.domain.specs.declared.ending.Ending.{Ending}
+use Rattle.disposition.specs.declared.ending.Deed.TheVariants.{Leave, Access}
+use Rattle.disposition.specs.declared.ending.Ending.{Ending}
 use Rattle.domain.specs.declared.entry.Entry.TheVariants.{Carry, Deliver, Refuse}
-use Rattle.domain.specs.declared.fate.Fate.{Fate}
-use Rattle.domain.specs.declared.fate.Fate.TheVariants.{Vanish, Refused, ToHost}
-use Rattle.domain.specs.Answers.{address_of, bar_of, function_answer, host_refusal}
-use Rattle.domain.specs.Carries.{access_of, carriage_by, carriage_end, carriage_of, forward, is_carried, port_id, read_from, refusal_by, refusal_end, refusal_of, serve, serve_read, write_to}
+use Rattle.disposition.specs.declared.fate.Fate.{Fate}
+use Rattle.disposition.specs.declared.fate.Fate.TheVariants.{Vanish, Refused, ToHost}
+use Rattle.disposition.specs.Answers.{address_of, bar_of, function_answer, host_refusal}
+use Rattle.disposition.specs.Carries.{access_of, carriage_by, carriage_end, carriage_of, forward, is_carried, port_id, read_from, refusal_by, refusal_end, refusal_of, serve, serve_read, write_to}
 use Rattle.domain.specs.Domains.{DomainView, EndsBy}
 use Rattle.domain.specs.Ends.{DeedFits, conclude}
-use Rattle.domain.specs.Fates.{fate, fate_at, fate_below, fate_unless, packet_fate}
+use Rattle.disposition.specs.Fates.{fate, fate_below, fate_unless}
 use Rattle.domain.specs.Machine.{carry, change, ended, refuse}
-use Rattle.domain.specs.State.{Alone, Change, Emission, emits_nothing, item_at, without}
+use Rattle.disposition.specs.Emissions.{Emission}
+use Rattle.domain.specs.State.{Alone, Change, emits_nothing, item_at, without}
 use Rattle.domain.specs.declared.deliver.Arrival.{Arrival}
 use Rattle.function.specs.declared.tags.OpenTag.{OpenTag}
 use Rattle.domain.specs.Deliveries.{arrival, arrived}
@@ -48,13 +49,6 @@ well_unless (Some cause) port b e = absurd cc
 well_below : (o : Option PortLine) (b : List ℕ) → fate_below o b ≡ ToHost → malformed b ≡ None
 well_below None b e = absurd cc
 well_below (Some port) b e = well_unless (malformed b) port b e
-
--- what a port lets go on is carried by its fate there
-pub past_port : (share : Share) (frames : List (ℕ × List ℕ)) (port : PortLine) (b : List ℕ) (t : Packet) (r : Fate) → malformed b ≡ None → t ≡ packet_of b → r ≡ packet_fate port t → r ≡ ToHost
-    → cond (is_carried share t) (serve share frames t) None ≡ carriage_by share frames b (fate_at port b)
-past_port share frames port b t r good same is to =
-    let on : fate_at port b ≡ ToHost = ap (λ (m : Option Malformed). fate_unless m port b) good ∙ (ap (packet_fate port) (sym same) ∙ (sym is ∙ to)) in
-    ap (λ (u : Packet). cond (is_carried share u) (serve share frames u) None) same ∙ ap (carriage_by share frames b) (sym on)
 
 -- ---- what is written lies within a page
 

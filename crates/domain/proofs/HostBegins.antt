@@ -10,9 +10,9 @@ use Rattle.tlp_view.specs.Requests.{packet_bytes}
 use Rattle.domain.specs.declared.access.HostAccess.{HostAccess}
 use Rattle.domain.specs.declared.entry.Entry.{Entry}
 use Rattle.domain.specs.declared.entry.Entry.TheVariants.{Mmio}
-use Rattle.domain.specs.Answers.{bar_of, page_at}
+use Rattle.disposition.specs.Answers.{bar_of, page_at}
 use Rattle.domain.specs.Domains.{DomainView, Makes}
-use Rattle.domain.specs.Heads.{descriptor_of}
+use Rattle.disposition.specs.Heads.{descriptor_of}
 use Rattle.domain.specs.HostAccesses.{host_emission, host_request, mmio_fault, mmio_unless, mmio_with, opened_for, tag_for}
 use Rattle.domain.specs.Machine.{aliens_in, change, replay}
 use Rattle.domain.specs.State.{Alone, begun, with_emission}

@@ -8,7 +8,7 @@ use Rattle.host_memory.specs.Pages.{page_of}
 use Rattle.layout.specs.Share.{Share}
 use Rattle.domain.specs.declared.access.HostAccess.{HostAccess}
 use Rattle.domain.specs.declared.entry.Entry.TheVariants.{Submit, Tick, Mmio}
-use Rattle.domain.specs.Answers.{bar_of}
+use Rattle.disposition.specs.Answers.{bar_of}
 use Rattle.domain.specs.HostAccesses.{mmio_fault, mmio_unless, mmio_with, tag_for}
 use Rattle.domain.specs.Machine.{change}
 use Rattle.domain.specs.State.{Alone, Change}

@@ -6,18 +6,19 @@ use Rattle.fab_types.specs.declared.head.Parties.TheVariants.{Upward}
 use Rattle.fab_types.specs.declared.place.Place.{Place}
 use Rattle.layout.specs.Share.{Share}
 use Rattle.domain.specs.declared.deliver.Arrival.{Arrival}
-use Rattle.domain.specs.declared.ending.Deed.{Deed}
-use Rattle.domain.specs.declared.ending.Deed.TheVariants.{Leave, Block, Store, Access}
-use Rattle.domain.specs.declared.ending.Ending.{Ending}
+use Rattle.disposition.specs.declared.ending.Deed.{Deed}
+use Rattle.disposition.specs.declared.ending.Deed.TheVariants.{Leave, Block, Store, Access}
+use Rattle.disposition.specs.declared.ending.Ending.{Ending}
 use Rattle.domain.specs.declared.entry.Entry.TheVariants.{Refuse, Carry, Deliver, Alien}
 use Rattle.domain.specs.declared.reception.Reception.{Reception}
 use Rattle.domain.specs.declared.reception.Reception.TheVariants.{Ends, Arrives}
 use Rattle.domain.specs.Aliens.{received, received_if, reception_of}
-use Rattle.domain.specs.Carries.{carriage_end, refusal_end}
+use Rattle.disposition.specs.Carries.{carriage_end, refusal_end}
 use Rattle.domain.specs.Deliveries.{arrival, arrived, recorded, unexpected}
 use Rattle.domain.specs.Ends.{done, replied}
 use Rattle.domain.specs.Machine.{change, ended}
-use Rattle.domain.specs.State.{Alone, Change, Delivery, Emission, emits_nothing, item_at, without}
+use Rattle.disposition.specs.Emissions.{Emission}
+use Rattle.domain.specs.State.{Alone, Change, Delivery, emits_nothing, item_at, without}
 
 abbrev some : {A : Type 0} → A → Option A
 some x = Some x

@@ -1,6 +1,4 @@
 pub mod PageFits
-pub mod Places
-pub mod WellMadeLemmas
 pub mod FlightLemmas
 pub mod StoreLemmas
 pub mod ConcludeLemmas

@@ -24,22 +24,23 @@ use Rattle.layout.specs.Share.{Share}
 use Rattle.tlp_view.specs.Bytes.{packet_of}
 use Rattle.domain.specs.declared.access.HostAccess.{HostAccess}
 use Rattle.domain.specs.declared.deliver.Arrival.{Arrival}
-use Rattle.domain.specs.declared.ending.Deed.{Deed}
-use Rattle.domain.specs.declared.ending.Deed.TheVariants.{Leave, Block, Store, Access}
-use Rattle.domain.specs.declared.ending.Ending.{Ending}
+use Rattle.disposition.specs.declared.ending.Deed.{Deed}
+use Rattle.disposition.specs.declared.ending.Deed.TheVariants.{Leave, Block, Store, Access}
+use Rattle.disposition.specs.declared.ending.Ending.{Ending}
 use Rattle.domain.specs.declared.entry.Entry.{Entry}
 use Rattle.domain.specs.declared.entry.Entry.TheVariants.{Submit, Tick, Mmio, Refuse, Carry, Deliver, Alien}
 use Rattle.domain.specs.declared.reception.Reception.{Reception}
 use Rattle.domain.specs.declared.reception.Reception.TheVariants.{Ends, Arrives}
 use Rattle.domain.specs.Aliens.{received_if, reception_of}
-use Rattle.domain.specs.Answers.{bar_of}
-use Rattle.domain.specs.Carries.{carriage_end, refusal_end}
+use Rattle.disposition.specs.Answers.{bar_of}
+use Rattle.disposition.specs.Carries.{carriage_end, refusal_end}
 use Rattle.domain.specs.Deliveries.{arrival, arrived, completed, recorded, unexpected}
 use Rattle.domain.specs.Ends.{done, replied}
 use Rattle.domain.specs.HostAccesses.{mmio_fault, mmio_unless, mmio_with, tag_for}
 use Rattle.domain.specs.Machine.{change, ended, replay, replay_from}
 use Rattle.domain.specs.RegisterPages.{changed, changed_at}
-use Rattle.domain.specs.State.{Alone, Change, Delivery, Emission, emits_nothing, first_registers, item_at, start_state, without}
+use Rattle.disposition.specs.Emissions.{Emission}
+use Rattle.domain.specs.State.{Alone, Change, Delivery, emits_nothing, first_registers, item_at, start_state, without}
 use Rattle.domain.specs.Submits.{submit_fault, submit_unless}
 use Rattle.domain.specs.Ticks.{sent_by, tick_fault, tick_unless, ticked, ticks}
 use Rattle.domain.proofs.Accounting.{goes_on}

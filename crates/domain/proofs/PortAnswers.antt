@@ -17,17 +17,19 @@ use Rattle.tlp_view.specs.Kinds.{kind_at}
 use Rattle.tlp_view.specs.Malformed.{malformed}
 use Rattle.tlp_view.specs.Packet.{Packet}
 use Rattle.tlp_view.proofs.Completed.{completion_well_formed}
-use Rattle.domain.specs.declared.fate.Fate.{Fate}
-use Rattle.domain.specs.declared.fate.Fate.TheVariants.{Vanish, Refused, ToHost}
+use Rattle.disposition.specs.declared.fate.Fate.{Fate}
+use Rattle.disposition.specs.declared.fate.Fate.TheVariants.{Vanish, Refused, ToHost}
 use Rattle.domain.specs.declared.reception.Reception.{Reception}
 use Rattle.domain.specs.declared.reception.Reception.TheVariants.{Ends, Arrives}
-use Rattle.domain.specs.declared.taker.Taker.{Taker}
-use Rattle.domain.specs.declared.taker.Taker.TheVariants.{Host, Function, Port, Upstream}
-use Rattle.domain.specs.Aliens.{alien, at_port, is_excluded, or_discarded, received, received_if, reception_by, reception_unless}
-use Rattle.domain.specs.Carries.{refusal_by}
-use Rattle.domain.specs.Fates.{fate_at}
-use Rattle.domain.specs.State.{Alone, Change, Emission}
-use Rattle.domain.specs.Takers.{is_at_port, is_port, taker_of}
+use Rattle.disposition.specs.declared.taker.Taker.{Taker}
+use Rattle.disposition.specs.declared.taker.Taker.TheVariants.{Host, Function, Port, Upstream}
+use Rattle.disposition.specs.Requests.{at_port, or_discarded}
+use Rattle.domain.specs.Aliens.{alien, is_excluded, received, received_if, reception_by, reception_unless}
+use Rattle.disposition.specs.Carries.{refusal_by}
+use Rattle.disposition.specs.Fates.{fate_at}
+use Rattle.disposition.specs.Emissions.{Emission}
+use Rattle.domain.specs.State.{Alone, Change}
+use Rattle.disposition.specs.Takers.{is_at_port, is_port, taker_of}
 
 some_is : {A : Type 0} (x y : A) → Some x ≡ Some y → x ≡ y
 some_is x y e = cc

@@ -21,17 +21,18 @@ use Rattle.tlp_view.specs.Kinds.{class_of_kind, is_memory}
 use Rattle.tlp_view.specs.Malformed.{malformed}
 use Rattle.tlp_view.specs.Packet.{Packet, dw_count}
 use Rattle.tlp_view.specs.Runs.{is_write}
-use Rattle.domain.specs.declared.ending.Deed.TheVariants.{Leave}
-use Rattle.domain.specs.declared.ending.Ending.{Ending}
+use Rattle.disposition.specs.declared.ending.Deed.TheVariants.{Leave}
+use Rattle.disposition.specs.declared.ending.Ending.{Ending}
 use Rattle.domain.specs.declared.entry.Entry.TheVariants.{Refuse, Carry}
-use Rattle.domain.specs.declared.fate.Fate.{Fate}
-use Rattle.domain.specs.declared.fate.Fate.TheVariants as fate
-use Rattle.domain.specs.Answers.{address_of, host_refusal}
-use Rattle.domain.specs.Carries.{carriage_by, carriage_end, is_carried, is_owner, port_id, read_from, refusal_by, refusal_end, serve, write_to}
+use Rattle.disposition.specs.declared.fate.Fate.{Fate}
+use Rattle.disposition.specs.declared.fate.Fate.TheVariants as fate
+use Rattle.disposition.specs.Answers.{address_of, host_refusal}
+use Rattle.disposition.specs.Carries.{carriage_by, carriage_end, is_carried, is_owner, port_id, read_from, refusal_by, refusal_end, serve, write_to}
 use Rattle.domain.specs.Ends.{conclude}
-use Rattle.domain.specs.Fates.{fate as fate_by, fate_below, fate_unless, is_untranslated, packet_fate, returns_to_sender, stopped}
+use Rattle.disposition.specs.Fates.{fate as fate_by, fate_below, fate_unless, is_untranslated, packet_fate, returns_to_sender, stopped}
 use Rattle.domain.specs.Machine.{change, ended}
-use Rattle.domain.specs.State.{Alone, Emission, item_at}
+use Rattle.disposition.specs.Emissions.{Emission}
+use Rattle.domain.specs.State.{Alone, item_at}
 
 -- ---- what its first port lets pass
 

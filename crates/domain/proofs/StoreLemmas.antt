@@ -2,7 +2,8 @@
 use Rattle.std.proofs.Common.{◌≡◌, ℕ, ◌+◌, ◌≤◌, length, Some, sym, subst}
 use Rattle.tlp_view.specs.Packet.{Packet}
 use Rattle.tlp_view.specs.Bytes.{packet_of}
-use Rattle.domain.specs.State.{Alone, Emission, item_at}
+use Rattle.disposition.specs.Emissions.{Emission}
+use Rattle.domain.specs.State.{Alone, item_at}
 
 -- what holds of the payload of a packet in flight holds of its view
 pub payload_fits : (s w : Alone) (n first : ℕ) (e : Emission) (t : Packet) → s ≡ w → item_at s.flight n ≡ Some e

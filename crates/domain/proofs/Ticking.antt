@@ -12,7 +12,7 @@ use Rattle.layout.specs.Share.{Share}
 use Rattle.domain.specs.declared.entry.Entry.{Entry}
 use Rattle.domain.specs.declared.entry.Entry.TheVariants.{Tick}
 use Rattle.domain.specs.Domains.{DomainView, Emits, Makes}
-use Rattle.domain.specs.Heads.{descriptor_of}
+use Rattle.disposition.specs.Heads.{descriptor_of}
 use Rattle.domain.specs.Machine.{aliens_in, change, replay}
 use Rattle.domain.specs.State.{Alone}
 use Rattle.domain.specs.Ticks.{sent_by, tick_fault, tick_unless, ticks, ticks_by}

@@ -16,9 +16,10 @@ use Rattle.function.specs.declared.tags.OpenTag.{OpenTag}
 use Rattle.function.specs.declared.tags.TagUse.{TagUse}
 use Rattle.function.specs.declared.tags.TagUse.TheVariants.{Raw}
 use Rattle.function.specs.Closings.{closed_by}
-use Rattle.domain.specs.Heads.{origin_id}
+use Rattle.disposition.specs.Heads.{origin_id}
 use Rattle.domain.specs.RegisterPages.{changed}
-use Rattle.domain.specs.State.{Alone, Delivery, Emission}
+use Rattle.disposition.specs.Emissions.{Emission}
+use Rattle.domain.specs.State.{Alone, Delivery}
 use Rattle.domain.specs.Tags.{is_open, same_origin}
 
 abbrev pub is_port : Answerer → Bool

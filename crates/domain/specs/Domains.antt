@@ -9,11 +9,12 @@ use Rattle.domain.specs.declared.consume.EndFault.TheVariants.{Illegal}
 use Rattle.domain.specs.declared.consume.EndFault.TheVariants as end
 use Rattle.domain.specs.declared.entry.Entry.{Entry}
 use Rattle.domain.specs.declared.deliver.Arrival.{Arrival}
-use Rattle.domain.specs.declared.ending.Ending.{Ending}
+use Rattle.disposition.specs.declared.ending.Ending.{Ending}
 use Rattle.domain.specs.Deliveries.{arrival, record_of_arrival}
 use Rattle.domain.specs.Ends.{DeedFits, conclude}
-use Rattle.domain.specs.State.{Alone, Change, Delivery, Emission, item_at}
-use Rattle.domain.specs.Heads.{descriptor_of}
+use Rattle.disposition.specs.Emissions.{Emission}
+use Rattle.domain.specs.State.{Alone, Change, Delivery, item_at}
+use Rattle.disposition.specs.Heads.{descriptor_of}
 use Rattle.domain.specs.Machine.{change, with_alien}
 
 -- what the layout gives the domain, its state, and its journal

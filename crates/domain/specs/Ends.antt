@@ -7,11 +7,12 @@ use Rattle.tlp_view.specs.Bytes.{packet_of}
 use Rattle.tlp_view.specs.Malformed.{malformed}
 use Rattle.tlp_view.specs.Packet.{Packet}
 use Rattle.tlp_view.specs.Runs.{runs}
-use Rattle.domain.specs.declared.ending.Deed.{Deed}
-use Rattle.domain.specs.declared.ending.Deed.TheVariants.{Leave, Block, Store, Access}
-use Rattle.domain.specs.declared.ending.Ending.{Ending}
+use Rattle.disposition.specs.declared.ending.Deed.{Deed}
+use Rattle.disposition.specs.declared.ending.Deed.TheVariants.{Leave, Block, Store, Access}
+use Rattle.disposition.specs.declared.ending.Ending.{Ending}
 use Rattle.domain.specs.RegisterPages.{changed}
-use Rattle.domain.specs.State.{Alone, Change, Emission, without, with_emission, with_registers}
+use Rattle.disposition.specs.Emissions.{Emission}
+use Rattle.domain.specs.State.{Alone, Change, without, with_emission, with_registers}
 
 -- one more request without a mapping
 abbrev pub blocked : Alone → Alone

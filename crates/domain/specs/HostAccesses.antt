@@ -18,8 +18,9 @@ use Rattle.tlp_view.specs.Requests.{all_enabled, packet_bytes, read_request, wri
 use Rattle.domain.specs.declared.access.HostAccess.{HostAccess}
 use Rattle.domain.specs.declared.access.Operation.{Operation}
 use Rattle.domain.specs.declared.access.Operation.TheVariants.{Read, Write}
-use Rattle.domain.specs.Answers.{bar_of, page_at}
-use Rattle.domain.specs.State.{Alone, Change, Emission, begun, emits}
+use Rattle.disposition.specs.Answers.{bar_of, page_at}
+use Rattle.disposition.specs.Emissions.{Emission}
+use Rattle.domain.specs.State.{Alone, Change, begun, emits}
 use Rattle.domain.specs.Tags.{is_open}
 
 -- how many bytes it reads or writes

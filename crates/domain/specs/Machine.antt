@@ -3,11 +3,12 @@ use Rattle.std.specs.Prelude.{ℕ, ◌+◌, List, [], ◌∷◌, Option, Some, N
 use Rattle.layout.specs.Share.{Share}
 use Rattle.domain.specs.declared.entry.Entry.{Entry}
 use Rattle.domain.specs.declared.entry.Entry.TheVariants.{Submit, Tick, Mmio, Refuse, Carry, Deliver, Alien}
-use Rattle.domain.specs.declared.ending.Ending.{Ending}
-use Rattle.domain.specs.State.{Alone, Emission, Change, emits_nothing, item_at, start_state, without}
+use Rattle.disposition.specs.declared.ending.Ending.{Ending}
+use Rattle.disposition.specs.Emissions.{Emission}
+use Rattle.domain.specs.State.{Alone, Change, emits_nothing, item_at, start_state, without}
 use Rattle.domain.specs.Submits.{submit}
 use Rattle.domain.specs.Aliens.{alien}
-use Rattle.domain.specs.Carries.{carriage_end, refusal_end}
+use Rattle.disposition.specs.Carries.{carriage_end, refusal_end}
 use Rattle.domain.specs.Deliveries.{arrival, arrived}
 use Rattle.domain.specs.Ends.{conclude}
 use Rattle.domain.specs.HostAccesses.{mmio}

@@ -9,11 +9,11 @@ use Rattle.fab_types.specs.declared.head.Parties.TheVariants.{Upward, Downward, 
 use Rattle.fab_types.specs.declared.place.Origin.{Origin}
 use Rattle.fab_types.specs.declared.place.Origin.TheVariants.{Function, Host}
 use Rattle.layout.specs.declared.lines.PortLine.{PortLine}
-use Rattle.domain.specs.declared.fate.Fate.TheVariants.{ToHost}
-use Rattle.domain.specs.Fates.{fate}
-use Rattle.domain.specs.Heads.{head_of}
+use Rattle.disposition.specs.declared.fate.Fate.TheVariants.{ToHost}
+use Rattle.disposition.specs.Fates.{fate}
+use Rattle.disposition.specs.Heads.{head_of}
 use Rattle.domain.specs.Sent.{Sent}
-use Rattle.domain.specs.State.{Emission}
+use Rattle.disposition.specs.Emissions.{Emission}
 
 -- ---- of one packet
 

@@ -4,7 +4,8 @@ use Rattle.layout.specs.Share.{Share}
 use Rattle.domain.specs.declared.entry.Entry.{Entry}
 use Rattle.domain.specs.Domains.{DomainView}
 use Rattle.domain.specs.Machine.{change, replay}
-use Rattle.domain.specs.State.{Alone, Emission}
+use Rattle.disposition.specs.Emissions.{Emission}
+use Rattle.domain.specs.State.{Alone}
 
 -- the entry was legal, and is the last of the journal now
 pub record Follows (old : DomainView) (entry : Entry) (new : DomainView) : Type 0 where

@@ -1,6 +1,5 @@
 -- The state of a domain by itself.
 use Rattle.std.specs.Prelude.{ℕ, ◌+◌, List, [], ◌∷◌, ◌++◌, map, filter, slice_set, slice_index_or, Option, Some, None}
-use Rattle.fab_types.specs.declared.head.Parties.{Parties}
 use Rattle.fab_types.specs.declared.place.Origin.{Origin}
 use Rattle.fab_types.specs.declared.status.Status.{Status}
 use Rattle.layout.specs.Share.{Share}
@@ -10,11 +9,7 @@ use Rattle.host_memory.specs.Pages.{zeroed}
 use Rattle.domain.specs.declared.counts.Counts.{Counts}
 use Rattle.function.specs.declared.tags.OpenTag.{OpenTag}
 use Rattle.domain.specs.Tags.{and_opened}
-
--- a packet that the domain made: its parties and its bytes
-pub record Emission : Type 0 where
-  pub parties : Parties
-  pub bytes : List ℕ
+use Rattle.disposition.specs.Emissions.{Emission}
 
 -- a completion that was delivered
 pub record Delivery : Type 0 where

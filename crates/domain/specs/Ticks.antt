@@ -13,7 +13,8 @@ use Rattle.layout.specs.Share.{Share}
 use Rattle.tlp_view.specs.Requests.{packet_bytes}
 use Rattle.domain.specs.Ends.{replied}
 use Rattle.domain.specs.RegisterPages.{changed}
-use Rattle.domain.specs.State.{Alone, Change, Emission, begun, with_registers}
+use Rattle.disposition.specs.Emissions.{Emission}
+use Rattle.domain.specs.State.{Alone, Change, begun, with_registers}
 
 -- the first refusal that applies, if one does
 abbrev pub tick_fault : Share → Alone → ℕ → Option TickFault

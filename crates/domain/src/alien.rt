@@ -7,7 +7,7 @@ ghost use Rattle.layout.specs.Share.{is_guarded};
 ghost use Rattle.domain.specs.declared.consume.EndFault.TheVariants as end;
 ghost use Rattle.domain.specs.Domains.{is_emitting};
 ghost use Rattle.domain.specs.Machine.{change};
-ghost use Rattle.domain.specs.Takers.{takes};
+ghost use Rattle.disposition.specs.Takers.{takes};
 
 use crate::consume::EndFault;
 use crate::domain::Domain;

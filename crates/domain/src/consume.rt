@@ -3,13 +3,12 @@
 ghost use Rattle.std.specs.Prelude.{◌≡◌, Some, None, IfOk, IfErr, OnErr, option_map};
 ghost use Rattle.domain.specs.Ends.{conclude};
 
-use crate::carriage::{carriage_to_function, carriage_to_host};
 use crate::deliver::Record;
 use crate::domain::Domain;
-use crate::ending::Ending;
 use crate::entry::Entry;
-use crate::fate::{Fate, first_port_fate};
-use crate::refusal::refusal_of;
+use disposition::{
+    Ending, Fate, carriage_to_function, carriage_to_host, first_port_fate, refusal_of,
+};
 use fab_types::{Parties, PortId};
 use frame_log::{Frame, FrameFault};
 use std::sync::Wait;
@@ -26,10 +25,10 @@ pub(crate) enum EndFault {
 impl Domain {
     ghost use Rattle.domain.specs.declared.entry.Entry.{Entry};
     ghost use Rattle.domain.specs.declared.entry.Entry.TheVariants.{Carry, Deliver, Refuse};
-    ghost use Rattle.domain.specs.Carries.{carriage_end, refusal_end};
+    ghost use Rattle.disposition.specs.Carries.{carriage_end, refusal_end};
     ghost use Rattle.domain.specs.Deliveries.{arrival};
     ghost use Rattle.domain.specs.Domains.{Delivers, EndsBy, IsEndFault, IsRefused, IsStray, Makes};
-    ghost use Rattle.domain.specs.Fates.{upward_fate};
+    ghost use Rattle.disposition.specs.Fates.{upward_fate};
     ghost use Rattle.domain.specs.State.{item_at};
 
     /// What the first port of its sender does with a packet in flight that a function sent; none where

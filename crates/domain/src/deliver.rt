@@ -4,8 +4,8 @@ ghost use Rattle.std.specs.Prelude.{◌≡◌, ◌≤◌, length, None};
 ghost use Rattle.tlp_view.specs.Malformed.{malformed};
 ghost use Rattle.domain.specs.Deliveries.{arrival_at, arrival_for, delivery_of, is_awaited, is_port, record_of_arrival};
 
-use crate::heads::origin_id;
 use arrayvec::ArrayVec;
+use disposition::origin_id;
 use fab_types::{Answerer, Origin, Status};
 use function::{OpenTag, is_open};
 use std::marker::Model;

@@ -1,11 +1,11 @@
 //! What a domain has in flight.
 
 ghost use Rattle.std.specs.Prelude.{◌≡◌, ◌≤◌, ◌++◌, ◌∷◌, [], Some, None, IfOk, OnErr, MatchOption, IfSome, length, slice_set};
-ghost use Rattle.domain.specs.Heads.{descriptor_of};
+ghost use Rattle.disposition.specs.Heads.{descriptor_of};
 ghost use Rattle.domain.specs.State.{item_at};
-ghost use Rattle.domain.specs.WellMade.{IsWellMade};
+ghost use Rattle.disposition.specs.WellMade.{IsWellMade};
 
-use crate::heads::head_of;
+use disposition::head_of;
 use fab_types::{DomainId, NoMemory, Parties};
 use frame_log::{Frame, Log, Token};
 use std::alloc::Global;
@@ -28,7 +28,7 @@ pub(crate) struct Flight {
 
 impl Model for Flight {
     ghost use Rattle.std.specs.Prelude.{List, Option};
-    ghost use Rattle.domain.specs.State.{Emission};
+    ghost use Rattle.disposition.specs.Emissions.{Emission};
 
     ghost Value = { List (Option Emission) };
 

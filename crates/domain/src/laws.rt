@@ -14,7 +14,7 @@ ghost use Rattle.domain.specs.Machine.{aliens_in, change, replay};
 ghost use Rattle.domain.specs.Orders.{IsPosted, KeepOrder};
 ghost use Rattle.domain.specs.Sent.{AreSent, Sent, sent, sent_by_entry};
 ghost use Rattle.domain.specs.State.{Alone, Change, item_at};
-ghost use Rattle.domain.specs.Takers.{is_at_port};
+ghost use Rattle.disposition.specs.Takers.{is_at_port};
 
 use crate::domain::Domain;
 

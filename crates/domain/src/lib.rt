@@ -3,27 +3,20 @@
 
 mod access;
 mod alien;
-mod answers;
 mod begin;
-mod carriage;
 mod conclude;
 mod consume;
 mod counts;
 mod deliver;
 mod domain;
-mod ending;
 mod entry;
-mod fate;
 mod flight;
-mod heads;
 mod laws;
 mod mmio;
 mod receive;
 mod reception;
-mod refusal;
 mod registers;
 mod replay;
-mod requests;
 mod same;
 mod state;
 mod submit;
@@ -34,9 +27,9 @@ mod tick;
 pub use access::{HostAccess, Operation};
 pub use counts::Counts;
 pub use deliver::Record;
+pub use disposition::Fate;
 pub use domain::Domain;
 pub use entry::Entry;
-pub use fate::Fate;
 pub use function::{OpenTag, TagUse};
 pub use laws::{
     begins_bound_what_is_emitted, emissions_are_consumed_once, equal_journals_leave_equal_states,

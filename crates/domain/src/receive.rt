@@ -7,14 +7,14 @@ ghost use Rattle.tlp_view.specs.Malformed.{malformed};
 ghost use Rattle.tlp_view.specs.Runs.{runs};
 ghost use Rattle.domain.specs.Aliens.{received};
 ghost use Rattle.domain.specs.Ends.{BytesFit, does, done, with_access, with_stored};
-ghost use Rattle.domain.specs.Heads.{descriptor_of};
+ghost use Rattle.disposition.specs.Heads.{descriptor_of};
 ghost use Rattle.domain.specs.Receptions.{IsReceivable};
 
 use crate::conclude::write_runs;
-use crate::ending::{Deed, Ending};
 use crate::reception::Reception;
 use crate::registers::access;
 use crate::state::State;
+use disposition::{Deed, Ending};
 use fab_types::{Bdf, DomainId, NoMemory};
 use frame_log::Frame;
 use std::sync::Wait;

@@ -5,17 +5,15 @@ ghost use Rattle.std.specs.List.{find};
 ghost use Rattle.fab_types.specs.Id.{host_of};
 ghost use Rattle.tlp_view.specs.Bytes.{packet_of};
 ghost use Rattle.tlp_view.specs.Malformed.{malformed};
-ghost use Rattle.domain.specs.Aliens.{answerer_of, at_function, at_host, at_port, completion_at_host, reception_at, reception_unless};
+ghost use Rattle.disposition.specs.Requests.{at_port};
+ghost use Rattle.domain.specs.Aliens.{answerer_of, at_function, at_host, completion_at_host, reception_at, reception_unless};
 
 use crate::deliver::{Arrival, arrival_at};
 use crate::domain::Domain;
-use crate::ending::Ending;
-use crate::heads::target_for;
-use crate::refusal::{discarded, refusal_at};
-use crate::requests::{or_discarded, request_at_function, request_at_host};
-use crate::taker::{Taker, taker_of};
+use disposition::{
+    Ending, Taker, at_port, discarded, request_at_function, request_at_host, taker_of, target_for,
+};
 use fab_types::{Answerer, Bdf, Origin, Parties, Place};
-use layout::PortLine;
 use tlp_view::TlpView;
 
 /// What becomes of an alien packet: it ends like one of the domain's own, or arrives as a completion.
@@ -32,16 +30,6 @@ fn answerer_of(sender: Parties) -> Answerer
         Parties::Upward(_) => Answerer::Function,
         Parties::Downward(_) => Answerer::Host,
         Parties::Answer(answerer, _) => answerer,
-    }
-}
-
-/// A port refuses what its own line refuses.
-fn at_port(port: &PortLine, bytes: &[u8], sender: Parties) -> Ending
-    ensures { result ≡ at_port port.now bytes.now sender }
-{
-    match sender {
-        Parties::Upward(function) => or_discarded(refusal_at(port, function, bytes)),
-        Parties::Downward(_) | Parties::Answer(..) => discarded(),
     }
 }
 

@@ -11,6 +11,7 @@ ghost use Rattle.domain.specs.Deliveries.{completed};
 ghost use Rattle.domain.specs.RegisterPages.{changed};
 ghost use Rattle.domain.specs.State.{first_registers};
 
+use disposition::place;
 use fab_types::{Bdf, NoMemory, Origin, Status};
 use function::{Function, OpenTag, Plan, TagUse};
 use layout::Start;
@@ -28,22 +29,6 @@ pub(crate) fn first_registers(alloc: Global, start: &Start) -> Result<Vec<Functi
         }
     }
     Ok(made)
-}
-
-fn position_of(functions: &[Function], id: Bdf) -> Option<usize>
-    ensures place { result ≡ position (λ page. page.0 == id) functions.now }
-    ensures id { IfSome result (λ at. (slice_index_or functions.now at (0, [])).0 ≡ id) }
-{
-    functions.iter().position(|function| function.id() == id)
-}
-
-/// Where this function stands.
-pub(crate) fn place(functions: &[Function], id: Bdf) -> Option<usize>
-    ensures place { result ≡ position (λ page. page.0 == id) functions.now }
-    ensures id { IfSome result (λ at. (slice_index_or functions.now at (0, [])).0 ≡ id) }
-    ensures page { page_of functions.now id ≡ option_map (λ at. (slice_index_or functions.now at (0, [])).1) result }
-{
-    position_of(functions, id)
 }
 
 /// The register page of this function.

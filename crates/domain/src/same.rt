@@ -58,9 +58,7 @@ fn same_entry(one: &Entry, other: &Entry) -> bool
         (Entry::Carry(one), Entry::Carry(other)) => *one == *other,
         (Entry::Deliver(one), Entry::Deliver(other)) => *one == *other,
         (Entry::Alien(one, sender, bytes), Entry::Alien(other, another, others)) => {
-            same_place(*one, *other)
-                && same_parties(*sender, *another)
-                && same_bytes(bytes, others)
+            same_place(*one, *other) && same_parties(*sender, *another) && same_bytes(bytes, others)
         }
         _ => false,
     }

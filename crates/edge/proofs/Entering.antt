@@ -11,7 +11,7 @@ use Rattle.domain.specs.declared.entry.Entry.{Entry}
 use Rattle.domain.specs.declared.entry.Entry.TheVariants.{Alien}
 use Rattle.domain.specs.Domains.{DomainView}
 use Rattle.domain.specs.Machine.{aliens_in, with_alien}
-use Rattle.domain.specs.State.{Emission}
+use Rattle.disposition.specs.Emissions.{Emission}
 use Rattle.outboxes.specs.Outboxes.{BoxView, changed, has_place, with_more, with_put}
 use Rattle.tenants.specs.Aliens.{aliened, aliened_by, flown}
 use Rattle.tenants.specs.Tenants.{Made, domain_at, made_at, place_of, place_of_function}

@@ -18,7 +18,8 @@ use Rattle.domain.proofs.Keeping.{replays_more}
 use Rattle.domain.specs.declared.entry.Entry.{Entry}
 use Rattle.domain.specs.Domains.{DomainView}
 use Rattle.domain.specs.Machine.{aliens_in, change, replay, with_alien}
-use Rattle.domain.specs.State.{Change, Emission}
+use Rattle.disposition.specs.Emissions.{Emission}
+use Rattle.domain.specs.State.{Change}
 use Rattle.outboxes.proofs.Changing.{changed_there, others_stay}
 use Rattle.outboxes.specs.Outboxes.{BoxView, changed, has_place, has_place_in, with_put}
 use Rattle.tenants.specs.Tenants.{Made, after, made_at, made_by, made_of, place_of, place_of_function}

@@ -11,8 +11,9 @@ use Rattle.layout.specs.declared.lines.PortLine.{PortLine}
 use Rattle.layout.specs.Share.{Share, is_guarded as is_guarded_share, is_guarded_port}
 use Rattle.domain.specs.declared.entry.Entry.TheVariants.{Alien}
 use Rattle.domain.specs.Aliens.{alien, received_if, reception_by}
-use Rattle.domain.specs.State.{Alone, Change, Emission}
-use Rattle.domain.specs.Takers.{taker_of}
+use Rattle.disposition.specs.Emissions.{Emission}
+use Rattle.domain.specs.State.{Alone, Change}
+use Rattle.disposition.specs.Takers.{taker_of}
 use Rattle.domain.specs.Domains.{DomainView}
 use Rattle.edge.specs.Edges.{Outbox, emitted_if, home_of, joined, outbox_place}
 use Rattle.link.specs.Channels.{Channel}

@@ -10,7 +10,8 @@ use Rattle.domain.specs.Consumed.{consumes, times_consumed}
 use Rattle.domain.specs.Domains.{DomainView}
 use Rattle.domain.specs.Orders.{IsPosted}
 use Rattle.domain.specs.Sent.{Sent, sent}
-use Rattle.domain.specs.State.{Emission, item_at}
+use Rattle.disposition.specs.Emissions.{Emission}
+use Rattle.domain.specs.State.{item_at}
 use Rattle.domain.specs.declared.entry.Entry.{Entry}
 use Rattle.domain.proofs.Consuming.{consumed_once}
 use Rattle.domain.proofs.Sending.{are_sent}

@@ -18,17 +18,18 @@ use Rattle.tlp_view.specs.Kinds.{class_of_kind}
 use Rattle.tlp_view.specs.Malformed.{malformed}
 use Rattle.tlp_view.specs.Packet.{Packet}
 use Rattle.domain.specs.declared.entry.Entry.TheVariants.{Refuse}
-use Rattle.domain.specs.declared.fate.Fate.{Fate}
-use Rattle.domain.specs.declared.fate.Fate.TheVariants.{Vanish, Refused, ToHost}
-use Rattle.domain.specs.Answers.{port_answer}
-use Rattle.domain.specs.Carries.{port_id, refusal_by, refusal_of}
+use Rattle.disposition.specs.declared.fate.Fate.{Fate}
+use Rattle.disposition.specs.declared.fate.Fate.TheVariants.{Vanish, Refused, ToHost}
+use Rattle.disposition.specs.Answers.{port_answer}
+use Rattle.disposition.specs.Carries.{port_id, refusal_by, refusal_of}
 use Rattle.domain.specs.Domains.{DomainView}
 use Rattle.domain.specs.Ends.{conclude}
-use Rattle.domain.specs.Fates.{fate, fate_below, fate_unless, packet_fate, stopped}
-use Rattle.domain.specs.Heads.{descriptor_of}
+use Rattle.disposition.specs.Fates.{fate, fate_below, fate_unless, packet_fate, stopped}
+use Rattle.disposition.specs.Heads.{descriptor_of}
 use Rattle.domain.specs.Machine.{change, refuse}
 use Rattle.domain.proofs.PortAnswers.{answer_class}
-use Rattle.domain.specs.State.{Alone, Change, Emission, item_at}
+use Rattle.disposition.specs.Emissions.{Emission}
+use Rattle.domain.specs.State.{Alone, Change, item_at}
 use Rattle.port.specs.Lanes.{class_of}
 use Rattle.tenants.specs.Tenants.{Made, domain_at, made, made_at, made_by, made_of, place_of}
 use Rattle.fabric_core.specs.Places.{IsFlown, flown_by}

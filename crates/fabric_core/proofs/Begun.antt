@@ -22,7 +22,8 @@ use Rattle.domain.specs.declared.entry.Entry.{Entry}
 use Rattle.domain.specs.declared.entry.Entry.TheVariants as entry
 use Rattle.domain.specs.Domains.{DomainView}
 use Rattle.domain.specs.Machine.{change}
-use Rattle.domain.specs.State.{Change, Emission}
+use Rattle.disposition.specs.Emissions.{Emission}
+use Rattle.domain.specs.State.{Change}
 use Rattle.link.specs.Channels.{Channel, is_full, receive, send, tell}
 use Rattle.port.specs.declared.course.Course.{Course}
 use Rattle.port.specs.declared.course.Course.TheVariants.{Forward, Stop, Stray}

@@ -9,7 +9,7 @@ use Rattle.frame_log.specs.Descriptor.{Descriptor}
 use Rattle.domain.specs.declared.entry.Entry.{Entry}
 use Rattle.domain.specs.declared.entry.Entry.TheVariants.{Carry, Deliver}
 use Rattle.domain.specs.Domains.{DomainView}
-use Rattle.domain.specs.Heads.{descriptor_of}
+use Rattle.disposition.specs.Heads.{descriptor_of}
 use Rattle.domain.specs.Machine.{change}
 use Rattle.domain.specs.State.{Change}
 use Rattle.edge.specs.Edges.{EdgeView, carried_by_function, carried_by_host, delivered, emitted_if, is_function_of, is_of_domain, joined, outbox_place}

@@ -8,7 +8,8 @@ use Rattle.domain.specs.Consumed.{consumes, is_in_order, times_consumed, times_w
 use Rattle.domain.specs.Domains.{DomainView}
 use Rattle.domain.specs.Machine.{change, replay}
 use Rattle.domain.specs.Sent.{Sent, sent, sent_of, source}
-use Rattle.domain.specs.State.{Alone, Change, Emission, item_at}
+use Rattle.disposition.specs.Emissions.{Emission}
+use Rattle.domain.specs.State.{Alone, Change, item_at}
 use Rattle.domain.specs.declared.entry.Entry.{Entry}
 use Rattle.domain.specs.declared.entry.Entry.TheVariants.{Deliver}
 use Rattle.domain.proofs.Consuming.{consumed_needs, consumed_once}

@@ -11,12 +11,13 @@ use Rattle.function.specs.Plans.{plan_of}
 use Rattle.layout.specs.Share.{Share}
 use Rattle.domain.specs.declared.access.HostAccess.{HostAccess}
 use Rattle.domain.specs.declared.entry.Entry.TheVariants.{Alien, Carry, Deliver, Mmio, Refuse, Submit, Tick}
-use Rattle.domain.specs.Answers.{bar_of}
+use Rattle.disposition.specs.Answers.{bar_of}
 use Rattle.domain.specs.Deliveries.{arrival, arrived}
 use Rattle.domain.specs.Ends.{replied}
 use Rattle.domain.specs.HostAccesses.{mmio_fault, mmio_unless, mmio_with, tag_for}
 use Rattle.domain.specs.Machine.{change}
-use Rattle.domain.specs.State.{Alone, Change, Emission, emits_nothing, item_at, without}
+use Rattle.disposition.specs.Emissions.{Emission}
+use Rattle.domain.specs.State.{Alone, Change, emits_nothing, item_at, without}
 use Rattle.domain.specs.Submits.{submit_fault, submit_unless}
 use Rattle.domain.specs.Ticks.{sent_by, tick_fault, tick_unless, ticked, ticks, ticks_by}
 use Rattle.domain.proofs.Leaving.{alien_flight, carry_flight, deliver_flight, joined, refuse_flight}

@@ -11,8 +11,9 @@ use Rattle.layout.specs.Share.{Share, is_guarded}
 use Rattle.domain.specs.declared.entry.Entry.TheVariants.{Alien}
 use Rattle.domain.specs.Aliens.{alien, received_if, reception_by}
 use Rattle.domain.specs.Domains.{DomainView}
-use Rattle.domain.specs.State.{Alone, Emission}
-use Rattle.domain.specs.Takers.{taker_of}
+use Rattle.disposition.specs.Emissions.{Emission}
+use Rattle.domain.specs.State.{Alone}
+use Rattle.disposition.specs.Takers.{taker_of}
 use Rattle.edge.specs.Edges.{EdgeView, emitted_if}
 use Rattle.hierarchy.specs.declared.lost.Lost.{Lost}
 use Rattle.hierarchy.specs.Lost.{lost_among}

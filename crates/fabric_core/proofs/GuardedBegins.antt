@@ -10,10 +10,11 @@ use Rattle.domain.specs.declared.access.HostAccess.{HostAccess}
 use Rattle.domain.specs.declared.entry.Entry.{Entry}
 use Rattle.domain.specs.declared.entry.Entry.TheVariants.{Mmio, Submit, Tick}
 use Rattle.domain.specs.Domains.{DomainView}
-use Rattle.domain.specs.Heads.{descriptor_of}
+use Rattle.disposition.specs.Heads.{descriptor_of}
 use Rattle.domain.specs.Machine.{change}
-use Rattle.domain.specs.State.{Alone, Change, Emission}
-use Rattle.domain.specs.WellMade.{IsWellMade}
+use Rattle.disposition.specs.Emissions.{Emission}
+use Rattle.domain.specs.State.{Alone, Change}
+use Rattle.disposition.specs.WellMade.{IsWellMade}
 use Rattle.edge.specs.Edges.{accessed, emitted, emitted_if, submitted, ticked}
 use Rattle.passage.specs.Sound.{IsSound}
 use Rattle.passage.proofs.Begins.{accesses_down, submits, ticks_up}

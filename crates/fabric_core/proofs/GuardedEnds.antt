@@ -11,10 +11,11 @@ use Rattle.layout.specs.Views.{share_of_domain}
 use Rattle.domain.specs.declared.entry.Entry.{Entry}
 use Rattle.domain.specs.declared.entry.Entry.TheVariants.{Carry, Deliver}
 use Rattle.domain.specs.Domains.{DomainView}
-use Rattle.domain.specs.Heads.{descriptor_of}
+use Rattle.disposition.specs.Heads.{descriptor_of}
 use Rattle.domain.specs.Machine.{change}
-use Rattle.domain.specs.State.{Alone, Change, Emission}
-use Rattle.domain.specs.WellMade.{IsWellMade}
+use Rattle.disposition.specs.Emissions.{Emission}
+use Rattle.domain.specs.State.{Alone, Change}
+use Rattle.disposition.specs.WellMade.{IsWellMade}
 use Rattle.edge.specs.Edges.{Outbox, delivered, emitted_if, joined}
 use Rattle.link.specs.Channels.{Channel}
 use Rattle.port.specs.Lanes.{Class, eligible}

@@ -27,12 +27,12 @@ use Rattle.tlp_view.specs.Costs.{cost_unless}
 use Rattle.tlp_view.specs.Kinds.{class_of_kind, is_completion, is_memory}
 use Rattle.tlp_view.specs.Malformed.{malformed}
 use Rattle.tlp_view.specs.Packet.{Packet, address_in}
-use Rattle.domain.specs.declared.fate.Fate.TheVariants.{ToHost}
-use Rattle.domain.specs.declared.fate.Fate.{Fate}
-use Rattle.domain.specs.Fates.{fate, fate_below, fate_unless, packet_fate}
-use Rattle.domain.specs.Heads.{head_of, header_unless, packet_header, target_for}
+use Rattle.disposition.specs.declared.fate.Fate.TheVariants.{ToHost}
+use Rattle.disposition.specs.declared.fate.Fate.{Fate}
+use Rattle.disposition.specs.Fates.{fate, fate_below, fate_unless, packet_fate}
+use Rattle.disposition.specs.Heads.{head_of, header_unless, packet_header, target_for}
 use Rattle.domain.specs.Orders.{IsPosted}
-use Rattle.domain.specs.State.{Emission}
+use Rattle.disposition.specs.Emissions.{Emission}
 use Rattle.port.specs.Configs.{downstream_config}
 use Rattle.port.specs.Courses.{course_of}
 use Rattle.port.specs.declared.course.Course.TheVariants.{Forward, Stop}

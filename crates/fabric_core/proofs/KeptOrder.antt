@@ -25,10 +25,10 @@ use Rattle.fab_types.specs.declared.class.Class.TheVariants.{Posted}
 use Rattle.fab_types.specs.declared.violation.Violation.{Violation}
 use Rattle.passage.proofs.Trees.{IsPort}
 use Rattle.domain.specs.Domains.{DomainView}
-use Rattle.domain.specs.Heads.{head_of}
+use Rattle.disposition.specs.Heads.{head_of}
 use Rattle.domain.specs.Orders.{FromFunction, FromHost, IsCompletion, IsPassed, IsTo, IsUnrelaxed, IsPosted}
 use Rattle.domain.specs.Sent.{Sent}
-use Rattle.domain.specs.State.{Emission}
+use Rattle.disposition.specs.Emissions.{Emission}
 use Rattle.edge.specs.Edges.{Outbox as Box, outbox_place, waiting_at, waiting_in as waiting_found}
 use Rattle.topology.specs.Links.{sender_of}
 use Rattle.topology.specs.declared.nodes.LinkEnd.{LinkEnd}

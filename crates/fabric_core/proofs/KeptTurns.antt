@@ -11,7 +11,8 @@ use Rattle.domain.specs.Domains.{DomainView}
 use Rattle.domain.specs.Machine.{replay}
 use Rattle.domain.specs.Orders.{DownFromHost, IsPosted, KeepOrder, UpFromFunction}
 use Rattle.domain.specs.Sent.{Sent, sent}
-use Rattle.domain.specs.State.{Emission, item_at}
+use Rattle.disposition.specs.Emissions.{Emission}
+use Rattle.domain.specs.State.{item_at}
 use Rattle.domain.proofs.OneOutbox.{first_posted}
 use Rattle.domain.proofs.Sending.{are_sent}
 use Rattle.passage.proofs.Agreement.{RoutesUp}

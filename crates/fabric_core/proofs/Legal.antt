@@ -9,7 +9,7 @@ use Rattle.layout.specs.Owners.{is_own_function}
 use Rattle.layout.specs.Share.{Share}
 use Rattle.domain.specs.declared.access.HostAccess.{HostAccess}
 use Rattle.domain.specs.declared.entry.Entry.TheVariants as entry
-use Rattle.domain.specs.Answers.{bar_of}
+use Rattle.disposition.specs.Answers.{bar_of}
 use Rattle.domain.specs.Domains.{DomainView}
 use Rattle.domain.specs.HostAccesses.{is_in_page, mmio_fault, mmio_with, size_of, tag_for}
 use Rattle.domain.specs.Machine.{change}

@@ -8,10 +8,11 @@ use Rattle.fab_types.specs.declared.place.Place.{Place}
 use Rattle.frame_log.specs.Descriptor.{Descriptor}
 use Rattle.domain.specs.declared.entry.Entry.TheVariants.{Alien}
 use Rattle.domain.specs.Domains.{DomainView}
-use Rattle.domain.specs.Heads.{descriptor_of}
+use Rattle.disposition.specs.Heads.{descriptor_of}
 use Rattle.domain.specs.Machine.{change}
-use Rattle.domain.specs.State.{Change, Emission}
-use Rattle.domain.specs.Takers.{is_at_port}
+use Rattle.disposition.specs.Emissions.{Emission}
+use Rattle.domain.specs.State.{Change}
+use Rattle.disposition.specs.Takers.{is_at_port}
 use Rattle.domain.proofs.PortAnswers.{IsReply, port_replies}
 use Rattle.tenants.specs.Aliens.{aliened, aliened_by, flown}
 use Rattle.tenants.specs.Tenants.{domain_at, made_at, made_by, made_of, place_of}

@@ -11,10 +11,11 @@ use Rattle.frame_log.specs.Descriptor.{Descriptor}
 use Rattle.layout.specs.Share.{Share}
 use Rattle.domain.specs.Consumed.{consumes}
 use Rattle.domain.specs.Domains.{DomainView}
-use Rattle.domain.specs.Heads.{descriptor_of}
+use Rattle.disposition.specs.Heads.{descriptor_of}
 use Rattle.domain.specs.Machine.{change}
 use Rattle.domain.specs.Sent.{Sent, carrier, sent, sent_of, source, source_of_carried}
-use Rattle.domain.specs.State.{Emission, item_at}
+use Rattle.disposition.specs.Emissions.{Emission}
+use Rattle.domain.specs.State.{item_at}
 use Rattle.domain.specs.declared.entry.Entry.{Entry}
 use Rattle.domain.specs.declared.entry.Entry.TheVariants.{Carry, Deliver, Refuse}
 use Rattle.domain.proofs.OneOutbox.{one_outbox}

@@ -7,10 +7,11 @@ use Rattle.fab_types.specs.declared.place.Origin.TheVariants as origin
 use Rattle.frame_log.specs.Descriptor.{Descriptor}
 use Rattle.layout.specs.Share.{Share}
 use Rattle.domain.specs.Domains.{DomainView}
-use Rattle.domain.specs.Heads.{descriptor_of}
+use Rattle.disposition.specs.Heads.{descriptor_of}
 use Rattle.domain.specs.Machine.{change}
 use Rattle.domain.specs.Sent.{Sent, carrier, sent, sent_of, source, source_of_carried}
-use Rattle.domain.specs.State.{Emission, item_at}
+use Rattle.disposition.specs.Emissions.{Emission}
+use Rattle.domain.specs.State.{item_at}
 use Rattle.domain.specs.declared.entry.Entry.{Entry}
 use Rattle.domain.specs.declared.entry.Entry.TheVariants.{Carry}
 use Rattle.domain.proofs.Sending.{are_sent, sent_after}

@@ -18,7 +18,8 @@ use Rattle.domain.specs.Consumed.{consumes, is_in_order, times_consumed, times_w
 use Rattle.domain.specs.Domains.{DomainView}
 use Rattle.domain.specs.Orders.{DownFromHost, IsTo, KeepOrder, UpFromFunction}
 use Rattle.domain.specs.Sent.{Sent, sent}
-use Rattle.domain.specs.State.{Emission, item_at}
+use Rattle.disposition.specs.Emissions.{Emission}
+use Rattle.domain.specs.State.{item_at}
 use Rattle.domain.specs.declared.entry.Entry.{Entry}
 use Rattle.domain.proofs.Consuming.{consumed_once}
 use Rattle.domain.proofs.InTurn.{in_order_after}

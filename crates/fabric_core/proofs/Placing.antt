@@ -7,8 +7,9 @@ use Rattle.std.proofs.lemmas.List.Sums.{get_or-le-sum_by}
 use Rattle.std.proofs.lemmas.List.{length-set}
 use Rattle.frame_log.specs.Descriptor.{Descriptor}
 use Rattle.domain.specs.Domains.{DomainView}
-use Rattle.domain.specs.Heads.{descriptor_of}
-use Rattle.domain.specs.State.{Emission, item_at}
+use Rattle.disposition.specs.Heads.{descriptor_of}
+use Rattle.disposition.specs.Emissions.{Emission}
+use Rattle.domain.specs.State.{item_at}
 use Rattle.domain.proofs.Leaving.{joined}
 use Rattle.domain.specs.Consumed.{times_waiting}
 use Rattle.fabric_core.specs.Places.{IsFlown, flown, is_numbered}

@@ -16,7 +16,8 @@ use Rattle.layout.specs.Owners.{is_own_function}
 use Rattle.domain.specs.declared.entry.Entry.{Entry}
 use Rattle.domain.specs.Domains.{DomainView}
 use Rattle.domain.specs.Machine.{change}
-use Rattle.domain.specs.State.{Change, Emission, item_at}
+use Rattle.disposition.specs.Emissions.{Emission}
+use Rattle.domain.specs.State.{Change, item_at}
 use Rattle.edge.specs.Edges.{EdgeView, IsSettled, Outbox, home_of, joined, outbox_place, with_waiting_at, with_waiting_in}
 use Rattle.tenants.specs.Tenants.{Made, after, domain_at, made_at, made_by, made_of, place_of, place_of_function}
 use Rattle.fabric_core.specs.Invariant.{HasPorts}

@@ -11,10 +11,11 @@ use Rattle.layout.specs.Share.{Share}
 use Rattle.layout.specs.Views.{share_of_domain}
 use Rattle.domain.specs.declared.entry.Entry.{Entry}
 use Rattle.domain.specs.Domains.{DomainView}
-use Rattle.domain.specs.Heads.{descriptor_of}
+use Rattle.disposition.specs.Heads.{descriptor_of}
 use Rattle.domain.specs.Machine.{change}
-use Rattle.domain.specs.State.{Change, Emission, item_at}
-use Rattle.domain.specs.WellMade.{IsWellMade}
+use Rattle.disposition.specs.Emissions.{Emission}
+use Rattle.domain.specs.State.{Change, item_at}
+use Rattle.disposition.specs.WellMade.{IsWellMade}
 use Rattle.domain.proofs.Keeping.{replays_more}
 use Rattle.domain.proofs.Leaving.{joined}
 use Rattle.passage.specs.Ends.{Flies, IsLegal}

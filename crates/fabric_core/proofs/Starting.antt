@@ -19,7 +19,8 @@ use Rattle.port.specs.Configs.{Config, downstream_config, is_of_port, upstream_c
 use Rattle.port.specs.declared.config.Exit.{Exit}
 use Rattle.port.specs.Turns.{PortView}
 use Rattle.domain.specs.Domains.{DomainView}
-use Rattle.domain.specs.State.{Emission, item_at}
+use Rattle.disposition.specs.Emissions.{Emission}
+use Rattle.domain.specs.State.{item_at}
 use Rattle.outboxes.specs.Outboxes.{BoxView, boxes_of}
 use Rattle.tenants.specs.Tenants.{domain_at, fresh, place_of, tenants_among, tenants_of}
 use Rattle.topology.specs.Nodes.{ports_on}

@@ -44,21 +44,22 @@ use Rattle.tlp_view.specs.Runs.{is_write, runs}
 use Rattle.domain.specs.declared.access.HostAccess.{HostAccess}
 use Rattle.domain.specs.declared.entry.Entry.{Entry}
 use Rattle.domain.specs.declared.entry.Entry.TheVariants.{Alien, Carry, Deliver, Mmio, Refuse, Submit, Tick}
-use Rattle.domain.specs.declared.fate.Fate.{Fate}
-use Rattle.domain.specs.declared.fate.Fate.TheVariants.{Vanish, Refused, ToHost}
-use Rattle.domain.specs.Answers.{address_of, answered_by, bar_of, forwarded, function_answer, host_data, host_refusal, page_at, port_answer, shown}
-use Rattle.domain.specs.Carries.{access_of, carriage_by, carriage_of, forward, is_carried, port_id, read_from, refusal_by, refusal_of, refused_by_host, serve, serve_read, write_to}
+use Rattle.disposition.specs.declared.fate.Fate.{Fate}
+use Rattle.disposition.specs.declared.fate.Fate.TheVariants.{Vanish, Refused, ToHost}
+use Rattle.disposition.specs.Answers.{address_of, answered_by, bar_of, forwarded, function_answer, host_data, host_refusal, page_at, port_answer, shown}
+use Rattle.disposition.specs.Carries.{access_of, carriage_by, carriage_of, forward, is_carried, port_id, read_from, refusal_by, refusal_of, refused_by_host, serve, serve_read, write_to}
 use Rattle.domain.specs.Deliveries.{arrival_of, arrived, completed, delivery_of, is_awaited, recorded, unexpected, use_of}
 use Rattle.domain.specs.Domains.{DomainView}
 use Rattle.domain.specs.Ends.{conclude, replied, with_access}
-use Rattle.domain.specs.Fates.{fate, fate_below, fate_unless, stopped}
+use Rattle.disposition.specs.Fates.{fate, fate_below, fate_unless, stopped}
 use Rattle.domain.specs.HostAccesses.{host_emission, is_in_page, mmio_fault, mmio_unless, mmio_with, size_of, tag_for}
 use Rattle.domain.specs.Machine.{carry, change, deliver, refuse}
-use Rattle.domain.specs.State.{Alone, Change, Delivery, Emission, emits_nothing, item_at, without}
+use Rattle.disposition.specs.Emissions.{Emission}
+use Rattle.domain.specs.State.{Alone, Change, Delivery, emits_nothing, item_at, without}
 use Rattle.domain.specs.Submits.{submit_fault, submit_unless}
 use Rattle.domain.specs.Ticks.{sent_by, tick_fault, tick_unless, ticked, ticks}
-use Rattle.domain.specs.WellMade.{IsWellMade}
-use Rattle.domain.proofs.WellMadeLemmas.{is_an_access, write_access}
+use Rattle.disposition.specs.WellMade.{IsWellMade}
+use Rattle.disposition.proofs.WellMadeLemmas.{is_an_access, write_access}
 use Rattle.passage.specs.Guarded.{IsFunctionOf, IsGuarded}
 use Rattle.passage.proofs.Begins.{low_at}
 use Rattle.passage.proofs.Homes.{peer_of}

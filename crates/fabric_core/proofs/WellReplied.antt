@@ -31,9 +31,9 @@ use Rattle.tlp_view.proofs.Sound.{well_formed_sound}
 use Rattle.tlp_view.proofs.WellFormed.{packet-kind, view_of}
 use Rattle.domain.specs.declared.access.Operation.{Operation}
 use Rattle.domain.specs.declared.access.Operation.TheVariants.{Read, Write}
-use Rattle.domain.specs.Answers.{address_of, blank, page_at, reads_nothing, shown}
+use Rattle.disposition.specs.Answers.{address_of, blank, page_at, reads_nothing, shown}
 use Rattle.domain.specs.HostAccesses.{head_for, host_request, is_in_page, size_of}
-use Rattle.domain.specs.WellMade.{IsWellMade}
+use Rattle.disposition.specs.WellMade.{IsWellMade}
 use Rattle.fabric_core.specs.Soundness.{IsPage}
 use Rattle.fabric_core.proofs.WellSpelled.{all_fits, made_access, moved_access, moved_well, read_well, refusal_well}
 

@@ -7,7 +7,7 @@ use Rattle.fab_types.specs.declared.class.Class.{Class}
 use Rattle.fab_types.specs.declared.class.Class.TheVariants.{Completion}
 use Rattle.fab_types.specs.declared.place.Place.{Place}
 use Rattle.domain.specs.Domains.{DomainView}
-use Rattle.domain.specs.Takers.{is_at_port}
+use Rattle.disposition.specs.Takers.{is_at_port}
 use Rattle.link.specs.Channels.{is_full}
 use Rattle.tenants.specs.Aliens.{aliened, answers}
 use Rattle.tenants.specs.Tenants.{Made, domain_at, place_of}

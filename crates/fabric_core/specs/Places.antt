@@ -3,9 +3,10 @@ use Rattle.std.specs.Prelude.{◌≡◌, ℕ, ◌==◌, Bool, true, ◌&&◌, Li
 use Rattle.std.specs.List.{flat_map}
 use Rattle.frame_log.specs.Descriptor.{Descriptor}
 use Rattle.domain.specs.Domains.{DomainView}
-use Rattle.domain.specs.Heads.{descriptor_of}
+use Rattle.disposition.specs.Heads.{descriptor_of}
 use Rattle.domain.specs.Consumed.{AreConsumedOnce, times_waiting}
-use Rattle.domain.specs.State.{Emission, item_at}
+use Rattle.disposition.specs.Emissions.{Emission}
+use Rattle.domain.specs.State.{item_at}
 use Rattle.edge.specs.Edges.{Outbox}
 use Rattle.link.specs.Channels.{Channel}
 use Rattle.port.specs.Turns.{PortView}

@@ -9,8 +9,8 @@ use Rattle.layout.specs.Platform.{Platform}
 use Rattle.layout.specs.Share.{Share}
 use Rattle.domain.specs.Domains.{DomainView}
 use Rattle.domain.specs.Machine.{replay}
-use Rattle.domain.specs.State.{Emission}
-use Rattle.domain.specs.WellMade.{IsWellMade}
+use Rattle.disposition.specs.Emissions.{Emission}
+use Rattle.disposition.specs.WellMade.{IsWellMade}
 use Rattle.edge.specs.Edges.{waiting_of}
 use Rattle.port.specs.Configs.{Config}
 use Rattle.port.specs.Turns.{PortView}

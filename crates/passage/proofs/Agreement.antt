@@ -38,10 +38,10 @@ use Rattle.acs.specs.Redirection.{redirected}
 use Rattle.port.specs.declared.course.Course.TheVariants.{Forward, Stop}
 use Rattle.port.specs.Configs.{Config}
 use Rattle.port.specs.Courses.{course_at, course_of, stopped, tested, up_by, reported_by}
-use Rattle.domain.specs.declared.fate.Fate.{Fate}
-use Rattle.domain.specs.declared.fate.Fate.TheVariants.{ToHost}
-use Rattle.domain.specs.Fates as fates
-use Rattle.domain.specs.Heads.{head_of, header_unless, packet_header}
+use Rattle.disposition.specs.declared.fate.Fate.{Fate}
+use Rattle.disposition.specs.declared.fate.Fate.TheVariants.{ToHost}
+use Rattle.disposition.specs.Fates as fates
+use Rattle.disposition.specs.Heads.{head_of, header_unless, packet_header}
 use Rattle.passage.specs.Dispositions.{IsGuardedFirst, by_fate, check_of, report_at, sent_by}
 
 -- whatever the class, what isn't for the host is stopped

@@ -40,15 +40,16 @@ use Rattle.domain.specs.declared.access.HostAccess.{HostAccess}
 use Rattle.domain.specs.declared.access.Operation.{Operation as Access}
 use Rattle.domain.specs.declared.access.Operation.TheVariants as access
 use Rattle.domain.specs.declared.entry.Entry.TheVariants.{Submit, Tick, Mmio}
-use Rattle.domain.specs.Answers.{bar_of, page_at}
-use Rattle.domain.specs.Heads.{descriptor_of, header_unless, packet_header}
+use Rattle.disposition.specs.Answers.{bar_of, page_at}
+use Rattle.disposition.specs.Heads.{descriptor_of, header_unless, packet_header}
 use Rattle.domain.specs.HostAccesses.{host_emission, host_request, is_in_page, mmio_fault, mmio_unless, mmio_with, size_of, tag_for}
 use Rattle.domain.specs.Machine.{change}
-use Rattle.domain.specs.State.{Alone, Change, Emission}
+use Rattle.disposition.specs.Emissions.{Emission}
+use Rattle.domain.specs.State.{Alone, Change}
 use Rattle.domain.specs.Submits.{submit_fault, submit_unless}
 use Rattle.domain.specs.Tags.{completes, is_completion_unless}
 use Rattle.domain.specs.Ticks.{sent_by, tick_fault, tick_unless, ticks, ticks_by}
-use Rattle.domain.specs.WellMade.{IsWellMade}
+use Rattle.disposition.specs.WellMade.{IsWellMade}
 use Rattle.passage.specs.Guarded.{IsFunctionOf, IsGuarded, holds_if_any, top_id}
 use Rattle.passage.specs.Sound.{Falling, IsMeantFor, Reaches, Rising, is_reply}
 use Rattle.passage.proofs.Finds.{find_all, some, some_is}

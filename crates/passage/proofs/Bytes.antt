@@ -14,9 +14,9 @@ use Rattle.tlp_view.specs.Bytes.{packet_of}
 use Rattle.tlp_view.specs.Kinds.{is_completion, is_memory}
 use Rattle.tlp_view.specs.Malformed.{malformed}
 use Rattle.tlp_view.specs.Packet.{Packet, address_in}
-use Rattle.domain.specs.declared.fate.Fate.TheVariants.{ToHost}
-use Rattle.domain.specs.Fates as fates
-use Rattle.domain.specs.Heads.{header_unless, target_for}
+use Rattle.disposition.specs.declared.fate.Fate.TheVariants.{ToHost}
+use Rattle.disposition.specs.Fates as fates
+use Rattle.disposition.specs.Heads.{header_unless, target_for}
 use Rattle.passage.proofs.Ports.{Set, and_false}
 
 -- the bytes of a memory request

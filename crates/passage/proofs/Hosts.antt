@@ -25,15 +25,16 @@ use Rattle.tlp_view.specs.Bytes.{packet_of}
 use Rattle.tlp_view.specs.Packet.{Packet, dw_count}
 use Rattle.tlp_view.specs.Runs.{is_write}
 use Rattle.domain.specs.declared.entry.Entry.TheVariants.{Carry, Deliver}
-use Rattle.domain.specs.declared.fate.Fate.TheVariants.{ToHost}
-use Rattle.domain.specs.Answers.{address_of, bar_of}
-use Rattle.domain.specs.Carries.{carriage_by, carriage_of, forward, is_carried, is_owner, read_from, refused_by_host, serve, serve_read, write_to}
+use Rattle.disposition.specs.declared.fate.Fate.TheVariants.{ToHost}
+use Rattle.disposition.specs.Answers.{address_of, bar_of}
+use Rattle.disposition.specs.Carries.{carriage_by, carriage_of, forward, is_carried, is_owner, read_from, refused_by_host, serve, serve_read, write_to}
 use Rattle.domain.specs.Deliveries.{arrival_of}
 use Rattle.domain.specs.Ends.{conclude}
-use Rattle.domain.specs.Fates as fates
-use Rattle.domain.specs.Heads.{head_of}
+use Rattle.disposition.specs.Fates as fates
+use Rattle.disposition.specs.Heads.{head_of}
 use Rattle.domain.specs.Machine.{carry, deliver}
-use Rattle.domain.specs.State.{Alone, Emission}
+use Rattle.disposition.specs.Emissions.{Emission}
+use Rattle.domain.specs.State.{Alone}
 use Rattle.passage.specs.Ends.{Flies, IsFor, IsLegal, IsOwnRequest}
 use Rattle.passage.specs.Guarded.{IsFunctionOf, IsGuarded, has_id, top_id}
 use Rattle.passage.specs.Sound.{Falling, IsCleared, Reaches, Replying, Rising, is_reply}

@@ -33,18 +33,19 @@ use Rattle.tlp_view.specs.Packet.{Body, Memory, Packet, dw_count}
 use Rattle.tlp_view.specs.Requests.{is_high, moved, moved_body, packet_bytes}
 use Rattle.tlp_view.specs.Runs.{is_write}
 use Rattle.tlp_view.proofs.Again.{body_memory}
-use Rattle.domain.specs.Answers.{address_of, answered_by, bar_of, forwarded, function_answer, host_data, host_refusal, page_at, port_answer, shown}
-use Rattle.domain.specs.Carries.{access_of, carriage_of, forward, port_id, read_from, refusal_by, refusal_of, refused_by_host, serve, serve_read, write_to}
+use Rattle.disposition.specs.Answers.{address_of, answered_by, bar_of, forwarded, function_answer, host_data, host_refusal, page_at, port_answer, shown}
+use Rattle.disposition.specs.Carries.{access_of, carriage_of, forward, port_id, read_from, refusal_by, refusal_of, refused_by_host, serve, serve_read, write_to}
 use Rattle.domain.specs.Ends.{conclude}
-use Rattle.domain.specs.Heads.{descriptor_of, header_unless}
+use Rattle.disposition.specs.Heads.{descriptor_of, header_unless}
 use Rattle.domain.specs.Machine.{carry, change, refuse}
-use Rattle.domain.specs.State.{Alone, Change, Emission, emits_nothing, item_at, without}
-use Rattle.domain.specs.WellMade.{IsWellMade}
+use Rattle.disposition.specs.Emissions.{Emission}
+use Rattle.domain.specs.State.{Alone, Change, emits_nothing, item_at, without}
+use Rattle.disposition.specs.WellMade.{IsWellMade}
 use Rattle.domain.specs.declared.entry.Entry.TheVariants.{Carry, Deliver, Refuse}
-use Rattle.domain.specs.declared.fate.Fate.{Fate}
-use Rattle.domain.specs.declared.fate.Fate.TheVariants.{Vanish, Refused, ToHost}
+use Rattle.disposition.specs.declared.fate.Fate.{Fate}
+use Rattle.disposition.specs.declared.fate.Fate.TheVariants.{Vanish, Refused, ToHost}
 use Rattle.domain.specs.Deliveries.{arrival, arrived}
-use Rattle.domain.specs.Fates as fates
+use Rattle.disposition.specs.Fates as fates
 use Rattle.passage.specs.Ends.{Flies}
 use Rattle.passage.specs.Guarded.{IsFunctionOf, IsGuarded, has_id, is_below, top_id}
 use Rattle.passage.specs.Sound.{Falling, IsMeantFor, Reaches, Replying, Rising, is_reply}

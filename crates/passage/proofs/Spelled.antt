@@ -21,7 +21,7 @@ use Rattle.tlp_view.specs.Packet.{Body, Memory, Completion, Packet, address_in, 
 use Rattle.tlp_view.specs.Requests.{is_high, packet_bytes}
 use Rattle.tlp_view.proofs.Again.{address_narrow, address_wide, body_memory}
 use Rattle.tlp_view.proofs.KindFacts.{kind_again, memory_no_completion, wide_again}
-use Rattle.domain.specs.Heads.{header_unless, packet_header, target_for}
+use Rattle.disposition.specs.Heads.{header_unless, packet_header, target_for}
 use Rattle.passage.specs.Sound.{is_reply}
 
 word_again : (n : ℕ) → n / 256 * 256 + n % 256 ≡ n

@@ -29,14 +29,15 @@ use Rattle.tlp_view.specs.Kinds.{is_completion}
 use Rattle.tlp_view.specs.Malformed.{malformed}
 use Rattle.domain.specs.declared.entry.Entry.{Entry}
 use Rattle.domain.specs.declared.entry.Entry.TheVariants.{Carry, Refuse}
-use Rattle.domain.specs.declared.fate.Fate.{Fate}
-use Rattle.domain.specs.declared.fate.Fate.TheVariants.{Vanish, Refused, ToHost}
-use Rattle.domain.specs.Carries.{carriage_of, port_id, refusal_by, refusal_of}
+use Rattle.disposition.specs.declared.fate.Fate.{Fate}
+use Rattle.disposition.specs.declared.fate.Fate.TheVariants.{Vanish, Refused, ToHost}
+use Rattle.disposition.specs.Carries.{carriage_of, port_id, refusal_by, refusal_of}
 use Rattle.domain.specs.Ends.{conclude}
-use Rattle.domain.specs.Fates as fates
-use Rattle.domain.specs.Heads.{head_of, header_unless, packet_header}
+use Rattle.disposition.specs.Fates as fates
+use Rattle.disposition.specs.Heads.{head_of, header_unless, packet_header}
 use Rattle.domain.specs.Machine.{carry, refuse, replay}
-use Rattle.domain.specs.State.{Alone, Emission}
+use Rattle.disposition.specs.Emissions.{Emission}
+use Rattle.domain.specs.State.{Alone}
 use Rattle.domain.proofs.PageIds.{own_page}
 use Rattle.passage.specs.Dispositions.{IsGuardedFirst, by_fate, report_at, sent_by}
 use Rattle.passage.specs.Ends.{Flies, IsFor, IsLegal}

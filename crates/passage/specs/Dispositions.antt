@@ -16,9 +16,9 @@ use Rattle.port.specs.declared.course.Course.{Course}
 use Rattle.port.specs.declared.course.Course.TheVariants.{Forward, Stop}
 use Rattle.port.specs.Configs.{Config}
 use Rattle.port.specs.Courses.{reported_by}
-use Rattle.domain.specs.declared.fate.Fate.{Fate}
-use Rattle.domain.specs.declared.fate.Fate.TheVariants.{Vanish, Refused, ToHost}
-use Rattle.domain.specs.State.{Emission}
+use Rattle.disposition.specs.declared.fate.Fate.{Fate}
+use Rattle.disposition.specs.declared.fate.Fate.TheVariants.{Vanish, Refused, ToHost}
+use Rattle.disposition.specs.Emissions.{Emission}
 
 -- the port directly above a function, with all five controls set
 pub record IsGuardedFirst (ports : List PortLine) (config : Config) (line : PortLine) (function : ℕ) : Type 0 where

@@ -12,9 +12,10 @@ use Rattle.layout.specs.Owners.{owner_of}
 use Rattle.layout.specs.Platform.{Platform}
 use Rattle.layout.specs.Views.{share_of_domain}
 use Rattle.domain.specs.declared.entry.Entry.{Entry}
-use Rattle.domain.specs.Heads.{head_of}
+use Rattle.disposition.specs.Heads.{head_of}
 use Rattle.domain.specs.Machine.{change}
-use Rattle.domain.specs.State.{Alone, Emission, item_at}
+use Rattle.disposition.specs.Emissions.{Emission}
+use Rattle.domain.specs.State.{Alone, item_at}
 use Rattle.passage.specs.Guarded.{IsFunctionOf}
 
 -- the packet of an emission that is in flight

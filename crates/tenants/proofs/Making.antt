@@ -7,9 +7,10 @@ use Rattle.frame_log.specs.declared.fault.FrameFault.TheVariants as fault
 use Rattle.layout.specs.Share.{Share}
 use Rattle.domain.specs.declared.entry.Entry.{Entry}
 use Rattle.domain.specs.Domains.{DomainView, Emits as Emitting, IsRefused, Makes, is_emitting}
-use Rattle.domain.specs.Heads.{descriptor_of}
+use Rattle.disposition.specs.Heads.{descriptor_of}
 use Rattle.domain.specs.Machine.{change}
-use Rattle.domain.specs.State.{Alone, Change, Emission}
+use Rattle.disposition.specs.Emissions.{Emission}
+use Rattle.domain.specs.State.{Alone, Change}
 use Rattle.tenants.specs.Aliens.{answers}
 use Rattle.tenants.specs.Tenants.{Emits, IsGivenBack, IsHome, Made, after, made_at, made_by, made_of, sent_by}
 

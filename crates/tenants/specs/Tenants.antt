@@ -20,7 +20,7 @@ use Rattle.domain.specs.declared.access.HostAccess.{HostAccess}
 use Rattle.domain.specs.declared.entry.Entry.{Entry}
 use Rattle.domain.specs.Deliveries.{arrival, record_of_arrival}
 use Rattle.domain.specs.Domains.{DomainView}
-use Rattle.domain.specs.Heads.{descriptor_of}
+use Rattle.disposition.specs.Heads.{descriptor_of}
 use Rattle.domain.specs.HostAccesses.{mmio_fault}
 use Rattle.domain.specs.Machine.{change}
 use Rattle.domain.specs.State.{Change, Delivery, item_at, start_state}

@@ -2,10 +2,12 @@ use Rattle.std.proofs.Common.{◌≡◌, false, sym, ap, ◌∙◌, subst, List,
 use Rattle.fab_types.specs.declared.place.Origin.TheVariants.{Function}
 use Rattle.tlp_view.specs.Kinds.{is_completion}
 use Rattle.domain.specs.declared.reception.Reception.TheVariants.{Ends, Arrives}
-use Rattle.domain.specs.Aliens.{answerer_of, at_function, request_at_function}
+use Rattle.disposition.specs.Requests.{request_at_function}
+use Rattle.domain.specs.Aliens.{answerer_of, at_function}
 use Rattle.domain.specs.Deliveries.{arrival_at}
 use Rattle.domain.specs.Domains.{DomainView}
-use Rattle.domain.proofs.AlienLemmas.{else_is, ends}
+use Rattle.disposition.proofs.Choices.{else_is}
+use Rattle.domain.proofs.AlienLemmas.{ends}
 use Rattle.domain.proofs.domain.Domain.at_function.Goals as goal
 
 pub returns-else-is_completion : goal.returns-else-is_completion

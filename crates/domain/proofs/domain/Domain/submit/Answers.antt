@@ -1,6 +1,6 @@
 use Rattle.std.proofs.Common.{ℕ, ◌+◌, ◌*◌, ◌<◌, length, ap, refl, ◌∙◌, arith}
 use Rattle.domain.specs.declared.entry.Entry.TheVariants.{Submit}
-use Rattle.domain.specs.Heads.{descriptor_of}
+use Rattle.disposition.specs.Heads.{descriptor_of}
 use Rattle.domain.specs.Kept.{view_of}
 use Rattle.domain.specs.Machine.{aliens_in}
 use Rattle.domain.proofs.Keeping.{upward, makes_seen, replays_more, submit_legal, submit_copied, not_refused, journal_room, room_stays, makes_submit}

@@ -1,4 +1,4 @@
-use Rattle.domain.proofs.WellMadeLemmas.{request_well}
+use Rattle.disposition.proofs.WellMadeLemmas.{request_well}
 use Rattle.domain.proofs.state.State.request.Goals as goal
 
 pub emit-requires-clause-well_made : goal.emit-requires-clause-well_made

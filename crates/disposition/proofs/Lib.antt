@@ -1,0 +1,4 @@
+pub mod Places
+pub mod Choices
+pub mod WellMadeLemmas
+pub mod PastPort
