@@ -75,3 +75,8 @@ pub mod AloneSteps
 pub mod Behind
 pub mod NewPackets
 pub mod NewPairs
+pub mod Pairwise
+pub mod OwnOnes
+pub mod Mirrors
+pub mod MirroredLinks
+pub mod MirroredEdges

@@ -1,6 +1,6 @@
 -- A run without the events of other domains (PCIe 4.0, 6.12): which events of a list are left, and what a domain has of a
 -- run of the list and of a run of these.
-use Rattle.std.specs.Prelude.{◌≡◌, ◌≢◌, ⊤, ⊥, ℕ, Bool, true, false, ◌&&◌, ◌||◌, IsTrue, List, [], ◌∷◌, All, filter, Option, Some, None, if◌then◌else◌}
+use Rattle.std.specs.Prelude.{◌≡◌, ◌≢◌, ⊤, ℕ, Bool, true, false, ◌&&◌, ◌||◌, IsTrue, List, [], ◌∷◌, All, filter, Option, Some, None, if◌then◌else◌}
 use Rattle.fab_types.specs.declared.outcome.Outcome.{Outcome}
 use Rattle.fab_types.specs.declared.outcome.Outcome.TheVariants.{Moved, Idle, Refused, NoMemory}
 use Rattle.fab_types.specs.declared.violation.Violation.{Violation}
