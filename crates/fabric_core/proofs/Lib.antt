@@ -80,3 +80,4 @@ pub mod OwnOnes
 pub mod Mirrors
 pub mod MirroredLinks
 pub mod MirroredEdges
+pub mod OwnMoves
