@@ -81,3 +81,6 @@ pub mod Mirrors
 pub mod MirroredLinks
 pub mod MirroredEdges
 pub mod OwnMoves
+pub mod OwnEnds
+pub mod OwnTurns
+pub mod OwnSteps

@@ -9,19 +9,20 @@ use Rattle.edge.proofs.Lists.{position_map}
 use Rattle.fab_types.specs.declared.place.Origin.{Origin}
 use Rattle.frame_log.specs.Descriptor.{Descriptor}
 use Rattle.function.specs.Tags.{same_origin}
+use Rattle.layout.specs.Share.{Share}
 use Rattle.domain.specs.declared.entry.Entry.{Entry}
 use Rattle.domain.specs.Domains.{DomainView}
 use Rattle.domain.specs.Heads.{descriptor_of}
 use Rattle.domain.specs.Machine.{change}
 use Rattle.domain.specs.State.{Change, Emission}
-use Rattle.edge.specs.Edges.{EdgeView, Outbox, emitted, joined, outbox_place, taken_from, waiting_at, waiting_in, waiting_of, with_waiting, with_waiting_at, with_waiting_in}
+use Rattle.edge.specs.Edges.{EdgeView, Outbox, emitted, is_function_of, is_of_domain, joined, outbox_place, taken_from, waiting_at, waiting_in, waiting_of, with_waiting, with_waiting_at, with_waiting_in}
 use Rattle.tenants.specs.Tenants.{Made, after, domain_at, made_at, made_by, made_of, place_of, place_of_function, sent_by}
 use Rattle.fabric_core.specs.Isolation.{is_number, number_of, own}
 use Rattle.fabric_core.specs.Soundness.{share_of}
 use Rattle.fabric_core.proofs.Begun.{domain_same, function_same}
 use Rattle.fabric_core.proofs.Mirrors.{Alike, MirrorsDomains, MirrorsEdge, MirrorsMade, own_box}
 use Rattle.fabric_core.proofs.OwnOnes.{IsOwn, own_last}
-use Rattle.fabric_core.proofs.Settling.{place_same, replaced}
+use Rattle.fabric_core.proofs.Settling.{is_home, place_same, replaced}
 use Rattle.fabric_core.proofs.Sparing.{numbered}
 
 -- ---- outboxes
@@ -60,6 +61,33 @@ module _ (d : ℕ) (boxes : List Outbox) where
       ap (λ (xs : List Descriptor). with_waiting (map (own_box d) boxes) origin (xs ++ frame ∷ [])) (own_waiting origin)
       ∙ (ap (with_waiting (map (own_box d) boxes) origin) (sym (own_last d (waiting_of boxes origin) frame (is frame refl)))
       ∙ own_with origin (waiting_of boxes origin ++ frame ∷ []))
+
+-- ---- numbers
+
+module _ (ones others : List DomainView) (shares : map share_of others ≡ map share_of ones) where
+  share_at : (domains : List DomainView) (place : ℕ) → number_of (slice_get domains place) ≡ option_map (λ (s : Share). s.domain) (slice_get (map share_of domains) place)
+  share_at domains place = by (slice_get domains place) ∙ sym (ap (option_map (λ (s : Share). s.domain)) (slice_get-map share_of domains place))
+    where
+      by : (o : Option DomainView) → number_of o ≡ option_map (λ (s : Share). s.domain) (option_map share_of o)
+      by None = refl
+      by (Some x) = refl
+
+  number_same : (place : Option ℕ) → number_of (domain_at others place) ≡ number_of (domain_at ones place)
+  number_same None = refl
+  number_same (Some place) = share_at others place ∙ (ap (λ (ss : List Share). option_map (λ (s : Share). s.domain) (slice_get ss place)) shares ∙ sym (share_at ones place))
+
+  -- shares alone say whose a function is
+  pub function_number : (function : ℕ) → number_of (domain_at others (place_of_function others function)) ≡ number_of (domain_at ones (place_of_function ones function))
+  function_number function = ap (λ (place : Option ℕ). number_of (domain_at others place)) (function_same ones others shares function) ∙ number_same (place_of_function ones function)
+
+  is_of_number : (n : ℕ) (o : Option DomainView) → is_of_domain n o ≡ is_number n (number_of o)
+  is_of_number n None = refl
+  is_of_number n (Some x) = refl
+
+  pub function_of_same : (function number : ℕ) → is_function_of others function number ≡ is_function_of ones function number
+  function_of_same function number =
+      is_of_number number (domain_at others (place_of_function others function))
+      ∙ (ap (is_number number) (function_number function) ∙ sym (is_of_number number (domain_at ones (place_of_function ones function))))
 
 -- ---- an entry
 
@@ -110,6 +138,22 @@ module _ (d : ℕ) (ones others : List DomainView) (numbers : AreNumbered ones) 
   pub made_too : (place : Option ℕ) → is_number d (number_of (domain_at ones place)) ≡ true → MadeAlike d (made_at ones entry place) (made_at others entry place)
   made_too None is = absurd cc
   made_too (Some place) is = made_with place (slice_get ones place) refl is
+
+  home_with : (place : ℕ) (o : Option DomainView) → place_of ones d ≡ Some place → slice_get ones place ≡ o → MadeAlike d (made_of ones place entry o) (made_of others place entry (slice_get others place))
+  home_with place None found at =
+      let none : slice_get others place ≡ None = sym (ap (domain_at others) (domain_same ones others m.shares d ∙ found)) ∙ (m.home ∙ (ap (domain_at ones) found ∙ at)) in
+      subst (λ (o : Option DomainView). MadeAlike d None (made_of others place entry o)) (sym none) tt
+  home_with place (Some x) found at = made_with place (Some x) at (eq-eqb x.share.domain d (sym (is_home ones d place x at found)))
+
+  home_by : (place : Option ℕ) → place_of ones d ≡ place → MadeAlike d (made_at ones entry place) (made_at others entry place)
+  home_by None found = tt
+  home_by (Some place) found = home_with place (slice_get ones place) found refl
+
+  -- the domain itself has
+  pub made_home : (number : ℕ) → (number == d) ≡ true → MadeAlike d (made_at ones entry (place_of ones number)) (made_at others entry (place_of others number))
+  made_home number is =
+      subst (λ (n : ℕ). MadeAlike d (made_at ones entry (place_of ones n)) (made_at others entry (place_of others n))) (sym (eqb-true number d is))
+      (subst (λ (place : Option ℕ). MadeAlike d (made_at ones entry (place_of ones d)) (made_at others entry place)) (sym (domain_same ones others m.shares d)) (home_by (place_of ones d) refl))
 
   pub made_of_number : (number : ℕ) → is_number d (number_of (domain_at ones (place_of ones number))) ≡ true → MadeAlike d (made_at ones entry (place_of ones number)) (made_at others entry (place_of others number))
   made_of_number number is =
