@@ -84,3 +84,5 @@ pub mod OwnMoves
 pub mod OwnEnds
 pub mod OwnTurns
 pub mod OwnSteps
+pub mod Narrowing
+pub mod NarrowSteps

@@ -66,3 +66,11 @@ pair_both R S [] [] one other = tt
 pair_both R S (x ∷ xs) (y ∷ ys) one other = ((one.0, other.0), pair_both R S xs ys one.1 other.1)
 pair_both R S [] (y ∷ ys) one other = absurd one
 pair_both R S (x ∷ xs) [] one other = absurd one
+
+pub pair_then : {X Y Z : Type 0} (R : X → Y → Type 0) (Q : Y → Z → Type 0) (S : X → Z → Type 0) → ((x : X) (y : Y) (z : Z) → R x y → Q y z → S x z) → (xs : List X) (ys : List Y) (zs : List Z) → Pairwise R xs ys → Pairwise Q ys zs → Pairwise S xs zs
+pair_then R Q S so [] [] [] one other = tt
+pair_then R Q S so (x ∷ xs) (y ∷ ys) (z ∷ zs) one other = (so x y z one.0 other.0, pair_then R Q S so xs ys zs one.1 other.1)
+pair_then R Q S so [] [] (z ∷ zs) one other = absurd other
+pair_then R Q S so (x ∷ xs) (y ∷ ys) [] one other = absurd other
+pair_then R Q S so [] (y ∷ ys) zs one other = absurd one
+pair_then R Q S so (x ∷ xs) [] zs one other = absurd one
