@@ -85,4 +85,5 @@ pub mod OwnEnds
 pub mod OwnTurns
 pub mod OwnSteps
 pub mod Narrowing
+pub mod Telling
 pub mod NarrowSteps
