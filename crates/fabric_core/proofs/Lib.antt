@@ -87,3 +87,4 @@ pub mod OwnSteps
 pub mod Narrowing
 pub mod Telling
 pub mod NarrowSteps
+pub mod ForeignSteps
