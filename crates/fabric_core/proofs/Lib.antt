@@ -88,3 +88,4 @@ pub mod Narrowing
 pub mod Telling
 pub mod NarrowSteps
 pub mod ForeignSteps
+pub mod LeftEvents
