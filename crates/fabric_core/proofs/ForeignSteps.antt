@@ -1,7 +1,7 @@
 -- A fabric without other domains, where one event of others moves in the whole fabric, or the credits of a link are told
 -- in both.
-use Rattle.std.proofs.Common.{◌≡◌, ℕ, ◌≤◌, Bool, true, false, cond, List, [], ◌∷◌, ◌++◌, map, get_or, set, Option, Some, None, refl, sym, ap, ◌∙◌, subst, arith}
-use Rattle.std.specs.Prelude.{IfSome, filter, option_map}
+use Rattle.std.proofs.Common.{◌≡◌, ℕ, ◌≤◌, Bool, true, false, cond, List, [], ◌++◌, map, get_or, set, Option, Some, None, refl, sym, ap, ◌∙◌, subst, arith}
+use Rattle.std.specs.Prelude.{option_map}
 use Rattle.std.proofs.lemmas.List.{set-get_or}
 use Rattle.fab_types.specs.declared.outcome.Outcome.{Outcome}
 use Rattle.fab_types.specs.declared.outcome.Outcome.TheVariants.{Idle, Moved, NoMemory, Refused}
@@ -11,7 +11,7 @@ use Rattle.frame_log.specs.Descriptor.{Descriptor}
 use Rattle.credit.specs.Limits.{at}
 use Rattle.credit.specs.declared.counters.Counters.{Counters}
 use Rattle.edge.specs.Edges.{Outbox}
-use Rattle.link.specs.Channels.{Channel, count_in, same_counters, tell, told_of, unspent}
+use Rattle.link.specs.Channels.{Channel, count_in, same_counters, tell, unspent}
 use Rattle.link.proofs.Credits.{same-at, true-same}
 use Rattle.topology.specs.Links.{sender_of}
 use Rattle.topology.specs.Topologies.{Tree}

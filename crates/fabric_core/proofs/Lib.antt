@@ -89,3 +89,4 @@ pub mod Telling
 pub mod NarrowSteps
 pub mod ForeignSteps
 pub mod LeftEvents
+pub mod LeftRuns

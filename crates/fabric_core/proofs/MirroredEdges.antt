@@ -1,7 +1,6 @@
 -- The domains and the outboxes of a fabric, and of one without other domains, where one domain has an entry.
-use Rattle.std.proofs.Common.{◌≡◌, ℕ, ◌==◌, List, [], ◌∷◌, ◌++◌, length, map, get_or, set, Option, Some, None, refl, sym, ap, ◌∙◌, subst, eqb-true, eq-eqb}
-use Rattle.std.specs.Prelude.{Bool, true, false, cond, option_map, slice_get}
-use Rattle.std.specs.List.{position}
+use Rattle.std.proofs.Common.{◌≡◌, ℕ, ◌==◌, List, [], ◌∷◌, ◌++◌, length, map, set, Option, Some, None, refl, sym, ap, ◌∙◌, subst, eqb-true, eq-eqb}
+use Rattle.std.specs.Prelude.{true, option_map, slice_get}
 use Rattle.std.proofs.Math.Seq.{map-set_same}
 use Rattle.std.proofs.lemmas.List.{map-set}
 use Rattle.std.proofs.lemmas.Option.{get_or_from_slice_get, slice_get-map}
@@ -16,7 +15,7 @@ use Rattle.domain.specs.Heads.{descriptor_of}
 use Rattle.domain.specs.Machine.{change}
 use Rattle.domain.specs.State.{Change, Emission}
 use Rattle.edge.specs.Edges.{EdgeView, Outbox, emitted, is_function_of, is_of_domain, joined, outbox_place, taken_from, waiting_at, waiting_in, waiting_of, with_waiting, with_waiting_at, with_waiting_in}
-use Rattle.tenants.specs.Tenants.{Made, after, domain_at, made_at, made_by, made_of, place_of, place_of_function, sent_by}
+use Rattle.tenants.specs.Tenants.{Made, after, domain_at, made_at, made_by, made_of, place_of, place_of_function}
 use Rattle.fabric_core.specs.Isolation.{is_number, number_of, own}
 use Rattle.fabric_core.specs.Soundness.{share_of}
 use Rattle.fabric_core.proofs.Begun.{domain_same, function_same}

@@ -1,19 +1,19 @@
 -- The packets of one domain on links, in a fabric and in one without the others, where one of them moves.
-use Rattle.std.proofs.Common.{◌≡◌, ℕ, ◌-◌, ◌≤◌, ◌==◌, Bool, true, false, cond, List, [], ◌∷◌, ◌++◌, get_or, Option, Some, None, refl, sym, ap, ◌∙◌, subst, arith, eqb-true, eq-eqb}
-use Rattle.std.specs.Prelude.{nat_le, option_map}
+use Rattle.std.proofs.Common.{◌≡◌, ℕ, ◌≤◌, ◌==◌, Bool, true, false, cond, List, [], ◌∷◌, ◌++◌, get_or, Option, Some, None, refl, sym, ap, ◌∙◌, subst, arith, eqb-true, eq-eqb}
+use Rattle.std.specs.Prelude.{option_map}
 use Rattle.frame_log.specs.Descriptor.{Descriptor}
-use Rattle.credit.specs.Kinds.{Class, Cost, Kind, cost_of}
+use Rattle.credit.specs.Kinds.{Class, Cost, Kind}
 use Rattle.credit.specs.Limits.{at, credits_at}
 use Rattle.credit.specs.declared.counters.Counters.{Counters}
-use Rattle.link.specs.Channels.{Channel, count_in, has_room, is_full, receive, received_of, same_counters, send, sent_on, spent, total, unspent}
+use Rattle.link.specs.Channels.{Channel, count_in, has_room, is_full, receive, received_of, send, sent_on, spent, unspent}
 use Rattle.link.proofs.Credits.{at-spent, at-unspent, both-true, true-both}
 use Rattle.port.specs.Lanes.{eligible}
 use Rattle.topology.specs.declared.nodes.LinkEnd.{LinkEnd}
-use Rattle.hierarchy.specs.Moves.{channel_at, left_at, no_channel, on_channel, put_at, with_channel}
-use Rattle.fabric_core.specs.Endings.{Taken, taken_at, taken_from}
+use Rattle.hierarchy.specs.Moves.{channel_at, left_at, no_channel, put_at, with_channel}
+use Rattle.fabric_core.specs.Endings.{taken_at, taken_from}
 use Rattle.fabric_core.specs.Isolation.{home_of, home_of_taken, home_oldest, is_number, own}
 use Rattle.fabric_core.proofs.Mirrors.{Follows, MirrorsLink, MirrorsLinks, MirrorsTaken}
-use Rattle.fabric_core.proofs.OwnOnes.{IsOwn, own_append, own_count, own_eligible, own_first, own_last, own_total}
+use Rattle.fabric_core.proofs.OwnOnes.{IsOwn, own_count, own_eligible, own_first, own_last, own_total}
 use Rattle.fabric_core.proofs.Pairwise.{Pairwise, pair_at, pair_set}
 
 -- ---- credits

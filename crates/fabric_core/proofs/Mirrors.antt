@@ -1,5 +1,5 @@
 -- A fabric that has of another what is one domain's, and at least the credits: the fabric without the other domains.
-use Rattle.std.proofs.Common.{◌≡◌, ℕ, ◌≤◌, Bool, true, false, cond, List, map, Option, Some, None, refl, sym, ap, ◌∙◌, subst}
+use Rattle.std.proofs.Common.{◌≡◌, ℕ, ◌≤◌, Bool, true, false, cond, List, map, Option, Some, None, refl, subst}
 use Rattle.std.specs.Prelude.{⊤, filter, option_map}
 use Rattle.std.specs.Option.{option_and_then}
 use Rattle.fab_types.specs.declared.violation.Violation.{Violation}

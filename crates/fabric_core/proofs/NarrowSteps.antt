@@ -7,7 +7,7 @@ use Rattle.std.proofs.lemmas.List.{append-nil}
 use Rattle.std.proofs.lemmas.List.Elements.{filter-append}
 use Rattle.std.proofs.lemmas.List.Quantifiers.{position-Some}
 use Rattle.fab_types.specs.declared.class.Class.{Class}
-use Rattle.fab_types.specs.declared.class.Class.TheVariants.{Completion, NonPosted, Posted}
+use Rattle.fab_types.specs.declared.class.Class.TheVariants.{NonPosted}
 use Rattle.fab_types.specs.declared.place.Origin.{Origin}
 use Rattle.fab_types.specs.declared.place.Origin.TheVariants as origin
 use Rattle.fab_types.specs.declared.violation.Violation.{Violation}
@@ -28,7 +28,7 @@ use Rattle.hierarchy.specs.Moves.{channel_at, on_channel, put_at, with_channel}
 use Rattle.hierarchy.specs.Passes.{index_of, no_place}
 use Rattle.fabric_core.specs.declared.event.Event.{Event}
 use Rattle.fabric_core.specs.declared.event.Event.TheVariants.{Arrive, Credit, Enter, Mmio, Pass, Root, Send, Submit, Take, Tick}
-use Rattle.fabric_core.specs.Endings.{Carry, Deliver, Ending, Nobody, Relay, Taken, arrived, arrived_by, edge_by_function, edge_by_host, ended, ending_at_function, ending_at_host, from_host, own_by_function, own_by_host, relayed, rooted, rooted_by, taken, taken_at, to_function, to_host}
+use Rattle.fabric_core.specs.Endings.{Carry, Deliver, Ending, Nobody, Relay, Taken, arrived, arrived_by, edge_by_host, ended, ending_at_function, ending_at_host, from_host, own_by_function, own_by_host, relayed, rooted, rooted_by, taken, taken_at, to_function, to_host}
 use Rattle.fabric_core.specs.Events.{effect, entered_at, link_of}
 use Rattle.fabric_core.specs.Invariant.{IsKept}
 use Rattle.fabric_core.specs.Losing.{pass}

@@ -1,6 +1,6 @@
 -- What no event of a fabric changes, and that senders only spend credits and fill no queue over, where none are told.
 use Rattle.std.proofs.lemmas.Bool.{false≢true}
-use Rattle.std.proofs.Common.{◌≡◌, ◌≢◌, ◌⊎◌, inl, inr, ℕ, ◌+◌, ◌≤◌, ◌==◌, Bool, true, false, cond, List, [], ◌∷◌, ◌++◌, map, get_or, set, Option, Some, None, refl, sym, ap, ◌∙◌, subst, arith, eq-eqb}
+use Rattle.std.proofs.Common.{◌≡◌, ◌≢◌, ◌⊎◌, inl, inr, ℕ, ◌≤◌, ◌==◌, Bool, true, false, cond, List, [], ◌∷◌, ◌++◌, map, get_or, set, Option, Some, None, refl, sym, ap, ◌∙◌, subst, arith, eq-eqb}
 use Rattle.std.specs.Prelude.{IfSome, option_map, slice_get}
 use Rattle.std.proofs.Math.Seq.{map-set_same}
 use Rattle.std.proofs.lemmas.Option.{get_or_from_slice_get}
@@ -9,19 +9,16 @@ use Rattle.fab_types.specs.declared.class.Class.TheVariants as class
 use Rattle.fab_types.specs.declared.place.Origin.{Origin}
 use Rattle.frame_log.specs.Descriptor.{Descriptor}
 use Rattle.credit.specs.Kinds.{Kind, cost_of, where_same}
-use Rattle.credit.specs.Limits.{at}
 use Rattle.edge.specs.Edges.{Outbox, joined, outbox_place, waiting_of, with_waiting, with_waiting_at, with_waiting_in}
-use Rattle.link.specs.Channels.{Channel, count_in, has_room, is_full, receive, received_of, send, sent_on, spent, total}
+use Rattle.link.specs.Channels.{Channel, count_in, has_room, is_full, receive, received_of, send, sent_on, spent}
 use Rattle.link.proofs.Credits.{at-spent}
 use Rattle.link.proofs.Totals.{count_in-total, total-append, total-taken}
 use Rattle.port.specs.Lanes.{class_of, eligible}
 use Rattle.topology.specs.declared.nodes.LinkEnd.{LinkEnd}
-use Rattle.hierarchy.specs.Moves.{channel_at, left_at, no_channel, on_channel, put_at, with_channel}
+use Rattle.hierarchy.specs.Moves.{channel_at, left_at, no_channel, put_at, with_channel}
 use Rattle.hierarchy.proofs.Room.{full_left}
 use Rattle.port.proofs.Waiting.{class_of-taken}
 use Rattle.fabric_core.specs.Endings.{Taken, taken_at, taken_from}
-use Rattle.fabric_core.specs.Soundness.{config_of}
-use Rattle.fabric_core.specs.World.{World}
 use Rattle.fabric_core.proofs.MirroredLinks.{AtMost}
 use Rattle.fabric_core.proofs.Pairwise.{Pairwise, pair_changed, pair_same, pair_then}
 

@@ -1,11 +1,7 @@
 -- A packet of a domain that the host, a function or a port takes, in a guarded fabric and in one without other domains.
-use Rattle.std.proofs.Common.{◌≡◌, ℕ, ◌≤◌, ◌==◌, Bool, true, false, cond, List, [], ◌∷◌, ◌++◌, map, get_or, set, Option, Some, None, refl, sym, ap, ◌∙◌, subst}
-use Rattle.std.specs.Prelude.{filter, is_some, option_map, option_to_list}
-use Rattle.std.specs.Option.{option_and_then}
-use Rattle.std.proofs.Math.Seq.{map-set_same}
-use Rattle.std.proofs.lemmas.List.Elements.{filter-append}
+use Rattle.std.proofs.Common.{◌≡◌, ℕ, Bool, true, false, cond, List, Option, Some, None, refl, sym, subst}
+use Rattle.std.specs.Prelude.{is_some, option_map}
 use Rattle.fab_types.specs.declared.class.Class.{Class}
-use Rattle.fab_types.specs.declared.class.Class.TheVariants.{Completion, NonPosted, Posted}
 use Rattle.fab_types.specs.declared.place.Origin.{Origin}
 use Rattle.fab_types.specs.declared.place.Origin.TheVariants as origin
 use Rattle.fab_types.specs.declared.violation.Violation.{Violation}
@@ -14,30 +10,22 @@ use Rattle.domain.specs.declared.entry.Entry.{Entry}
 use Rattle.domain.specs.declared.entry.Entry.TheVariants as entry
 use Rattle.edge.specs.Edges.{EdgeView, emitted, emitted_if, is_function_of}
 use Rattle.link.specs.Channels.{Channel, is_full}
-use Rattle.port.specs.Configs.{Config}
-use Rattle.port.specs.Courses.{course_of}
 use Rattle.port.specs.Turns.{PortView}
-use Rattle.port.specs.declared.course.Course.{Course}
-use Rattle.port.specs.declared.course.Course.TheVariants.{Forward, Stop, Stray}
 use Rattle.tenants.specs.Tenants.{Made, made, place_of_function}
 use Rattle.topology.specs.Links.{sender_of}
 use Rattle.topology.specs.declared.nodes.LinkEnd.{LinkEnd}
 use Rattle.hierarchy.specs.Moves.{channel_at, put_at}
-use Rattle.hierarchy.specs.Passes.{index_of, no_place, no_port}
-use Rattle.fabric_core.specs.Endings.{Carry, Deliver, Ending, Nobody, Relay, Taken, arrive, arrived, arrived_by, ended, ending_at_function, ending_at_host, ending_by_function, edge_by_function, edge_by_host, from_host, own_by_function, own_by_host, relayed, root, rooted, rooted_by, taken, taken_at, to_function, to_host}
-use Rattle.fabric_core.specs.Isolation.{home_of_taken, home_passed, is_number, own}
-use Rattle.fabric_core.specs.Losing.{pass}
-use Rattle.fabric_core.specs.Passing.{Site, answer_waits, answered_at, is_full_at, lane_end, kept_by, may_pass, passed, passed_at, passed_by, passed_number, port_number, refused_by, site_at, strayed, turned}
-use Rattle.fabric_core.specs.Soundness.{IsGuardedFabric, config_of}
+use Rattle.fabric_core.specs.Endings.{Carry, Deliver, Ending, Nobody, Relay, Taken, arrive, arrived, arrived_by, ended, ending_at_function, ending_at_host, ending_by_function, edge_by_host, from_host, own_by_function, own_by_host, relayed, root, rooted, rooted_by, taken, to_function, to_host}
+use Rattle.fabric_core.specs.Isolation.{home_of_taken, is_number}
+use Rattle.fabric_core.specs.Soundness.{IsGuardedFabric}
 use Rattle.fabric_core.specs.World.{World, with_channels}
-use Rattle.fabric_core.proofs.GuardedAliens.{home_at_function, home_at_host, passes_as_turned}
+use Rattle.fabric_core.proofs.GuardedAliens.{home_at_function, home_at_host}
 use Rattle.fabric_core.proofs.MirroredEdges.{AreNumbered, emitted_too, function_of_same, made_home, silent_too}
 use Rattle.fabric_core.proofs.Begun.{function_same}
 use Rattle.fabric_core.proofs.MirroredLinks.{mirrors_put, place_too, taken_too}
-use Rattle.fabric_core.proofs.Mirrors.{Alike, Follows, Mirrors, MirrorsEdge, MirrorsLinks, MirrorsMade, MirrorsTaken, alike_mapped, follows_mapped, follows_then, follows_unless}
+use Rattle.fabric_core.proofs.Mirrors.{Alike, Follows, Mirrors, MirrorsEdge, MirrorsLinks, MirrorsMade, MirrorsTaken, alike_mapped, follows_mapped, follows_unless}
 use Rattle.fabric_core.proofs.OwnMoves.{Beside, Both, IsRoomy, with_links, with_parts}
 use Rattle.fabric_core.proofs.OwnOnes.{IsOwn}
-use Rattle.fabric_core.proofs.Pairwise.{pair_at, pair_from}
 use Rattle.fabric_core.proofs.Renewing.{renewed}
 
 -- ---- an entry of its home

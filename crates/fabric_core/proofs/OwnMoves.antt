@@ -1,28 +1,26 @@
 -- What a domain begins, and its packets that enter and travel, do in a fabric and in one without other domains.
-use Rattle.std.proofs.Common.{◌≡◌, ℕ, ◌≤◌, ◌==◌, Bool, true, false, cond, List, [], ◌∷◌, Option, Some, None, map, refl, sym, ap, ◌∙◌, subst}
+use Rattle.std.proofs.Common.{◌≡◌, ℕ, ◌≤◌, Bool, true, List, Option, Some, None, map, refl, sym, ap, ◌∙◌, subst}
 use Rattle.std.specs.Prelude.{filter, option_map}
 use Rattle.std.specs.Option.{option_and_then}
 use Rattle.fab_types.specs.declared.class.Class.{Class}
-use Rattle.fab_types.specs.declared.place.Direction.{Direction}
 use Rattle.fab_types.specs.declared.place.Origin.{Origin}
 use Rattle.fab_types.specs.declared.violation.Violation.{Violation}
 use Rattle.frame_log.specs.Descriptor.{Descriptor}
-use Rattle.domain.specs.declared.entry.Entry.{Entry}
-use Rattle.edge.specs.Edges.{EdgeView, Outbox, emitted, emitted_if, taken_from, waiting_of}
+use Rattle.edge.specs.Edges.{EdgeView, Outbox, emitted, emitted_if, waiting_of}
 use Rattle.link.specs.Channels.{Channel, count_in, is_full, receive, send}
 use Rattle.port.specs.Lanes.{eligible}
 use Rattle.port.specs.Turns.{PortView}
-use Rattle.tenants.specs.Tenants.{Made, domain_at, made_at, place_of, place_of_function}
+use Rattle.tenants.specs.Tenants.{Made}
 use Rattle.topology.specs.Links.{sender_of}
 use Rattle.topology.specs.declared.nodes.LinkEnd.{LinkEnd}
-use Rattle.hierarchy.specs.Moves.{channel_at, on_channel, put_at, with_channel}
+use Rattle.hierarchy.specs.Moves.{channel_at, on_channel, with_channel}
 use Rattle.fabric_core.specs.Events.{enter, entered_at, link_of}
-use Rattle.fabric_core.specs.Isolation.{home_of, home_sent, home_travelling, is_number, number_of, own}
+use Rattle.fabric_core.specs.Isolation.{home_of, home_sent, home_travelling, is_number, own}
 use Rattle.fabric_core.specs.Soundness.{config_of}
 use Rattle.fabric_core.specs.World.{World, with_both, with_channels, with_edge}
 use Rattle.fabric_core.proofs.MirroredEdges.{emitted_too, own_waiting, taken_from_too}
 use Rattle.fabric_core.proofs.MirroredLinks.{mirrors_at, mirrors_put, mirrors_with, place_too, receive_too, send_too}
-use Rattle.fabric_core.proofs.Mirrors.{Alike, Follows, Mirrors, MirrorsEdge, MirrorsLink, MirrorsLinks, MirrorsMade, followed, follows_mapped, follows_unless, own_box}
+use Rattle.fabric_core.proofs.Mirrors.{Alike, Follows, Mirrors, MirrorsEdge, MirrorsLink, MirrorsLinks, MirrorsMade, followed, follows_mapped, follows_unless}
 use Rattle.fabric_core.proofs.OwnOnes.{IsOwn, own_eligible}
 use Rattle.fabric_core.proofs.Renewing.{renewed}
 

@@ -1,6 +1,6 @@
 -- A packet of a domain that a port takes, in a guarded fabric and in one without other domains.
-use Rattle.std.proofs.Common.{◌≡◌, ℕ, ◌≤◌, ◌==◌, Bool, true, false, cond, List, [], ◌∷◌, ◌++◌, map, get_or, set, Option, Some, None, refl, sym, ap, ◌∙◌, subst}
-use Rattle.std.specs.Prelude.{filter, is_some, option_map, option_to_list}
+use Rattle.std.proofs.Common.{◌≡◌, ℕ, Bool, true, false, cond, List, ◌++◌, map, get_or, set, Option, Some, None, refl, sym, ap, ◌∙◌, subst}
+use Rattle.std.specs.Prelude.{filter, option_to_list}
 use Rattle.std.specs.Option.{option_and_then}
 use Rattle.std.proofs.Math.Seq.{map-set_same}
 use Rattle.std.proofs.lemmas.List.Elements.{filter-append}
@@ -10,7 +10,7 @@ use Rattle.fab_types.specs.declared.violation.Violation.{Violation}
 use Rattle.frame_log.specs.Descriptor.{Descriptor}
 use Rattle.domain.specs.declared.entry.Entry.TheVariants.{Refuse}
 use Rattle.edge.specs.Edges.{EdgeView}
-use Rattle.link.specs.Channels.{Channel, is_full}
+use Rattle.link.specs.Channels.{Channel}
 use Rattle.port.specs.Configs.{Config}
 use Rattle.port.specs.Courses.{course_of}
 use Rattle.port.specs.Turns.{PortView}
@@ -19,7 +19,7 @@ use Rattle.port.specs.declared.course.Course.TheVariants.{Forward, Stop, Stray}
 use Rattle.tenants.specs.Tenants.{Made, made}
 use Rattle.topology.specs.declared.nodes.LinkEnd.{LinkEnd}
 use Rattle.topology.specs.declared.places.PortPlace.{PortPlace}
-use Rattle.hierarchy.specs.Moves.{channel_at, put_at}
+use Rattle.hierarchy.specs.Moves.{put_at}
 use Rattle.hierarchy.specs.Passes.{index_of, no_place, no_port}
 use Rattle.fabric_core.specs.Endings.{Taken, taken_at}
 use Rattle.fabric_core.specs.Isolation.{home_of_taken, home_passed, is_number}
@@ -78,7 +78,7 @@ module _ (d : ℕ) (is_told : Violation → Bool) (w : World) (channels : List (
       routes = refl;
       configs = m.configs;
       links = subst (λ (sent : Option Descriptor). MirrorsLinks d (answered_at t.channels (lane_end site site.config.own) x.sent) (answered_at cs (lane_end site site.config.own) sent)) (sym alike.sent)
-      (mirrors_answered d t.channels cs links (lane_end site site.config.own) x.sent alike.own);
+          (mirrors_answered d t.channels cs links (lane_end site site.config.own) x.sent alike.own);
       edge = silent_too d w.edge edge m.edge x y alike;
       violations = told_more report;
     }

@@ -1,6 +1,7 @@
 -- Two lists whose elements are related one by one.
-use Rattle.std.proofs.Common.{◌≡◌, ℕ, zero, suc, List, [], ◌∷◌, map, get_or, set, refl, ap, ◌∙◌}
-use Rattle.std.specs.Prelude.{⊤}
+use Rattle.std.proofs.Common.{◌≡◌, ℕ, zero, suc, List, [], ◌∷◌, map, get_or, set, refl}
+use Rattle.std.specs.Prelude.{⊤, All}
+use Rattle.std.proofs.lemmas.List.Elements.{All-head, All-tail}
 
 module _ {X Y : Type 0} where
   abbrev pub Pairwise : (X → Y → Type 0) → List X → List Y → Type 0
@@ -74,3 +75,8 @@ pair_then R Q S so [] [] (z ∷ zs) one other = absurd other
 pair_then R Q S so (x ∷ xs) (y ∷ ys) [] one other = absurd other
 pair_then R Q S so [] (y ∷ ys) zs one other = absurd one
 pair_then R Q S so (x ∷ xs) [] zs one other = absurd one
+
+-- what holds of each element relates it to itself
+pub pair_all : {X : Type 0} (P : X → Type 0) (R : X → X → Type 0) → ((x : X) → P x → R x x) → (xs : List X) → All P xs → Pairwise R xs xs
+pair_all P R so [] all = tt
+pair_all P R so (x ∷ xs) all = (so x (All-head P x xs all), pair_all P R so xs (All-tail P x xs all))

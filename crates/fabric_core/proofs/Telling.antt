@@ -1,6 +1,6 @@
 -- What a port reports is of a function of the packet's home, in a guarded fabric.
-use Rattle.std.proofs.Common.{◌≡◌, ℕ, ◌<◌, ◌==◌, Bool, true, false, cond, List, length, get_or, Option, Some, None, inl, inr, refl, sym, ap, ◌∙◌, subst, arith}
-use Rattle.std.specs.Prelude.{⊤, is_some, option_map}
+use Rattle.std.proofs.Common.{◌≡◌, ℕ, ◌==◌, Bool, true, false, cond, List, get_or, Option, Some, None, inl, inr, refl, sym, ap, ◌∙◌, subst, arith}
+use Rattle.std.specs.Prelude.{⊤, option_map}
 use Rattle.std.specs.Option.{option_and_then}
 use Rattle.std.proofs.lemmas.List.Quantifiers.{position-Some}
 use Rattle.std.proofs.lemmas.Option.{same_Some}
@@ -21,7 +21,7 @@ use Rattle.layout.specs.declared.lines.SwitchLine.{SwitchLine}
 use Rattle.layout.specs.Platform.{Platform}
 use Rattle.layout.specs.Tree.{id_below}
 use Rattle.bridge.specs.Bridges.{Tree as Routes}
-use Rattle.bridge.specs.Routes.{route_of, switch_at, target_of}
+use Rattle.bridge.specs.Routes.{route_of, target_of}
 use Rattle.bridge.specs.declared.route.Route.{Route}
 use Rattle.bridge.specs.declared.route.Route.TheVariants as route
 use Rattle.bridge.specs.declared.target.Target.{Target}
@@ -30,14 +30,13 @@ use Rattle.acs.specs.declared.vetting.Verdict.TheVariants as verdict
 use Rattle.acs.specs.Redirection.{redirected}
 use Rattle.acs.specs.Vetting.{requester_of, verdict_of}
 use Rattle.port.specs.Configs.{Config, lane_to}
-use Rattle.port.specs.Courses.{course_at, course_of, down_by, down_lane, report_of, reported_by, routed, stopped, stopped_from, tested, up_by}
+use Rattle.port.specs.Courses.{course_at, course_of, down_by, down_lane, report_of, reported_by, routed, stopped_from, tested, up_by}
 use Rattle.port.specs.declared.config.Exit.{Exit}
 use Rattle.port.specs.declared.course.Course.{Course}
 use Rattle.port.specs.declared.course.Course.TheVariants.{Forward, Stop, Stray}
 use Rattle.domain.specs.Domains.{DomainView}
 use Rattle.tenants.specs.Tenants.{domain_at, place_of_function}
 use Rattle.topology.specs.Links.{sender_of}
-use Rattle.topology.specs.Places.{downstream_place, upstream_place}
 use Rattle.topology.specs.Topologies.{Tree}
 use Rattle.topology.specs.declared.nodes.LinkEnd.{LinkEnd}
 use Rattle.topology.specs.declared.places.PortPlace.{PortPlace}
@@ -50,13 +49,13 @@ use Rattle.fabric_core.specs.declared.event.Event.{Event}
 use Rattle.fabric_core.specs.declared.event.Event.TheVariants.{Arrive, Credit, Enter, Mmio, Pass, Root, Send, Submit, Take, Tick}
 use Rattle.fabric_core.specs.Endings.{Taken, taken_at}
 use Rattle.fabric_core.specs.Invariant.{IsKept}
-use Rattle.fabric_core.specs.Isolation.{domain_of_function, home_of_taken, home_passed, is_event_of, is_number, number_of}
+use Rattle.fabric_core.specs.Isolation.{home_of_taken, home_passed, is_event_of, is_number, number_of}
 use Rattle.fabric_core.specs.Passing.{port_number}
 use Rattle.fabric_core.specs.Soundness.{IsGuardedFabric}
 use Rattle.fabric_core.specs.TakenOut.{is_by}
 use Rattle.fabric_core.specs.World.{World}
 use Rattle.fabric_core.proofs.GuardedArrival.{function_home}
-use Rattle.fabric_core.proofs.GuardedEnds.{SoundlyTaken, soundly_taken}
+use Rattle.fabric_core.proofs.GuardedEnds.{soundly_taken}
 use Rattle.fabric_core.proofs.Sites.{Standing, standing}
 
 -- ---- what is reported names its sender

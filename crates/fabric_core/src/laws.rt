@@ -3,6 +3,7 @@
 ghost use Rattle.std.specs.Prelude.{◌≡◌, ◌≤◌, ℕ, IsSome, List, Some, length, slice_get, true};
 ghost use Rattle.fab_types.specs.declared.class.Class.TheVariants.{Completion, NonPosted};
 ghost use Rattle.frame_log.specs.Descriptor.{Descriptor};
+ghost use Rattle.fab_types.specs.declared.outcome.Outcome.{Outcome};
 ghost use Rattle.fab_types.specs.declared.place.Place.{Place};
 ghost use Rattle.domain.specs.Consumed.{is_in_order};
 ghost use Rattle.domain.specs.Orders.{IsPosted};
@@ -20,7 +21,9 @@ ghost use Rattle.fabric_core.specs.Invariant.{IsFabric, IsKept};
 ghost use Rattle.fabric_core.specs.Isolation.{IsApart};
 ghost use Rattle.fabric_core.specs.Orders.{AreOrdered, GoesBy, KeepsToWay, StayOrdered, TurnOf};
 ghost use Rattle.fabric_core.specs.Places.{HaveOnePlace, IsFlown};
+ghost use Rattle.fabric_core.specs.Runs.{Run};
 ghost use Rattle.fabric_core.specs.Soundness.{IsGuardedFabric};
+ghost use Rattle.fabric_core.specs.TakenOut.{CannotTell};
 ghost use Rattle.fabric_core.specs.World.{World, is_guarded, world_of};
 
 /// Every event keeps what a fabric keeps: each packet in flight stands in exactly one place, or was lost as an alien
@@ -90,6 +93,16 @@ pub fn new_packets_stand_behind()
         → (place : ℕ) (d d' : DomainView) → slice_get old.edge.domains place ≡ Some d → slice_get new.edge.domains place ≡ Some d'
         → (n m : ℕ) (pair : AreOrdered d' n m) → length (sent d.share d.journal) ≤ m → IsSome (item_at d.state.flight n) → IsSome (item_at d'.state.flight n)
         → (places : List Place) → GoesBy (fabric.guarded guarded).platform d.share.domain pair.first places → KeepsToWay old d places n → TurnOf new d places n m }
+{
+    acs::guarded_requests_go_up();
+}
+
+/// In the fabric of a guarded layout the events of other domains can be taken out of any run: where a domain's events that
+/// moved are run alone, with those that tell credits, each of them moves again, and the domain has the same state, journal,
+/// packets and violations in the end. Want of memory aside, it can't tell the other domains from none.
+pub fn other_domains_can_be_taken_out()
+    ensures { (platform : Platform) → IsGuarded platform → (events : List Event) (outcomes : List Outcome) (first : World)
+        → Run (world_of platform) events outcomes first → (d : ℕ) → CannotTell d (world_of platform) events outcomes first }
 {
     acs::guarded_requests_go_up();
 }
