@@ -1,5 +1,5 @@
 -- What answers a packet at a port is a completion.
-use Rattle.std.proofs.Common.{◌≡◌, ℕ, Bool, true, false, cond, List, [], Option, Some, None, refl, sym, ap, subst, arith}
+use Rattle.std.proofs.Common.{◌≡◌, ℕ, Bool, true, false, cond, List, [], Option, Some, None, refl, ap, subst, arith}
 use Rattle.std.specs.Option.{IfSome}
 use Rattle.fab_types.specs.declared.class.Class.TheVariants.{Completion}
 use Rattle.fab_types.specs.declared.faults.malformed.Malformed.{Malformed}

@@ -1,5 +1,5 @@
 -- A request of the domain's own host for the register page of a function (PCIe 4.0, 2.2.5 and 2.2.6.2).
-use Rattle.std.specs.Prelude.{ℕ, ◌+◌, ◌*◌, ◌/◌, ◌%◌, ◌==◌, nat_le, Bool, false, ◌&&◌, not, List, [], ◌∷◌, length, Option, Some, None, if◌then◌else◌}
+use Rattle.std.specs.Prelude.{ℕ, ◌+◌, ◌*◌, ◌/◌, ◌%◌, ◌==◌, nat_le, Bool, false, ◌&&◌, not, List, length, Option, Some, None, if◌then◌else◌}
 use Rattle.std.specs.List.{find, range_with_len}
 use Rattle.std.specs.Option.{is_none}
 use Rattle.fab_types.specs.Id.{host_of}

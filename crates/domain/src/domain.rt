@@ -1,6 +1,6 @@
 //! A domain.
 
-ghost use Rattle.std.specs.Prelude.{◌≡◌, ◌≤◌, IfOk, IfSome, length, Some, [], option_map};
+ghost use Rattle.std.specs.Prelude.{◌≡◌, ◌≤◌, ◌↔◌, IfOk, IfSome, IsTrue, length, Some, [], option_map};
 ghost use Rattle.std.specs.Option.{option_copied};
 ghost use Rattle.host_memory.specs.Pages.{page_of};
 ghost use Rattle.domain.specs.Machine.{replay};
@@ -9,6 +9,7 @@ ghost use Rattle.domain.specs.State.{item_at, start_state};
 use crate::counts::Counts;
 use crate::deliver::Record;
 use crate::entry::Entry;
+use crate::same::same_journals;
 use crate::state::State;
 use fab_types::{Bdf, NoMemory};
 use frame_log::Log;
@@ -73,6 +74,13 @@ impl Domain {
         ensures replays { replay self.now.share self.now.journal ≡ Some self.now.state }
     {
         &self.journal
+    }
+
+    /// Is the other's journal the same, entry by entry?
+    pub fn has_same_journal(&self, other: &Domain) -> bool
+        ensures { IsTrue result ↔ (self.now.journal ≡ other.now.journal) }
+    {
+        same_journals(&self.journal, &other.journal)
     }
 
     pub fn counts(&self) -> Counts

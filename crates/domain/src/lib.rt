@@ -24,6 +24,7 @@ mod refusal;
 mod registers;
 mod replay;
 mod requests;
+mod same;
 mod state;
 mod submit;
 mod tags;

@@ -199,6 +199,23 @@ impl Edge {
         self.outboxes.head(origin, class)
     }
 
+    /// The domain that made the eligible packet of a class that an origin has waiting.
+    pub fn home(&self, origin: Origin, class: Class) -> Option<DomainId>
+        ensures { result ≡ option_map (λ taken. taken.0.domain) (eligible class (waiting_of self.now.outboxes origin)) }
+    {
+        self.outboxes.home(origin, class)
+    }
+
+    /// The number of the domain that a function is of, if it is of one.
+    pub fn home_of_function(&self, function: Bdf) -> Option<DomainId>
+        ensures { result ≡ option_map (λ domain. domain.share.domain) (domain_at self.now.domains (place_of_function self.now.domains function)) }
+    {
+        match self.tenants.domain_of_function(function) {
+            Some(home) => Some(home.start().domain()),
+            None => None,
+        }
+    }
+
     /// Takes the eligible packet of a class from an origin's outbox.
     pub fn take(&mut self, origin: Origin, class: Class) -> Option<Frame>
         ensures taken { MatchOption result ((eligible class (waiting_of self.old.outboxes origin) ≡ None) × (self.new ≡ self.old))

@@ -29,7 +29,7 @@ use Rattle.fabric_core.specs.World.{World, is_guarded, with_edge}
 use Rattle.fabric_core.proofs.Apart.{apart_after}
 use Rattle.fabric_core.proofs.Begun.{step_grow}
 use Rattle.fabric_core.proofs.ForeignSteps.{credit_both, credit_roomy, foreign_step, narrow_roomy}
-use Rattle.fabric_core.proofs.Guarded.{guarded_after}
+use Rattle.fabric_core.proofs.InOrder.{fabric_after}
 use Rattle.fabric_core.proofs.MirroredEdges.{function_number}
 use Rattle.fabric_core.proofs.Mirrors.{Mirrors, follows_some}
 use Rattle.fabric_core.proofs.NarrowSteps.{Tightens, effect_tightens}
@@ -119,7 +119,7 @@ module _ (up : RoutesUp) (d : ℕ) (is_told : Violation → Bool) (w v : World) 
       mirrors = mirrors;
       roomy = roomy;
       told = λ x. ap (is_number d) (function_number w.edge.domains w'.edge.domains shares x.sender) ∙ a.told x;
-      fabric = fabric_step (guarded_after up) w w' event outcome a.fabric step;
+      fabric = fabric_step (fabric_after up) w w' event outcome a.fabric step;
       guarded = step_controls w w' event outcome step ∙ a.guarded;
       other = other;
     }
@@ -146,14 +146,14 @@ module _ (up : RoutesUp) (d : ℕ) (is_told : Violation → Bool) (w v : World) 
         let g' = a.other.guarded guarded_other in
         let too = follows_some (Mirrors d is_told) (effect w event) (effect v event) w' (own_step d is_told w v a.mirrors a.roomy a.fabric.kept.settled.numbered g g' event own) is in
         let moved = has_moved v too.0 g' event outcome v' too.1 step memory in
-        (moved.0, accords_with event w' Moved is v' (subst (Mirrors d is_told w') (sym moved.1) too.2) still_roomy (fabric_step (guarded_after up) v v' event outcome a.other step))
+        (moved.0, accords_with event w' Moved is v' (subst (Mirrors d is_told w') (sym moved.1) too.2) still_roomy (fabric_step (fabric_after up) v v' event outcome a.other step))
 
   -- ---- credits were told
 
   pub credits_told : (event : Event) (w' v' : World) (outcome outcome' : Outcome) → tells_credits event ≡ true → StepsTo w event outcome w' → StepsTo v event outcome' v' → Accords d is_told w' v'
   credits_told (Credit direction) w' v' outcome outcome' quiet step step' =
       accords_with (Credit direction) w' outcome step v' (credit_both d is_told w v a.mirrors w' v' direction outcome outcome' step step') (credit_roomy w w' direction outcome step a.roomy)
-      (fabric_step (guarded_after up) v v' (Credit direction) outcome' a.other step')
+      (fabric_step (fabric_after up) v v' (Credit direction) outcome' a.other step')
   credits_told (Submit function bytes) w' v' outcome outcome' quiet step step' = absurd cc
   credits_told (Tick function) w' v' outcome outcome' quiet step step' = absurd cc
   credits_told (Mmio domain access) w' v' outcome outcome' quiet step step' = absurd cc

@@ -28,6 +28,7 @@ use Rattle.fabric_core.specs.Isolation.{domain_of, is_number, own, own_on_link}
 use Rattle.fabric_core.specs.Runs.{Run}
 use Rattle.fabric_core.specs.TakenOut.{CannotTell, HasMemory, HasSame, HaveMoved, after, events_left, is_by, is_left, or_same}
 use Rattle.fabric_core.specs.World.{World, world_of}
+use Rattle.fabric_core.proofs.FirstTurns.{turns_new}
 use Rattle.fabric_core.proofs.GuardedStart.{IsQuiet, guarded_start, quiet_at, quiet_nodes}
 use Rattle.fabric_core.proofs.LeftEvents.{Accords, kept, skipped}
 use Rattle.fabric_core.proofs.MirroredEdges.{function_number}
@@ -159,6 +160,7 @@ pub start_fabric : (platform : Platform) → IsGuarded platform → IsFabric (wo
 start_fabric platform guarded = record {
   kept = kept_new platform (start_of platform) (edge_of platform) [] [] refl (hierarchy.kept_at_start platform guarded.laws) refl (start_settled platform guarded.laws) refl refl;
   guarded = λ controls. guarded_start platform guarded;
+  ordered = λ controls. turns_new platform (start_of platform) (edge_of platform) [] [] refl refl refl refl (guarded_start platform guarded).platform;
 }
 
 pub taken_out : RoutesUp → (platform : Platform) → IsGuarded platform → (events : List Event) (outcomes : List Outcome) (first : World) → Run (world_of platform) events outcomes first → (d : ℕ) → CannotTell d (world_of platform) events outcomes first

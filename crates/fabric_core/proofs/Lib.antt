@@ -74,7 +74,15 @@ pub mod OrderedSteps
 pub mod AloneSteps
 pub mod Behind
 pub mod NewPackets
+pub mod NewSent
 pub mod NewPairs
+pub mod SamePlatforms
+pub mod OneWay
+pub mod Entered
+pub mod NewWays
+pub mod KeptTurns
+pub mod InOrder
+pub mod FirstTurns
 pub mod Pairwise
 pub mod OwnOnes
 pub mod Mirrors

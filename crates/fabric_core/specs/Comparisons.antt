@@ -16,15 +16,15 @@ abbrev pub journal_of : ℕ → World → Option (List Entry)
 journal_of d w = option_map (λ domain. domain.journal) (domain_of w d)
 
 -- each fabric is a run of its list from the same start
-pub record AreRuns (start : World) (events others : List Event) (first second : World) : Type 0 where
-  pub first : IsRun start events first
-  pub second : IsRun start others second
+pub record AreRuns (start : World) (events others : List Event) (one other : World) : Type 0 where
+  pub first : IsRun start events one
+  pub second : IsRun start others other
 
 -- the domain's journal is the same in both, and so is all that its state holds
-pub record AreEqual (d : ℕ) (start : World) (events others : List Event) (first second : World) : Type 0 where
-  pub runs : AreRuns start events others first second
-  pub same : domain_of second d ≡ domain_of first d
+pub record AreEqual (d : ℕ) (start : World) (events others : List Event) (one other : World) : Type 0 where
+  pub runs : AreRuns start events others one other
+  pub same : domain_of other d ≡ domain_of one d
 
-pub record DifferInJournals (d : ℕ) (start : World) (events others : List Event) (first second : World) : Type 0 where
-  pub runs : AreRuns start events others first second
-  pub differ : journal_of d second ≢ journal_of d first
+pub record DifferInJournals (d : ℕ) (start : World) (events others : List Event) (one other : World) : Type 0 where
+  pub runs : AreRuns start events others one other
+  pub differ : journal_of d other ≢ journal_of d one

@@ -14,7 +14,7 @@ pub mod Soundness
 pub mod Orderly
 pub mod Trails
 pub mod Orders
-pub mod Comparisons
-pub mod TakenOut
 pub mod Invariant
 pub mod Kept
+pub mod TakenOut
+pub mod Comparisons

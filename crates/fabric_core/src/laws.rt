@@ -97,6 +97,15 @@ pub fn new_packets_stand_behind()
     acs::guarded_requests_go_up();
 }
 
+/// Every event keeps a fabric, of any layout: what `every_event_keeps_the_invariant` says, and in a guarded layout also that
+/// each packet is where somebody has a case for it, that each posted packet in flight stands on its way, and that two
+/// packets of a domain that keep their order are in turn there, and were consumed in it.
+pub fn every_event_keeps_a_fabric()
+    ensures { (old new : World) (event : Event) → IsFabric old → effect old event ≡ Some new → IsFabric new }
+{
+    acs::guarded_requests_go_up();
+}
+
 /// In the fabric of a guarded layout the events of other domains can be taken out of any run: where a domain's events that
 /// moved are run alone, with those that tell credits, each of them moves again, and the domain has the same state, journal,
 /// packets and violations in the end. Want of memory aside, it can't tell the other domains from none.

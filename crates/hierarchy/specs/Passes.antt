@@ -105,6 +105,14 @@ place_number h i = slice_index_or h.tree.places i no_place
 abbrev pub index_of : List PortPlace → ℕ → Option ℕ
 index_of places id = position (λ place. place.id == id) places
 
+abbrev pub input_number : List PortPlace → Option ℕ → Option LinkEnd
+input_number places None = None
+input_number places (Some i) = (slice_index_or places i no_place).input
+
+-- where the packets that come into the port of an ID are sent from
+abbrev pub input_of : List PortPlace → ℕ → Option LinkEnd
+input_of places id = input_number places (index_of places id)
+
 module _ {K : Type 0} (refuses : K → Descriptor → ℕ → Option Descriptor → K → Type 0) (unknown wants : K → Descriptor → ℕ → Type 0) (is_sure : Bool) (class : Class) (outcome : Outcome) (known known' : K) (reported reported' : List Violation) (old new : HierarchyView) where
   -- the port of this number had its turn, at this node and with packets that are sent from this end; all else stays
   pub record HasTurn (i : ℕ) (node : ℕ) (input : LinkEnd) : Type 0 where

@@ -1,6 +1,6 @@
 //! The links and switches of a layout.
 
-ghost use Rattle.std.specs.Prelude.{◌≡◌, ◌≤◌, ◌++◌, IfOk, IfSome, IsSome, List, MatchBool, MatchOption, None, Some, false, option_map};
+ghost use Rattle.std.specs.Prelude.{◌≡◌, ◌≤◌, ◌++◌, IfOk, IfSome, IsSome, List, MatchBool, MatchOption, None, Some, false, option_map, slice_get};
 ghost use Rattle.fab_types.specs.declared.class.Class.{Class};
 ghost use Rattle.credit.specs.Kinds.{Kind};
 ghost use Rattle.credit.specs.Limits.{MayStart, at};
@@ -14,12 +14,13 @@ ghost use Rattle.topology.specs.Topologies.{IsEnd};
 ghost use Rattle.hierarchy.specs.Kept.{IsKept};
 ghost use Rattle.hierarchy.specs.Lost.{lost_at};
 ghost use Rattle.hierarchy.specs.Moves.{channel_at, left_at, on_channel, put_at};
-ghost use Rattle.hierarchy.specs.Passes.{Passes, index_of};
+ghost use Rattle.hierarchy.specs.Passes.{Passes, index_of, input_of};
 ghost use Rattle.hierarchy.specs.Starts.{start_of};
 ghost use Rattle.hierarchy.specs.Views.{IsSameRest, channels, simplex_at};
 
 use crate::lanes::{
-    credits_at, head_at, is_full_at, put_at, put_back_at, receive_at, send_at, take_at, tell_at,
+    credits_at, head_at, home_received_at, home_sent_at, home_travelling_at, is_full_at, put_at,
+    put_back_at, receive_at, send_at, take_at, tell_at,
 };
 use crate::lost::{Lost, lost_by};
 use crate::node::Node;
@@ -141,6 +142,40 @@ impl Hierarchy {
         ensures places { (class : Class) → count_in class ((channel_at (channels self.now) end).wire ++ (channel_at (channels self.now) end).ingress) ≤ 127 }
     {
         credits_at(&self.nodes, end)
+    }
+
+    /// The domain that made the eligible packet of a class at the sender of this end.
+    pub fn home_sent_at(&self, end: LinkEnd, class: Class) -> Option<DomainId>
+        requires { IsEnd (self.now.tree).lanes end }
+        ensures { result ≡ option_map (λ taken. taken.0.domain) (eligible class (channel_at (channels self.now) end).egress) }
+    {
+        home_sent_at(&self.nodes, end, class)
+    }
+
+    /// The domain that made the oldest packet on the wire of the direction that is sent from this end.
+    pub fn home_travelling_at(&self, end: LinkEnd) -> Option<DomainId>
+        requires { IsEnd (self.now.tree).lanes end }
+        ensures { result ≡ option_map (λ frame. frame.domain) (slice_get (channel_at (channels self.now) end).wire 0) }
+    {
+        home_travelling_at(&self.nodes, end)
+    }
+
+    /// The domain that made the eligible packet of a class that waits at the receiver of that direction.
+    pub fn home_received_at(&self, end: LinkEnd, class: Class) -> Option<DomainId>
+        requires { IsEnd (self.now.tree).lanes end }
+        ensures { result ≡ option_map (λ taken. taken.0.domain) (eligible class (channel_at (channels self.now) end).ingress) }
+    {
+        home_received_at(&self.nodes, end, class)
+    }
+
+    /// Where the packets that come into the port of this ID are sent from. None where there is no such port, and
+    /// where nothing stands at the other end of its link.
+    pub fn input(&self, id: PortId) -> Option<LinkEnd>
+        ensures value { result ≡ input_of (self.now.tree).places id }
+        ensures end { IfSome result (λ end. IsEnd (self.now.tree).lanes end) }
+    {
+        let index = index_of(&self.topology, id)?;
+        self.topology.places()[index].input
     }
 
     /// What ports read of the eligible packet of a class that waits at the receiver of the direction that

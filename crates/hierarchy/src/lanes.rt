@@ -1,6 +1,6 @@
 //! What happens to one direction of a link, among all.
 
-ghost use Rattle.std.specs.Prelude.{◌≡◌, ◌≤◌, ◌++◌, IfSome, IsSome, IsTrue, List, MatchBool, MatchOption, None, Some, false, length, map, option_map};
+ghost use Rattle.std.specs.Prelude.{◌≡◌, ◌≤◌, ◌++◌, IfSome, IsSome, IsTrue, List, MatchBool, MatchOption, None, Some, false, length, map, option_map, slice_get};
 ghost use Rattle.fab_types.specs.declared.class.Class.{Class};
 ghost use Rattle.credit.specs.Kinds.{Kind};
 ghost use Rattle.credit.specs.Limits.{MayStart, at};
@@ -14,7 +14,7 @@ ghost use Rattle.hierarchy.specs.Views.{channels_of, simplex_at};
 
 use crate::node::Node;
 use credit::Limits;
-use fab_types::{Class, Head};
+use fab_types::{Class, DomainId, Head};
 use frame_log::Frame;
 use port::{LaneIn, LaneOut};
 use topology::LinkEnd;
@@ -60,6 +60,33 @@ pub(crate) fn credits_at(nodes: &[Node], end: LinkEnd) -> Limits
 {
     let node = &nodes[end.node];
     node.lanes[end.lane].left()
+}
+
+/// The domain that made the eligible packet of a class at the sender of an end.
+pub(crate) fn home_sent_at(nodes: &[Node], end: LinkEnd, class: Class) -> Option<DomainId>
+    requires { IsEnd (map length nodes.now) end }
+    ensures { result ≡ option_map (λ taken. taken.0.domain) (eligible class (channel_at (channels_of nodes.now) end).egress) }
+{
+    let node = &nodes[end.node];
+    node.lanes[end.lane].home_sent(class)
+}
+
+/// The domain that made the oldest packet on the wire of an end.
+pub(crate) fn home_travelling_at(nodes: &[Node], end: LinkEnd) -> Option<DomainId>
+    requires { IsEnd (map length nodes.now) end }
+    ensures { result ≡ option_map (λ frame. frame.domain) (slice_get (channel_at (channels_of nodes.now) end).wire 0) }
+{
+    let node = &nodes[end.node];
+    node.lanes[end.lane].home_travelling()
+}
+
+/// The domain that made the eligible packet of a class at the receiver of an end.
+pub(crate) fn home_received_at(nodes: &[Node], end: LinkEnd, class: Class) -> Option<DomainId>
+    requires { IsEnd (map length nodes.now) end }
+    ensures { result ≡ option_map (λ taken. taken.0.domain) (eligible class (channel_at (channels_of nodes.now) end).ingress) }
+{
+    let node = &nodes[end.node];
+    node.lanes[end.lane].home_received(class)
 }
 
 pub(crate) fn head_at(nodes: &mut [Node], end: LinkEnd, class: Class) -> Option<Head>

@@ -1,16 +1,17 @@
 //! One direction of a link.
 
-ghost use Rattle.std.specs.Prelude.{◌≡◌, ◌≤◌, ◌++◌, [], None, Some, MatchBool};
+ghost use Rattle.std.specs.Prelude.{◌≡◌, ◌≤◌, ◌++◌, [], None, Some, MatchBool, option_map, slice_get};
 ghost use Rattle.fab_types.specs.declared.class.Class.{Class};
 ghost use Rattle.credit.specs.Kinds.{Kind};
 ghost use Rattle.credit.specs.Limits.{MayStart, at};
+ghost use Rattle.port.specs.Lanes.{eligible};
 ghost use Rattle.port.specs.Queues.{frames_of};
 ghost use Rattle.link.specs.Channels.{IsCovered, count_in, receive, send, tell};
 ghost use Rattle.link.specs.Simplexes.{channel};
 
 use crate::steps::{give_back, hand_over, hear, land, launch};
 use credit::{Limits, Receiver, Sender};
-use fab_types::{Class, Head};
+use fab_types::{Class, DomainId, Head};
 use frame_log::Frame;
 use port::{FrameQueue, LaneIn, LaneOut};
 use port_queue::Ring;
@@ -89,6 +90,31 @@ impl Simplex {
         ensures places { (class : Class) → count_in class (self.now.wire ++ frames_of self.now.ingress.queue.waiting) ≤ 127 }
     {
         self.sender.left()
+    }
+
+    /// The domain that made the eligible packet of a class at the sender, which the next `send` takes if there are
+    /// credits for it.
+    pub fn home_sent(&self, class: Class) -> Option<DomainId>
+        ensures { result ≡ option_map (λ taken. taken.0.domain) (eligible class (channel self.now).egress) }
+    {
+        self.egress.home(class)
+    }
+
+    /// The domain that made the oldest packet of the wire.
+    pub fn home_travelling(&self) -> Option<DomainId>
+        ensures { result ≡ option_map (λ frame. frame.domain) (slice_get (channel self.now).wire 0) }
+    {
+        match self.wire.front() {
+            Some(frame) => Some(frame.domain()),
+            None => None,
+        }
+    }
+
+    /// The domain that made the eligible packet of a class at the receiver.
+    pub fn home_received(&self, class: Class) -> Option<DomainId>
+        ensures { result ≡ option_map (λ taken. taken.0.domain) (eligible class (channel self.now).ingress) }
+    {
+        self.ingress.home(class)
     }
 
     /// The sender learns the receiver's present limits. It answers false where it knows them.

@@ -4,7 +4,7 @@ ghost use Rattle.std.specs.Prelude.{◌≡◌, IfOk, IfSome, IsSome, IsTrue, Mat
 ghost use Rattle.port.specs.Lanes.{class_of, eligible};
 ghost use Rattle.outboxes.specs.Outboxes.{empty_box, restored, takes, waiting, with_more, with_put, with_queue};
 
-use fab_types::{Class, Head, NoMemory, Origin};
+use fab_types::{Class, DomainId, Head, NoMemory, Origin};
 use frame_log::Frame;
 use port_queue::Outbox;
 use std::alloc::Global;
@@ -51,6 +51,16 @@ impl OriginBox {
     {
         match self.outbox.head(class) {
             Some(frame) => Some(frame.head()),
+            None => None,
+        }
+    }
+
+    /// The domain that made the eligible packet of a class.
+    pub fn home(&self, class: Class) -> Option<DomainId>
+        ensures { result ≡ option_map (λ taken. taken.0.domain) (eligible class (waiting self.now)) }
+    {
+        match self.outbox.head(class) {
+            Some(frame) => Some(frame.domain()),
             None => None,
         }
     }

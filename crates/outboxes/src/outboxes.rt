@@ -7,7 +7,7 @@ ghost use Rattle.outboxes.specs.Outboxes.{boxes_of, changed, has_place, queue_of
 use crate::changes::{box_place, more_at, put_at, put_back_at, take_at};
 use crate::origin_box::OriginBox;
 use crate::starts::boxes_of;
-use fab_types::{Class, Head, NoMemory, Origin};
+use fab_types::{Class, DomainId, Head, NoMemory, Origin};
 use frame_log::Frame;
 use layout::Layout;
 use std::alloc::Global;
@@ -46,6 +46,14 @@ impl Outboxes {
     {
         let place = box_place(&self.boxes, origin)?;
         self.boxes[place].head(class)
+    }
+
+    /// The domain that made the eligible packet of a class of this origin.
+    pub fn home(&self, origin: Origin, class: Class) -> Option<DomainId>
+        ensures { result ≡ option_map (λ taken. taken.0.domain) (eligible class (waiting_of self.now origin)) }
+    {
+        let place = box_place(&self.boxes, origin)?;
+        self.boxes[place].home(class)
     }
 
     /// Takes the eligible packet of a class.

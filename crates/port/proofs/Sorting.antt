@@ -1,10 +1,9 @@
 -- Queues in which each packet waits under its own class.
-use Rattle.std.proofs.Common.{◌≡◌, ℕ, Bool, true, false, List, [], ◌∷◌, ◌++◌, Option, Some, None, cond, map, refl, sym, subst, ap, ◌∙◌}
-use Rattle.std.specs.Prelude.{All, option_map}
+use Rattle.std.proofs.Common.{◌≡◌, ℕ, Bool, true, false, List, [], ◌∷◌, Option, Some, None, cond, refl, sym, subst, ap, ◌∙◌}
+use Rattle.std.specs.Prelude.{option_map}
 use Rattle.std.specs.Option.{MatchOption, IfSome}
 use Rattle.std.specs.List.{insert}
 use Rattle.std.proofs.lemmas.List.Elements.{All-append, All-cons, All-head, All-tail, All-take, All-drop}
-use Rattle.fab_types.specs.declared.head.Head.{Head}
 use Rattle.frame_log.specs.Descriptor.{Descriptor}
 use Rattle.ordering.specs.Ordering.{same_class, passes, behind, at_item}
 use Rattle.port_queue.specs.Queue.{Queue, taken_of, head_of, restored, restored_at}
@@ -46,6 +45,15 @@ heads (Some r) = refl
 pub head_found : (c : Class) (ws : List (Class × Descriptor)) (lent : Option Descriptor) → IsSorted ws → lent ≡ head_of c ws → option_map (λ (f : Descriptor). f.head) lent ≡ option_map (λ (t : Descriptor × List Descriptor). t.0.head) (eligible c (frames_of ws))
 head_found c ws lent all e = ap (option_map (λ (f : Descriptor). f.head)) e
     ∙ (heads (taken_of c ws) ∙ ap (option_map (λ (t : Descriptor × List Descriptor). t.0.head)) (sym (eligible_of c ws all)))
+
+homes : (found : Option ((Class × Descriptor) × List (Class × Descriptor))) → option_map (λ (f : Descriptor). f.domain) (option_map (λ (r : (Class × Descriptor) × List (Class × Descriptor)). r.0.1) found) ≡ option_map (λ (t : Descriptor × List Descriptor). t.0.domain) (option_map of_taken found)
+homes None = refl
+homes (Some r) = refl
+
+-- and so is its home
+pub home_found : (c : Class) (ws : List (Class × Descriptor)) (lent : Option Descriptor) → IsSorted ws → lent ≡ head_of c ws → option_map (λ (f : Descriptor). f.domain) lent ≡ option_map (λ (t : Descriptor × List Descriptor). t.0.domain) (eligible c (frames_of ws))
+home_found c ws lent all e = ap (option_map (λ (f : Descriptor). f.domain)) e
+    ∙ (homes (taken_of c ws) ∙ ap (option_map (λ (t : Descriptor × List Descriptor). t.0.domain)) (sym (eligible_of c ws all)))
 
 pub none_taken : (c : Class) (ws : List (Class × Descriptor)) → IsSorted ws → taken_of c ws ≡ None → eligible c (frames_of ws) ≡ None
 none_taken c ws all e = eligible_of c ws all ∙ ap (option_map of_taken) e

@@ -1,7 +1,7 @@
 -- A port of a switch, as a layout has it (PCIe 4.0, 7.5.1.3), and the lanes of its switch.
 use Rattle.std.specs.Prelude.{ℕ, suc, ◌==◌, Bool, ◌&&◌, List, map, Option, Some, None, option_map}
 use Rattle.std.specs.Option.{option_map_or}
-use Rattle.std.specs.List.{find, filter, position, list_all}
+use Rattle.std.specs.List.{filter, position, list_all}
 use Rattle.fab_types.specs.Id.{bus_of}
 use Rattle.fab_types.specs.declared.place.Direction.{Direction}
 use Rattle.fab_types.specs.declared.place.Way.TheVariants.{Up, Down}

@@ -1,5 +1,5 @@
 -- Packets whose Requester ID was looked up.
-use Rattle.std.specs.Prelude.{ℕ, ◌==◌, Bool, true, false, ◌||◌, not, List, Option, Some, None, option_and_then}
+use Rattle.std.specs.Prelude.{ℕ, ◌==◌, Bool, false, ◌||◌, not, List, Option, Some, None, option_and_then}
 use Rattle.fab_types.specs.declared.head.Header.{Header}
 use Rattle.frame_log.specs.Descriptor.{Descriptor}
 use Rattle.layout.specs.declared.lines.PortLine.{PortLine}

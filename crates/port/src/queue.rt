@@ -1,11 +1,12 @@
 //! Lanes that are queues in memory.
 
-ghost use Rattle.std.specs.Prelude.{◌≡◌, ◌<◌, ◌^◌, ◌==◌, ℕ, [], None, true, IsTrue, ◌↔◌};
+ghost use Rattle.std.specs.Prelude.{◌≡◌, ◌<◌, ◌^◌, ◌==◌, ℕ, [], None, true, IsTrue, ◌↔◌, option_map};
 ghost use Rattle.port_queue.specs.Queue.{count_of};
+ghost use Rattle.port.specs.Lanes.{eligible};
 ghost use Rattle.port.specs.Queues.{frames_of, frames_restored, IsSorted};
 
 use crate::lanes::{LaneIn, LaneOut};
-use fab_types::{Class, Head};
+use fab_types::{Class, DomainId, Head};
 use frame_log::Frame;
 use port_queue::PortQueue;
 use std::marker::Model;
@@ -48,6 +49,16 @@ impl<const CAP: usize> FrameQueue<CAP> {
         ensures sorted { IsSorted self.now.queue.waiting }
     {
         self.queue.is_full(class)
+    }
+
+    /// The domain that made the eligible packet of a class (PCIe 4.0, 2.4.1), if one is eligible.
+    pub fn home(&self, class: Class) -> Option<DomainId>
+        ensures { result ≡ option_map (λ taken. taken.0.domain) (eligible class (frames_of self.now.queue.waiting)) }
+    {
+        match self.queue.head(class) {
+            Some(frame) => Some(frame.domain()),
+            None => None,
+        }
     }
 }
 

@@ -1,4 +1,4 @@
-use Rattle.std.proofs.Common.{◌≡◌, Option, Some, None, false, is_some, refl, sym, ◌∙◌, inr}
+use Rattle.std.proofs.Common.{refl, sym, ◌∙◌, inr}
 use Rattle.port.proofs.Stopping.{none_held}
 use Rattle.port.proofs.turn.advance.Goals as goal
 

@@ -1,7 +1,4 @@
-use Rattle.std.proofs.Common.{◌≡◌, Option, Some, None, sym, ap, ◌∙◌}
-use Rattle.std.specs.Option.{option_map}
-use Rattle.fab_types.specs.declared.head.Head.{Head}
-use Rattle.frame_log.specs.Descriptor.{Descriptor}
+use Rattle.std.proofs.Common.{Some, None, ap, ◌∙◌}
 use Rattle.port.proofs.Sorting.{head_found}
 use Rattle.port.proofs.queue.FrameQueueLaneIn.head.Goals as goal
 
