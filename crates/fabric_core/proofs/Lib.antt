@@ -75,3 +75,6 @@ pub mod AloneSteps
 pub mod Behind
 pub mod NewPackets
 pub mod NewPairs
+pub mod Numbers
+pub mod Comparing
+pub mod Leaving

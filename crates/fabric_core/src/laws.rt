@@ -3,6 +3,7 @@
 ghost use Rattle.std.specs.Prelude.{◌≡◌, ◌≤◌, ℕ, IsSome, List, Some, length, slice_get, true};
 ghost use Rattle.fab_types.specs.declared.class.Class.TheVariants.{Completion, NonPosted};
 ghost use Rattle.frame_log.specs.Descriptor.{Descriptor};
+ghost use Rattle.fab_types.specs.declared.outcome.Outcome.{Outcome};
 ghost use Rattle.fab_types.specs.declared.place.Place.{Place};
 ghost use Rattle.domain.specs.Consumed.{is_in_order};
 ghost use Rattle.domain.specs.Orders.{IsPosted};
@@ -20,7 +21,9 @@ ghost use Rattle.fabric_core.specs.Invariant.{IsFabric, IsKept};
 ghost use Rattle.fabric_core.specs.Isolation.{IsApart};
 ghost use Rattle.fabric_core.specs.Orders.{AreOrdered, GoesBy, KeepsToWay, StayOrdered, TurnOf};
 ghost use Rattle.fabric_core.specs.Places.{HaveOnePlace, IsFlown};
+ghost use Rattle.fabric_core.specs.Runs.{Run};
 ghost use Rattle.fabric_core.specs.Soundness.{IsGuardedFabric};
+ghost use Rattle.fabric_core.specs.TakenOut.{CannotTell};
 ghost use Rattle.fabric_core.specs.World.{World, is_guarded, world_of};
 
 /// Every event keeps what a fabric keeps: each packet in flight stands in exactly one place, or was lost as an alien
@@ -93,3 +96,11 @@ pub fn new_packets_stand_behind()
 {
     acs::guarded_requests_go_up();
 }
+
+/// In a guarded layout a domain can't tell the other domains' events from none: of any run, take those out that neither
+/// tell credits nor are events of the domain that moved. In every run of what is left, without want of memory, each event
+/// of the domain moves, and the domain has what it has of the first run: its state, its journal, the place of each of its
+/// packets, and the violations by its functions.
+pub fn other_domains_can_be_taken_out()
+    ensures { (platform : Platform) → IsGuarded platform → (events : List Event) (outcomes : List Outcome) (first : World) → Run (world_of platform) events outcomes first → (d : ℕ) → CannotTell d (world_of platform) events outcomes first }
+{}
