@@ -8,7 +8,7 @@ ghost use Rattle.layout.specs.Share.{is_guarded_port};
 ghost use Rattle.tenants.specs.Tenants.{domain_at, place_of};
 ghost use Rattle.fabric_core.specs.Credits.{HasCredits, channel_of};
 ghost use Rattle.fabric_core.specs.Events.{StepsTo};
-ghost use Rattle.fabric_core.specs.Isolation.{AreApart, IsApart};
+ghost use Rattle.fabric_core.specs.Isolation.{AreApart, IsApart, home};
 ghost use Rattle.fabric_core.specs.Orderly.{IsOrderly};
 ghost use Rattle.fabric_core.specs.Orders.{AreInOrder};
 ghost use Rattle.fabric_core.specs.Places.{HaveOnePlace};
@@ -18,6 +18,7 @@ ghost use Rattle.fabric_core.specs.World.{is_guarded, world_of};
 use crate::event::Event;
 use crate::laws::every_event_keeps_a_fabric;
 use crate::step::step;
+use crate::whose::home;
 use credit::Limits;
 use domain::Domain;
 use edge::Edge;
@@ -101,6 +102,16 @@ impl Fabric {
     {
         let end = self.hierarchy.sender(direction)?;
         Some(self.hierarchy.credits_at(end))
+    }
+
+    /// The domain that an event is of, as the fabric stands. A begin is of the domain whose function or host begins it,
+    /// and an event that takes a packet is of that packet's home, the domain that made it, wherever the packet is and
+    /// whoever takes it. None where the event tells credits, where there is nothing to take, and where no domain has the
+    /// function or host.
+    pub fn home(&self, event: &Event) -> Option<DomainId>
+        ensures { result ≡ home self.now event.now }
+    {
+        home(&self.hierarchy, &self.edge, event)
     }
 
     /// Makes one event, and says what came of it. `Moved`: the fabric did what the event does. `Idle`: there was
