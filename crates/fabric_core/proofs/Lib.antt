@@ -101,3 +101,4 @@ pub mod LeftRuns
 pub mod Numbers
 pub mod Comparing
 pub mod Leaving
+pub mod FirstRuns
