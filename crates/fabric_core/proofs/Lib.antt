@@ -98,3 +98,7 @@ pub mod NarrowSteps
 pub mod ForeignSteps
 pub mod LeftEvents
 pub mod LeftRuns
+pub mod Numbers
+pub mod Comparing
+pub mod Leaving
+pub mod FirstRuns

@@ -2,6 +2,7 @@
 #![tactic(auto)]
 
 mod begins;
+mod comparison;
 mod ending;
 mod ends;
 mod event;
@@ -9,10 +10,13 @@ mod fabric;
 mod laws;
 mod lose;
 mod pass;
+mod purge;
 mod receivers;
 mod step;
+mod whose;
 mod wires;
 
+pub use comparison::{Comparison, compare_runs};
 pub use event::Event;
 pub use fabric::Fabric;
 pub use laws::{
@@ -21,6 +25,7 @@ pub use laws::{
     only_non_posted_are_answered, other_domains_can_be_taken_out, packets_have_one_place,
     packets_keep_their_order, posted_packets_keep_to_their_way, what_is_left_can_be_run,
 };
+pub use purge::purge_run;
 
 #[cfg(test)]
 mod tests;
