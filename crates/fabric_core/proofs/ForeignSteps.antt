@@ -28,8 +28,7 @@ use Rattle.fabric_core.proofs.Mirrors.{Mirrors, MirrorsLink, MirrorsLinks, own_b
 use Rattle.fabric_core.proofs.Narrowing.{NarrowLinks, Narrows, origin_of}
 use Rattle.fabric_core.proofs.NarrowSteps.{Tightens}
 use Rattle.fabric_core.proofs.OwnMoves.{IsRoomy}
-use Rattle.fabric_core.proofs.OwnOnes.{own_append}
-use Rattle.fabric_core.proofs.Owning.{own_boxes, own_links}
+use Rattle.fabric_core.proofs.Owning.{own_append, own_boxes, own_links}
 use Rattle.fabric_core.proofs.Pairwise.{Pairwise, pair_after, pair_at, pair_both, pair_changed, pair_from, pair_map, pair_same}
 
 -- ---- others' events

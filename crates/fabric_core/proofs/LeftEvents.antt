@@ -9,6 +9,7 @@ use Rattle.fab_types.specs.declared.faults.begin.BeginFault.{BeginFault}
 use Rattle.fab_types.specs.declared.outcome.Outcome.{Outcome}
 use Rattle.fab_types.specs.declared.outcome.Outcome.TheVariants.{Idle, Moved, NoMemory, Refused}
 use Rattle.fab_types.specs.declared.violation.Violation.{Violation}
+use Rattle.fab_types.specs.declared.place.Direction.{Direction}
 use Rattle.fab_types.specs.declared.place.Origin.TheVariants as origin
 use Rattle.bridge.specs.Bridges.{Tree as Routes}
 use Rattle.layout.specs.Share.{is_guarded_port}
@@ -190,3 +191,41 @@ module _ (up : RoutesUp) (d : ℕ) (is_told : Violation → Bool) (w v : World) 
 
   pub kept : (event : Event) (outcome outcome' : Outcome) (w' v' : World) → StepsTo w event outcome w' → StepsTo v event outcome' v' → HasMemory outcome' → is_left d w event outcome ≡ true → IsTrue (tells_credits event || is_moved outcome') × Accords d is_told w' v'
   kept event outcome outcome' w' v' step step' memory left = kept_by event outcome outcome' w' v' (tells_credits event) (is_event_of w d event) refl refl step step' memory left
+
+  -- ---- and it can be done
+
+  -- a step that isn't refused memory
+  abbrev pub Goes : Event → Type 0
+  Goes event = (outcome : Outcome) × (v' : World) × StepsTo v event outcome v' × HasMemory outcome
+
+  credit_goes : (direction : Direction) (o : Option World) → effect v (Credit direction) ≡ o → Goes (Credit direction)
+  credit_goes direction None e = (Idle, v, (e, refl, refl), λ same. absurd cc)
+  credit_goes direction (Some v') e = (Moved, v', e, λ same. absurd cc)
+
+  tells_go : (event : Event) → tells_credits event ≡ true → Goes event
+  tells_go (Credit direction) tells = credit_goes direction (effect v (Credit direction)) refl
+  tells_go (Submit function bytes) tells = absurd cc
+  tells_go (Tick function) tells = absurd cc
+  tells_go (Mmio domain access) tells = absurd cc
+  tells_go (Enter origin class) tells = absurd cc
+  tells_go (Pass port class) tells = absurd cc
+  tells_go (Send direction class) tells = absurd cc
+  tells_go (Take direction) tells = absurd cc
+  tells_go (Root class) tells = absurd cc
+  tells_go (Arrive function class) tells = absurd cc
+
+  own_goes : (event : Event) (w' : World) → effect w event ≡ Some w' → is_event_of w d event ≡ true → Goes event
+  own_goes event w' is own =
+      let too = follows_some (Mirrors d is_told) (effect w event) (effect v event) w' (own_step d is_told w v a.mirrors a.roomy a.fabric.kept.settled.numbered g (a.other.guarded guarded_other) event own) is in
+      (Moved, too.0, too.1, λ same. absurd cc)
+
+  goes_by : (event : Event) (outcome : Outcome) (w' : World) (tells own : Bool) → tells_credits event ≡ tells → is_event_of w d event ≡ own → StepsTo w event outcome w' → (tells || (own && is_moved outcome)) ≡ true → Goes event
+  goes_by event outcome w' true own e f step left = tells_go event e
+  goes_by event Moved w' false true e f step left = own_goes event w' step f
+  goes_by event Idle w' false true e f step left = absurd cc
+  goes_by event (Refused fault) w' false true e f step left = absurd cc
+  goes_by event NoMemory w' false true e f step left = absurd cc
+  goes_by event outcome w' false false e f step left = absurd cc
+
+  pub goes : (event : Event) (outcome : Outcome) (w' : World) → StepsTo w event outcome w' → is_left d w event outcome ≡ true → Goes event
+  goes event outcome w' step left = goes_by event outcome w' (tells_credits event) (is_event_of w d event) refl refl step left

@@ -1,7 +1,7 @@
 -- In a guarded fabric the events of other domains can be taken out of any run.
 use Rattle.std.proofs.Common.{◌≡◌, ℕ, Bool, true, false, cond, List, [], ◌∷◌, ◌++◌, map, refl, sym, ap, ◌∙◌, subst, arith}
 use Rattle.std.specs.Prelude.{All}
-use Rattle.std.proofs.lemmas.List.Elements.{All-head, All-map, All-tail}
+use Rattle.std.proofs.lemmas.List.Elements.{All-cons, All-head, All-map, All-nil, All-tail}
 use Rattle.fab_types.specs.declared.outcome.Outcome.{Outcome}
 use Rattle.fab_types.specs.declared.outcome.Outcome.TheVariants.{Idle, Moved, NoMemory, Refused}
 use Rattle.fab_types.specs.declared.violation.Violation.{Violation}
@@ -26,17 +26,18 @@ use Rattle.fabric_core.specs.Events.{StepsTo}
 use Rattle.fabric_core.specs.Invariant.{IsFabric}
 use Rattle.fabric_core.specs.Isolation.{domain_of, is_number, own, own_on_link}
 use Rattle.fabric_core.specs.Runs.{Run}
-use Rattle.fabric_core.specs.TakenOut.{CannotTell, HasMemory, HasSame, HaveMoved, after, events_left, is_by, is_left, or_same}
+use Rattle.fabric_core.specs.TakenOut.{CanBeLeft, CannotTell, HasMemory, HasSame, HaveMoved, after, events_left, is_by, is_left, or_same}
 use Rattle.fabric_core.specs.World.{World, world_of}
 use Rattle.fabric_core.proofs.FirstTurns.{turns_new}
 use Rattle.fabric_core.proofs.GuardedStart.{IsQuiet, guarded_start, quiet_at, quiet_nodes}
-use Rattle.fabric_core.proofs.LeftEvents.{Accords, kept, skipped}
+use Rattle.fabric_core.proofs.LeftEvents.{Accords, goes, kept, skipped}
 use Rattle.fabric_core.proofs.MirroredEdges.{function_number}
 use Rattle.fabric_core.proofs.Mirrors.{Mirrors, MirrorsLink, MirrorsLinks, own_box}
 use Rattle.fabric_core.proofs.OwnMoves.{IsRoomy}
 use Rattle.fabric_core.proofs.OwnOnes.{filter_same, own_twice}
 use Rattle.fabric_core.proofs.Owning.{own_boxes, own_links}
 use Rattle.fabric_core.proofs.Pairwise.{Pairwise, pair_all, pair_map}
+use Rattle.fabric_core.proofs.SparedMoves.{same_on_link}
 use Rattle.fabric_core.proofs.Sparing.{same_part}
 use Rattle.fabric_core.proofs.Starting.{kept_new}
 
@@ -45,9 +46,8 @@ use Rattle.fabric_core.proofs.Starting.{kept_new}
 module _ (d : ℕ) where
   same_link : (one other : Channel) → MirrorsLink d one other → own_on_link d other ≡ own_on_link d one
   same_link one other m =
-      ap (λ (xs : List Descriptor). record { egress = xs; wire = own d other.wire; ingress = own d other.ingress }) (ap (own d) m.egress ∙ own_twice d one.egress)
-      ∙ (ap (λ (xs : List Descriptor). record { egress = own d one.egress; wire = xs; ingress = own d other.ingress }) (ap (own d) m.wire ∙ own_twice d one.wire)
-      ∙ ap (λ (xs : List Descriptor). record { egress = own d one.egress; wire = own d one.wire; ingress = xs }) (ap (own d) m.ingress ∙ own_twice d one.ingress))
+      same_on_link (own d one.egress) (own d other.egress) (own d one.wire) (own d other.wire) (own d one.ingress) (own d other.ingress)
+      (ap (own d) m.egress ∙ own_twice d one.egress) (ap (own d) m.wire ∙ own_twice d one.wire) (ap (own d) m.ingress ∙ own_twice d one.ingress)
 
   same_links : (ones others : List (List Channel)) → MirrorsLinks d ones others → own_links d others ≡ own_links d ones
   same_links ones others m =
@@ -108,6 +108,31 @@ module _ (up : RoutesUp) (d : ℕ) (is_told : Violation → Bool) where
   runs_left w v [] (outcome ∷ outcomes) first a run = absurd run
   runs_left w v (event ∷ events) [] first a run = absurd run
 
+  -- ---- there is a run of what is left
+
+  abbrev CanRun : World → List Event → Type 0
+  CanRun v events = (outcomes : List Outcome) × (second : World) × Run v events outcomes second × All HasMemory outcomes
+
+  one_more : (w v w' : World) (event : Event) (outcome : Outcome) (events : List Event) → Accords d is_told w v → StepsTo w event outcome w' → is_left d w event outcome ≡ true → ((v' : World) → Accords d is_told w' v' → CanRun v' events)
+      → CanRun v (event ∷ events)
+  one_more w v w' event outcome events a step left later =
+      let now = goes up d is_told w v a event outcome w' step left in
+      let rest = later now.1 (kept up d is_told w v a event outcome now.0 w' now.1 step now.2 now.3 left).1 in
+      (now.0 ∷ rest.0, rest.1, (now.1, now.2, rest.2), All-cons HasMemory now.0 rest.0 now.3 rest.3)
+
+  one_or_none : (w v w' : World) (event : Event) (outcome : Outcome) (events : List Event) (left : Bool) → is_left d w event outcome ≡ left → Accords d is_told w v → StepsTo w event outcome w' → ((v' : World) → Accords d is_told w' v' → CanRun v' events)
+      → CanRun v (cond left (event ∷ events) events)
+  one_or_none w v w' event outcome events true e a step later = one_more w v w' event outcome events a step e later
+  one_or_none w v w' event outcome events false e a step later = later v (skipped up d is_told w v a event outcome w' step e)
+
+  can_run : (w v : World) (events : List Event) (outcomes : List Outcome) (first : World) → Accords d is_told w v → Run w events outcomes first → CanRun v (events_left d w events outcomes)
+  can_run w v [] [] first a run = ([], v, refl, All-nil HasMemory)
+  can_run w v (event ∷ events) (outcome ∷ outcomes) first a run =
+      subst (λ (x : World). CanRun v (cond (is_left d w event outcome) (event ∷ events_left d x events outcomes) (events_left d x events outcomes))) (sym (after_is w run.0 event outcome run.1))
+      (one_or_none w v run.0 event outcome (events_left d run.0 events outcomes) (is_left d w event outcome) refl a run.1 (λ v' b. can_run run.0 v' events outcomes first b run.2))
+  can_run w v [] (outcome ∷ outcomes) first a run = absurd run
+  can_run w v (event ∷ events) [] first a run = absurd run
+
 -- ---- at the start
 
 module _ (d : ℕ) where
@@ -163,10 +188,18 @@ start_fabric platform guarded = record {
   ordered = λ controls. turns_new platform (start_of platform) (edge_of platform) [] [] refl refl refl refl (guarded_start platform guarded).platform;
 }
 
+start_accords : (platform : Platform) → IsGuarded platform → (d : ℕ) → Accords d (is_by (world_of platform) d) (world_of platform) (world_of platform)
+start_accords platform guarded d =
+    let fabric = start_fabric platform guarded in
+    record { mirrors = start_mirrors d platform; roomy = start_roomy d platform; told = λ x. refl; fabric = fabric; guarded = guarded.controls; other = fabric }
+
 pub taken_out : RoutesUp → (platform : Platform) → IsGuarded platform → (events : List Event) (outcomes : List Outcome) (first : World) → Run (world_of platform) events outcomes first → (d : ℕ) → CannotTell d (world_of platform) events outcomes first
 taken_out up platform guarded events outcomes first run d outcomes' second run' memory =
     let w = world_of platform in
-    let fabric = start_fabric platform guarded in
-    let a : Accords d (is_by w d) w w = record { mirrors = start_mirrors d platform; roomy = start_roomy d platform; told = λ x. refl; fabric = fabric; guarded = guarded.controls; other = fabric } in
-    let result = runs_left up d (is_by w d) w w events outcomes first a run outcomes' second run' memory in
+    let result = runs_left up d (is_by w d) w w events outcomes first (start_accords platform guarded d) run outcomes' second run' memory in
     (result.0, same_of d (is_by w d) first second result.1)
+
+pub can_be_left : RoutesUp → (platform : Platform) → IsGuarded platform → (events : List Event) (outcomes : List Outcome) (first : World) → Run (world_of platform) events outcomes first → (d : ℕ) → CanBeLeft d (world_of platform) events outcomes
+can_be_left up platform guarded events outcomes first run d =
+    let w = world_of platform in
+    can_run up d (is_by w d) w w events outcomes first (start_accords platform guarded d) run

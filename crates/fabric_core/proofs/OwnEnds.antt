@@ -24,7 +24,7 @@ use Rattle.fabric_core.proofs.MirroredEdges.{AreNumbered, emitted_too, function_
 use Rattle.fabric_core.proofs.Begun.{function_same}
 use Rattle.fabric_core.proofs.MirroredLinks.{mirrors_put, place_too, taken_too}
 use Rattle.fabric_core.proofs.Mirrors.{Alike, Follows, Mirrors, MirrorsEdge, MirrorsLinks, MirrorsMade, MirrorsTaken, alike_mapped, follows_mapped, follows_unless}
-use Rattle.fabric_core.proofs.OwnMoves.{Beside, Both, IsRoomy, with_links, with_parts}
+use Rattle.fabric_core.proofs.OwnMoves.{Beside, IsRoomy, with_links, with_parts}
 use Rattle.fabric_core.proofs.OwnOnes.{IsOwn}
 use Rattle.fabric_core.proofs.Renewing.{renewed}
 
@@ -66,8 +66,8 @@ module _ (d : ℕ) (is_told : Violation → Bool) (w : World) (channels : List (
   abbrev other : World
   other = renewed w channels ports edge violations strays
 
-  abbrev BothAre : Option World → Option World → Type 0
-  BothAre one two = Both d is_told w channels ports edge violations strays m one two
+  abbrev Both : Option World → Option World → Type 0
+  Both one two = Follows (Mirrors d is_told) one two
 
   -- ---- what was taken
 
@@ -82,7 +82,7 @@ module _ (d : ℕ) (is_told : Violation → Bool) (w : World) (channels : List (
     ended_too (Some e) None alike = absurd alike
 
     -- it goes to a sender, if that has a place for it
-    put_too : (full full' : Bool) (end : LinkEnd) → (full ≡ false → full' ≡ false) → BothAre (cond full None (Some (with_channels w (put_at t.channels end t.frame)))) (cond full' None (Some (with_channels other (put_at cs end t.frame))))
+    put_too : (full full' : Bool) (end : LinkEnd) → (full ≡ false → full' ≡ false) → Both (cond full None (Some (with_channels w (put_at t.channels end t.frame)))) (cond full' None (Some (with_channels other (put_at cs end t.frame))))
     put_too full full' end free =
         follows_unless (Mirrors d is_told) full full' _ _ free (with_links d is_told w channels ports edge violations strays m _ _ (mirrors_put d t.channels cs links end t.frame is))
 
@@ -90,7 +90,7 @@ module _ (d : ℕ) (is_told : Violation → Bool) (w : World) (channels : List (
       is_free : (class : Class) (end : LinkEnd) → is_full class (channel_at w.channels end) ≡ false → is_full class (channel_at channels end) ≡ false
       is_free class end = place_too d w.channels channels m.links end class (roomy end class)
 
-      relayed_too : (class : Class) (found : Option LinkEnd) → BothAre (relayed w t class found) (relayed other too class found)
+      relayed_too : (class : Class) (found : Option LinkEnd) → Both (relayed w t class found) (relayed other too class found)
       relayed_too class None = tt
       relayed_too class (Some end) = put_too (is_full class (channel_at w.channels end)) (is_full class (channel_at channels end)) end (is_free class end)
 
@@ -103,7 +103,7 @@ module _ (d : ℕ) (is_told : Violation → Bool) (w : World) (channels : List (
             (subst (λ (o : Option EdgeView). Mirrors d is_told (ended w t (own_by_host w.edge t.frame ending)) (ended other too o)) (sym (home_at_host other g' t.frame ending))
             (ended_too (own_by_host w.edge t.frame ending) (own_by_host edge t.frame ending) (host_alike d w.edge edge numbers m.edge t.frame is ending)))
 
-        rooted_too : (class : Class) (ending : Ending) → BothAre (rooted_by w class t ending) (rooted_by other class too ending)
+        rooted_too : (class : Class) (ending : Ending) → Both (rooted_by w class t ending) (rooted_by other class too ending)
         rooted_too class Relay = relayed_too class (sender_of w.tree.links from_host)
         rooted_too class Carry = at_host Carry
         rooted_too class Deliver = at_host Deliver
@@ -121,18 +121,18 @@ module _ (d : ℕ) (is_told : Violation → Bool) (w : World) (channels : List (
             (sym (function_of_same w.edge.domains edge.domains m.edge.domains.shares function t.frame.domain)) (arrived_with function (ending_at_function w function t.frame))
 
   module _ (roomy : IsRoomy w) (g : IsGuardedFabric w) (g' : IsGuardedFabric other) (numbers : AreNumbered w.edge.domains) where
-    root_by : (class : Class) (o p : Option Taken) → Follows (MirrorsTaken d) o p → BothAre (rooted w class o) (rooted other class p)
+    root_by : (class : Class) (o p : Option Taken) → Follows (MirrorsTaken d) o p → Both (rooted w class o) (rooted other class p)
     root_by class None p so = tt
     root_by class (Some t) None so = absurd so
     root_by class (Some t) (Some t') so =
-        subst (λ (x : Taken). BothAre (rooted w class (Some t)) (rooted other class (Some x))) so.is
+        subst (λ (x : Taken). Both (rooted w class (Some t)) (rooted other class (Some x))) so.is
         (rooted_too t so.channels so.own so.links roomy g g' numbers class (ending_at_host t.frame))
 
     -- the host takes it in both
-    pub own_root : (class : Class) → is_number d (home_of_taken (taken w to_host class)) ≡ true → BothAre (root w class) (root other class)
+    pub own_root : (class : Class) → is_number d (home_of_taken (taken w to_host class)) ≡ true → Both (root w class) (root other class)
     own_root class is = root_by class (taken w to_host class) (taken other to_host class) (taken_too d w.channels channels m.links class (sender_of w.tree.links to_host) is)
 
-    arrive_by : (function : ℕ) (b : Bool) (o p : Option Taken) → Follows (MirrorsTaken d) o p → BothAre (cond b (arrived w function o) None) (cond b (arrived other function p) None)
+    arrive_by : (function : ℕ) (b : Bool) (o p : Option Taken) → Follows (MirrorsTaken d) o p → Both (cond b (arrived w function o) None) (cond b (arrived other function p) None)
     arrive_by function false o p so = tt
     arrive_by function true o p so =
         follows_mapped (MirrorsTaken d) (Mirrors d is_told) (λ (t : Taken). arrived_by w function t (ending_at_function w function t.frame)) (λ (t : Taken). arrived_by other function t (ending_at_function other function t.frame))
@@ -140,8 +140,8 @@ module _ (d : ℕ) (is_told : Violation → Bool) (w : World) (channels : List (
         (arrived_too t both.channels both.own both.links roomy g g' numbers function)) o p so
 
     -- a function does
-    pub own_arrive : (function : ℕ) (class : Class) → is_number d (home_of_taken (taken w (to_function function) class)) ≡ true → BothAre (arrive w function class) (arrive other function class)
+    pub own_arrive : (function : ℕ) (class : Class) → is_number d (home_of_taken (taken w (to_function function) class)) ≡ true → Both (arrive w function class) (arrive other function class)
     own_arrive function class is =
-        subst (λ (o : Option ℕ). BothAre (arrive w function class) (cond (is_some o) (arrived other function (taken other (to_function function) class)) None)) (sym (function_same w.edge.domains edge.domains m.edge.domains.shares function))
+        subst (λ (o : Option ℕ). Both (arrive w function class) (cond (is_some o) (arrived other function (taken other (to_function function) class)) None)) (sym (function_same w.edge.domains edge.domains m.edge.domains.shares function))
         (arrive_by function (is_some (place_of_function w.edge.domains function)) (taken w (to_function function) class) (taken other (to_function function) class)
         (taken_too d w.channels channels m.links class (sender_of w.tree.links (to_function function)) is))

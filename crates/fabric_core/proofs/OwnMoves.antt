@@ -39,7 +39,7 @@ module _ (d : ℕ) (is_told : Violation → Bool) (w : World) (channels : List (
   abbrev other : World
   other = renewed w channels ports edge violations strays
 
-  abbrev pub Both : Option World → Option World → Type 0
+  abbrev Both : Option World → Option World → Type 0
   Both one two = Follows (Mirrors d is_told) one two
 
   -- ---- parts

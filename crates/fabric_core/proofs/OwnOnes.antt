@@ -1,7 +1,7 @@
 -- The packets of one domain in a queue, where a packet of its own comes or leaves.
 use Rattle.std.proofs.Common.{◌≡◌, ℕ, ◌+◌, ◌≤◌, ◌==◌, Bool, true, false, cond, List, [], ◌∷◌, ◌++◌, Some, refl, sym, ap, ◌∙◌, arith}
 use Rattle.std.specs.Prelude.{filter}
-use Rattle.std.proofs.lemmas.List.Elements.{All-filter, filter-append}
+use Rattle.std.proofs.lemmas.List.Elements.{All-filter}
 use Rattle.frame_log.specs.Descriptor.{Descriptor}
 use Rattle.credit.specs.Kinds.{Kind, cost_of}
 use Rattle.link.specs.Channels.{count_in, total}
@@ -10,6 +10,7 @@ use Rattle.ordering.proofs.Leaving.{take_one-older, taken_leaves}
 use Rattle.ordering.specs.Ordering.{passes}
 use Rattle.port.specs.Lanes.{Class, class_of, eligible}
 use Rattle.fabric_core.specs.Isolation.{own}
+use Rattle.fabric_core.proofs.Owning.{own_append}
 
 -- a packet of the domain
 abbrev pub IsOwn : ℕ → Descriptor → Type 0
@@ -39,9 +40,6 @@ filter_same {X} p q (x ∷ xs) same = ap (λ (b : Bool). cond b (x ∷ filter p 
 -- ---- in a queue
 
 module _ (d : ℕ) where
-  pub own_append : (xs ys : List Descriptor) → own d (xs ++ ys) ≡ own d xs ++ own d ys
-  own_append xs ys = filter-append (is_own d) xs ys
-
   pub own_twice : (xs : List Descriptor) → own d (own d xs) ≡ own d xs
   own_twice xs = filter_twice (is_own d) xs
 
@@ -51,14 +49,14 @@ module _ (d : ℕ) where
 
   -- one of the domain is put behind them
   pub own_last : (frames : List Descriptor) (frame : Descriptor) → IsOwn d frame → own d (frames ++ frame ∷ []) ≡ own d frames ++ frame ∷ []
-  own_last frames frame is = own_append frames (frame ∷ []) ∙ ap (λ (xs : List Descriptor). own d frames ++ xs) (own_first frame [] is)
+  own_last frames frame is = own_append d frames (frame ∷ []) ∙ ap (λ (xs : List Descriptor). own d frames ++ xs) (own_first frame [] is)
 
   -- the eligible one is of the domain
   pub own_eligible : (class : Class) (frames left : List Descriptor) (frame : Descriptor) → eligible class frames ≡ Some (frame, left) → IsOwn d frame → eligible class (own d frames) ≡ Some (frame, own d left)
   own_eligible class frames left frame e is =
       let l = taken_leaves class_of class frames frame left e in
-      let queue = ap (own d) l.queue ∙ (own_append l.older (frame ∷ l.newer) ∙ ap (λ (xs : List Descriptor). own d l.older ++ xs) (own_first frame l.newer is)) in
-      let rest = ap (own d) l.is_left ∙ own_append l.older l.newer in
+      let queue = ap (own d) l.queue ∙ (own_append d l.older (frame ∷ l.newer) ∙ ap (λ (xs : List Descriptor). own d l.older ++ xs) (own_first frame l.newer is)) in
+      let rest = ap (own d) l.is_left ∙ own_append d l.older l.newer in
       let over = All-filter (is_own d) (λ (y : Descriptor). passes class (class_of y) ≡ true) l.older l.passes_older in
       ap (eligible class) queue ∙ (take_one-older class_of class (own d l.older) (own d l.newer) frame l.of_class over ∙ ap (λ (xs : List Descriptor). Some (frame, xs)) (sym rest))
 

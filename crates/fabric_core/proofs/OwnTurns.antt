@@ -31,7 +31,7 @@ use Rattle.fabric_core.proofs.GuardedAliens.{passes_as_turned}
 use Rattle.fabric_core.proofs.MirroredEdges.{AreNumbered, made_home, silent_too}
 use Rattle.fabric_core.proofs.MirroredLinks.{mirrors_put, place_too, taken_too}
 use Rattle.fabric_core.proofs.Mirrors.{Alike, Follows, Mirrors, MirrorsLinks, MirrorsMade, MirrorsTaken, follows_then, follows_unless}
-use Rattle.fabric_core.proofs.OwnMoves.{Beside, Both, IsRoomy, with_links}
+use Rattle.fabric_core.proofs.OwnMoves.{Beside, IsRoomy, with_links}
 use Rattle.fabric_core.proofs.OwnOnes.{IsOwn}
 use Rattle.fabric_core.proofs.Pairwise.{pair_at, pair_from}
 use Rattle.fabric_core.proofs.Renewing.{renewed}
@@ -47,8 +47,8 @@ module _ (d : ℕ) (is_told : Violation → Bool) (w : World) (channels : List (
   abbrev other : World
   other = renewed w channels ports edge violations strays
 
-  abbrev BothAre : Option World → Option World → Type 0
-  BothAre one two = Both d is_told w channels ports edge violations strays m one two
+  abbrev Both : Option World → Option World → Type 0
+  Both one two = Follows (Mirrors d is_told) one two
 
   told_more : (report : Option Violation) → filter is_told (violations ++ option_to_list report) ≡ filter is_told (w.violations ++ option_to_list report)
   told_more report =
@@ -87,7 +87,7 @@ module _ (d : ℕ) (is_told : Violation → Bool) (w : World) (channels : List (
       is_free : (lane : ℕ) (class : Class) → is_full_at w site lane class ≡ false → is_full_at other site lane class ≡ false
       is_free lane class = place_too d w.channels channels m.links (lane_end site lane) class (roomy (lane_end site lane) class)
 
-      forward_too : (lane : ℕ) (may : Bool) → BothAre (cond (is_full_at w site lane class) None (cond may (Some (with_channels w (put_at t.channels (lane_end site lane) t.frame))) (Some (strayed w site t))))
+      forward_too : (lane : ℕ) (may : Bool) → Both (cond (is_full_at w site lane class) None (cond may (Some (with_channels w (put_at t.channels (lane_end site lane) t.frame))) (Some (strayed w site t))))
           (cond (is_full_at other site lane class) None (cond may (Some (with_channels other (put_at cs (lane_end site lane) t.frame))) (Some (strayed other site too))))
       forward_too lane true =
           follows_unless (Mirrors d is_told) (is_full_at w site lane class) (is_full_at other site lane class) _ _ (is_free lane class)
@@ -99,7 +99,7 @@ module _ (d : ℕ) (is_told : Violation → Bool) (w : World) (channels : List (
       waits_too NonPosted free = is_free site.config.own Completion free
       waits_too Completion free = refl
 
-      course_too : (course : Course) → BothAre (passed_by w site class t course) (passed_by other site class too course)
+      course_too : (course : Course) → Both (passed_by w site class t course) (passed_by other site class too course)
       course_too (Forward lane) = forward_too lane (may_pass w site t.frame)
       course_too (Stop report) =
           follows_unless (Mirrors d is_told) (answer_waits w site class) (answer_waits other site class) _ _ (waits_too class)
@@ -107,26 +107,26 @@ module _ (d : ℕ) (is_told : Violation → Bool) (w : World) (channels : List (
       course_too Stray = strayed_too
 
   module _ (roomy : IsRoomy w) (numbers : AreNumbered w.edge.domains) (class : Class) where
-    passed_too : (site : Site) (o p : Option Taken) → Follows (MirrorsTaken d) o p → BothAre (option_and_then (passed w site class) o) (option_and_then (passed other site class) p)
+    passed_too : (site : Site) (o p : Option Taken) → Follows (MirrorsTaken d) o p → Both (option_and_then (passed w site class) o) (option_and_then (passed other site class) p)
     passed_too site o p so =
         follows_then (MirrorsTaken d) (Mirrors d is_told) (passed w site class) (passed other site class)
-        (λ t t' both. subst (λ (x : Taken). BothAre (passed w site class t) (passed other site class x)) both.is
+        (λ t t' both. subst (λ (x : Taken). Both (passed w site class t) (passed other site class x)) both.is
         (course_too site t both.channels both.own both.links roomy numbers class (course_of w.routes site.config t.frame.head))) o p so
 
     same_config : (i : ℕ) → (port_number other i).config ≡ (port_number w i).config
     same_config i = pair_at (λ (x y : PortView). y.config ≡ x.config) w.ports ports i no_port no_port refl (pair_from config_of config_of w.ports ports m.configs)
 
-    at_place : (i : ℕ) (place : PortPlace) → is_number d (home_of_taken (taken_at w.channels class place.input)) ≡ true → BothAre (passed_at w class i place) (passed_at other class i place)
+    at_place : (i : ℕ) (place : PortPlace) → is_number d (home_of_taken (taken_at w.channels class place.input)) ≡ true → Both (passed_at w class i place) (passed_at other class i place)
     at_place i place is =
-        subst (λ (c : Config). BothAre (passed_at w class i place) (option_and_then (passed other (record { number = i; node = place.node; config = c }) class) (taken_at channels class place.input))) (sym (same_config i))
+        subst (λ (c : Config). Both (passed_at w class i place) (option_and_then (passed other (record { number = i; node = place.node; config = c }) class) (taken_at channels class place.input))) (sym (same_config i))
         (passed_too (site_at w i place) (taken_at w.channels class place.input) (taken_at channels class place.input) (taken_too d w.channels channels m.links class place.input is))
 
-    turned_too : (found : Option ℕ) → is_number d (option_and_then (home_passed w class) found) ≡ true → BothAre (passed_number w class found) (passed_number other class found)
+    turned_too : (found : Option ℕ) → is_number d (option_and_then (home_passed w class) found) ≡ true → Both (passed_number w class found) (passed_number other class found)
     turned_too None is = tt
     turned_too (Some i) is = at_place i (get_or w.tree.places i no_place) is
 
     -- a port takes it in both
-    pub own_pass : IsGuardedFabric w → IsGuardedFabric other → (port : ℕ) → is_number d (option_and_then (home_passed w class) (index_of w.tree.places port)) ≡ true → BothAre (pass w port class) (pass other port class)
+    pub own_pass : IsGuardedFabric w → IsGuardedFabric other → (port : ℕ) → is_number d (option_and_then (home_passed w class) (index_of w.tree.places port)) ≡ true → Both (pass w port class) (pass other port class)
     own_pass g g' port is =
-        subst (λ (o : Option World). BothAre o (pass other port class)) (sym (passes_as_turned w g port class))
-        (subst (λ (o : Option World). BothAre (turned w port class) o) (sym (passes_as_turned other g' port class)) (turned_too (index_of w.tree.places port) is))
+        subst (λ (o : Option World). Both o (pass other port class)) (sym (passes_as_turned w g port class))
+        (subst (λ (o : Option World). Both (turned w port class) o) (sym (passes_as_turned other g' port class)) (turned_too (index_of w.tree.places port) is))

@@ -23,7 +23,7 @@ ghost use Rattle.fabric_core.specs.Orders.{AreOrdered, GoesBy, KeepsToWay, StayO
 ghost use Rattle.fabric_core.specs.Places.{HaveOnePlace, IsFlown};
 ghost use Rattle.fabric_core.specs.Runs.{Run};
 ghost use Rattle.fabric_core.specs.Soundness.{IsGuardedFabric};
-ghost use Rattle.fabric_core.specs.TakenOut.{CannotTell};
+ghost use Rattle.fabric_core.specs.TakenOut.{CanBeLeft, CannotTell};
 ghost use Rattle.fabric_core.specs.World.{World, is_guarded, world_of};
 
 /// Every event keeps what a fabric keeps: each packet in flight stands in exactly one place, or was lost as an alien
@@ -112,6 +112,15 @@ pub fn every_event_keeps_a_fabric()
 pub fn other_domains_can_be_taken_out()
     ensures { (platform : Platform) → IsGuarded platform → (events : List Event) (outcomes : List Outcome) (first : World)
         → Run (world_of platform) events outcomes first → (d : ℕ) → CannotTell d (world_of platform) events outcomes first }
+{
+    acs::guarded_requests_go_up();
+}
+
+/// What `other_domains_can_be_taken_out` leaves of a run can be run: there is a run of it from the same start in which no
+/// event is refused memory.
+pub fn what_is_left_can_be_run()
+    ensures { (platform : Platform) → IsGuarded platform → (events : List Event) (outcomes : List Outcome) (first : World)
+        → Run (world_of platform) events outcomes first → (d : ℕ) → CanBeLeft d (world_of platform) events outcomes }
 {
     acs::guarded_requests_go_up();
 }
