@@ -23,4 +23,8 @@ pub use laws::{
 };
 
 #[cfg(test)]
+mod checkers;
+#[cfg(test)]
 mod tests;
+#[cfg(test)]
+mod walks;
