@@ -28,4 +28,8 @@ pub use laws::{
 pub use purge::purge_run;
 
 #[cfg(test)]
+mod checkers;
+#[cfg(test)]
 mod tests;
+#[cfg(test)]
+mod walks;
