@@ -36,7 +36,7 @@ pub record AreDown (function : ℕ) (f : Standings) (p q : Descriptor → Bool) 
   pub second_to : (r : Place) → All (λ (x : Descriptor). q x ≡ true → IsTo function x.head.parties) (f r)
 
 -- whom a falling packet is meant for
-meant_for : (platform : Platform) (domain function other : ℕ) (parties : Parties) (h : Header) → IsMeantFor platform domain other parties h → IsTo function parties → other ≡ function
+pub meant_for : (platform : Platform) (domain function other : ℕ) (parties : Parties) (h : Header) → IsMeantFor platform domain other parties h → IsTo function parties → other ≡ function
 meant_for platform domain function other parties header.Malformed meant to = absurd meant
 meant_for platform domain function other parties (header.Memory requester address_type address) meant to = subst (IsTo function) meant.0 to
 meant_for platform domain function other parties (header.OtherRequest requester) meant to = absurd meant

@@ -34,7 +34,7 @@ module _ (w : World) (fabric : IsFabric w) (guarded : is_guarded w ≡ true) (pl
   number = d.share.domain
 
   -- no packet has the number that is next
-  none_next : (m : ℕ) → length d.state.flight ≤ m → (r : Place) → All (IsNo (is_numbered d.share.domain m)) (standing_at w r)
+  pub none_next : (m : ℕ) → length d.state.flight ≤ m → (r : Place) → All (IsNo (is_numbered d.share.domain m)) (standing_at w r)
   none_next m long r =
       All-weaker (IsFlown w.edge.domains) (IsNo (is_numbered d.share.domain m))
       (λ x f. none_of (is_numbered d.share.domain m) never (is_numbered d.share.domain m x) (λ is.
@@ -69,7 +69,7 @@ module _ (w : World) (fabric : IsFabric w) (guarded : is_guarded w ≡ true) (pl
       (turn_left (is_numbered d.share.domain n) never (standing_at w) between places (Ingress direction) frame l not_frame refl t)
 
   -- a packet of a new number that joins an outbox stands on the way that begins there
-  starts : (f' : Standings) (packet : Sent) (o : Origin) (n : ℕ) (places : List Place) (z : Descriptor) → GoesBy (fabric.guarded guarded).platform d.share.domain packet places → packet.source ≡ Some o
+  pub starts : (f' : Standings) (packet : Sent) (o : Origin) (n : ℕ) (places : List Place) (z : Descriptor) → GoesBy (fabric.guarded guarded).platform d.share.domain packet places → packet.source ≡ Some o
       → (f : Standings) → ((r : Place) → All (IsNo (is_numbered d.share.domain n)) (f r)) → Joining f f' (Outbox o) z → is_numbered d.share.domain n z ≡ true → InTurn f' places (is_numbered d.share.domain n) never
   starts f' packet o n _ z (GoesBy.Up function links from own way) source f none j is =
       let same : o ≡ origin.Function function = same_Some o (origin.Function function) (sym source ∙ from) in

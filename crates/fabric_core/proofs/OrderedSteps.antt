@@ -125,10 +125,10 @@ module _ (w : World) (kept : IsKept w) (place : ℕ) (d : DomainView) (at : slic
           (same_Some d' (after x.d entry x.c)
           (sym now ∙ (ap (slice_get (slice_set w.edge.domains x.number (after x.d entry x.c))) (sym here) ∙ replaced w.edge.domains x.number x.d (after x.d entry x.c) x.at))) there
 
-other_source : (function domain : ℕ) → ◌≡◌ {A = Option Origin} (Some (origin.Function function)) (Some (origin.Host domain)) → ⊥
+pub other_source : (function domain : ℕ) → ◌≡◌ {A = Option Origin} (Some (origin.Function function)) (Some (origin.Host domain)) → ⊥
 other_source function domain e = cc
 
-one_function : (a b : ℕ) (parties : Parties) → IsTo a parties → IsTo b parties → a ≡ b
+pub one_function : (a b : ℕ) (parties : Parties) → IsTo a parties → IsTo b parties → a ≡ b
 one_function a b (Upward sender) x y = absurd x
 one_function a b (Downward completer) x y = sym x ∙ y
 one_function a b (Answer answerer None) x y = absurd x

@@ -17,7 +17,7 @@ use Rattle.hierarchy.specs.Starts.{start_of}
 use Rattle.hierarchy.specs.Views.{HierarchyView}
 use Rattle.fabric_core.specs.declared.event.Event.{Event}
 use Rattle.fabric_core.specs.Events.{StepsTo, effect}
-use Rattle.fabric_core.specs.Invariant.{IsFabric, IsKept}
+use Rattle.fabric_core.specs.Invariant.{IsFabric}
 use Rattle.fabric_core.specs.Orderly.{HasNoAlien, IsOrderly}
 use Rattle.fabric_core.specs.Runs.{Run}
 use Rattle.fabric_core.specs.Soundness.{IsGuardedFabric}
@@ -25,7 +25,6 @@ use Rattle.fabric_core.specs.World.{World, is_guarded, world_of, world_over}
 use Rattle.fabric_core.proofs.GuardedAliens.{of_guarded}
 use Rattle.fabric_core.proofs.GuardedStart.{guarded_start}
 use Rattle.fabric_core.proofs.Routes.{routes_stay}
-use Rattle.fabric_core.proofs.Stepping.{kept_step}
 
 -- ---- nothing is stray or alien
 
@@ -39,7 +38,7 @@ orderly w fabric guarded = let g = fabric.guarded guarded in record { ports = g.
 
 -- ---- the layout's controls
 
-same_controls : (w v : World) → v.routes ≡ w.routes → is_guarded v ≡ is_guarded w
+pub same_controls : (w v : World) → v.routes ≡ w.routes → is_guarded v ≡ is_guarded w
 same_controls w v same = ap (λ (r : Routes). list_all is_guarded_port r.ports) same
 
 pub step_controls : (w v : World) (event : Event) (outcome : Outcome) → StepsTo w event outcome v → is_guarded v ≡ is_guarded w
@@ -56,25 +55,19 @@ run_controls w v (event ∷ events) [] run = absurd run
 
 -- ---- a step
 
--- what moves in a guarded fabric leaves a guarded one
-abbrev StaysSound : Type 0
-StaysSound = (old new : World) (event : Event) → IsKept old → IsGuardedFabric old → effect old event ≡ Some new → IsGuardedFabric new
+-- what moves in a fabric leaves one
+abbrev pub StaysFabric : Type 0
+StaysFabric = (old new : World) (event : Event) → IsFabric old → effect old event ≡ Some new → IsFabric new
 
-sound_step : StaysSound → (w v : World) (event : Event) (outcome : Outcome) → IsFabric w → StepsTo w event outcome v → is_guarded w ≡ true → IsGuardedFabric v
-sound_step sound w v event Moved fabric step guarded = sound w v event fabric.kept (fabric.guarded guarded) step
-sound_step sound w v event Idle fabric step guarded = subst IsGuardedFabric (sym step.2) (fabric.guarded guarded)
-sound_step sound w v event (Refused fault) fabric step guarded = subst IsGuardedFabric (sym step.1) (fabric.guarded guarded)
-sound_step sound w v event NoMemory fabric step guarded = subst IsGuardedFabric (sym step.2) (fabric.guarded guarded)
-
-pub fabric_step : StaysSound → (w v : World) (event : Event) (outcome : Outcome) → IsFabric w → StepsTo w event outcome v → IsFabric v
-fabric_step sound w v event outcome fabric step = record {
-  kept = kept_step w v event outcome fabric.kept step;
-  guarded = λ guarded. sound_step sound w v event outcome fabric step (sym (step_controls w v event outcome step) ∙ guarded);
-}
+pub fabric_step : StaysFabric → (w v : World) (event : Event) (outcome : Outcome) → IsFabric w → StepsTo w event outcome v → IsFabric v
+fabric_step stays w v event Moved fabric step = stays w v event fabric step
+fabric_step stays w v event Idle fabric step = subst IsFabric (sym step.2) fabric
+fabric_step stays w v event (Refused fault) fabric step = subst IsFabric (sym step.1) fabric
+fabric_step stays w v event NoMemory fabric step = subst IsFabric (sym step.2) fabric
 
 -- ---- the start
 
-world_new : (platform : Platform) (h : HierarchyView) (edge : EdgeView) (violations : List Violation) (strays : List Descriptor) → h ≡ start_of platform → edge ≡ edge_of platform → violations ≡ [] → strays ≡ []
+pub world_new : (platform : Platform) (h : HierarchyView) (edge : EdgeView) (violations : List Violation) (strays : List Descriptor) → h ≡ start_of platform → edge ≡ edge_of platform → violations ≡ [] → strays ≡ []
     → world_over h edge violations strays ≡ world_of platform
 world_new platform h edge violations strays is_h is_edge none_reported none_stray =
     ap (λ (x : HierarchyView). world_over x edge violations strays) is_h

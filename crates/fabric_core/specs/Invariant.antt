@@ -8,6 +8,7 @@ use Rattle.port.specs.Turns.{PortView}
 use Rattle.topology.specs.Topologies.{IsSound}
 use Rattle.topology.specs.declared.places.PortPlace.{PortPlace}
 use Rattle.hierarchy.specs.Kept.{Fits}
+use Rattle.fabric_core.specs.Orders.{AreInTurn}
 use Rattle.fabric_core.specs.Places.{ArePlaced}
 use Rattle.fabric_core.specs.Soundness.{IsGuardedFabric}
 use Rattle.fabric_core.specs.World.{World, is_guarded}
@@ -40,7 +41,9 @@ pub record IsKept (w : World) : Type 0 where
   pub placed : ArePlaced w
   pub free : All IsFree w.ports
 
--- and in a guarded layout each packet is on its way to somebody who has a case for it
+-- and in a guarded layout each packet is on its way to somebody who has a case for it, and packets of a domain that keep
+-- their order are in turn
 pub record IsFabric (w : World) : Type 0 where
   pub kept : IsKept w
   pub guarded : is_guarded w ≡ true → IsGuardedFabric w
+  pub ordered : (controls : is_guarded w ≡ true) → AreInTurn (guarded controls).platform w

@@ -1,11 +1,11 @@
 -- Packets of a domain that keep their order (PCIe 4.0, 2.4.1), on the way that they go.
-use Rattle.std.specs.Prelude.{◌≡◌, ℕ, ◌<◌, true, List, slice_get, Some, IsSome}
+use Rattle.std.specs.Prelude.{◌≡◌, ℕ, ◌<◌, true, All, List, slice_get, Some, IsSome}
 use Rattle.fab_types.specs.declared.place.Origin.TheVariants.{Function, Host}
 use Rattle.fab_types.specs.declared.place.Place.{Place}
 use Rattle.layout.specs.Platform.{Platform}
 use Rattle.domain.specs.Consumed.{is_in_order}
 use Rattle.domain.specs.Domains.{DomainView}
-use Rattle.domain.specs.Orders.{IsTo, KeepOrder}
+use Rattle.domain.specs.Orders.{IsPosted, IsTo, KeepOrder}
 use Rattle.domain.specs.Sent.{Sent, sent}
 use Rattle.domain.specs.State.{item_at}
 use Rattle.passage.specs.Guarded.{IsFunctionOf}
@@ -42,3 +42,38 @@ KeepsToWay w d places n = InTurn (standing_at w) places (is_numbered d.share.dom
 pub record StayOrdered (new : World) (d : DomainView) (places : List Place) (n m : ℕ) : Type 0 where
   pub turn : IsSome (item_at d.state.flight n) → TurnOf new d places n m
   pub order : is_in_order n m d.journal ≡ true
+
+-- ---- the order law
+
+-- of each two packets that a domain made and that keep their order, no entry consumed the second before one consumed the
+-- first
+abbrev pub IsInOrder : DomainView → Type 0
+IsInOrder d = (n m : ℕ) → AreOrdered d n m → is_in_order n m d.journal ≡ true
+
+-- so it is of every domain
+abbrev pub AreInOrder : World → Type 0
+AreInOrder w = All IsInOrder w.edge.domains
+
+-- ---- what every event keeps of that
+
+-- a packet that has a way: from a function, or from the host to a function
+pub data HasWay (domain : ℕ) (packet : Sent) : Type 0 where
+  FromFunction : (function : ℕ) → packet.source ≡ Some (Function function) → HasWay domain packet
+  ToFunction : (function : ℕ) → packet.source ≡ Some (Host domain) → IsTo function packet.emission.parties → HasWay domain packet
+
+-- it stands on its way, and nowhere else
+pub record StandsOnWay (platform : Platform) (w : World) (d : DomainView) (n : ℕ) (packet : Sent) : Type 0 where
+  pub places : List Place
+  pub goes : GoesBy platform d.share.domain packet places
+  pub keeps : KeepsToWay w d places n
+
+-- each posted packet in flight that has a way stands on it; a packet that keeps its order behind such a one stands in turn
+-- with it; and the order law holds
+pub record IsInTurn (platform : Platform) (w : World) (d : DomainView) : Type 0 where
+  pub ways : (n : ℕ) (packet : Sent) → slice_get (sent d.share d.journal) n ≡ Some packet → IsPosted packet.emission → HasWay d.share.domain packet → IsSome (item_at d.state.flight n) → StandsOnWay platform w d n packet
+  pub turns : (n m : ℕ) (pair : AreOrdered d n m) → IsSome (item_at d.state.flight n) → (places : List Place) → GoesBy platform d.share.domain pair.first places → TurnOf w d places n m
+  pub order : IsInOrder d
+
+-- so it is of every domain
+abbrev pub AreInTurn : Platform → World → Type 0
+AreInTurn platform w = (place : ℕ) (d : DomainView) → slice_get w.edge.domains place ≡ Some d → IsInTurn platform w d

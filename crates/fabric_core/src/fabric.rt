@@ -10,12 +10,13 @@ ghost use Rattle.fabric_core.specs.Credits.{HasCredits, channel_of};
 ghost use Rattle.fabric_core.specs.Events.{StepsTo};
 ghost use Rattle.fabric_core.specs.Isolation.{AreApart, IsApart, home};
 ghost use Rattle.fabric_core.specs.Orderly.{IsOrderly};
+ghost use Rattle.fabric_core.specs.Orders.{AreInOrder};
 ghost use Rattle.fabric_core.specs.Places.{HaveOnePlace};
 ghost use Rattle.fabric_core.specs.Runs.{HaveBegun, Run};
 ghost use Rattle.fabric_core.specs.World.{is_guarded, world_of};
 
 use crate::event::Event;
-use crate::laws::guarded_fabrics_stay_sound;
+use crate::laws::every_event_keeps_a_fabric;
 use crate::step::step;
 use crate::whose::home;
 use credit::Limits;
@@ -123,16 +124,19 @@ impl Fabric {
     /// packet that a domain made stands in exactly one place, or was consumed by exactly one entry of its journal. There
     /// the event leaves every domain that it is foreign to as it was: its state, its journal, and the place of each of
     /// its packets. Of its own domain it makes at most one entry, and whether a begin is refused is said by that domain's
-    /// share and state alone.
+    /// share and state alone. And of each two packets of a domain that keep their order (PCIe 4.0, 2.4.1), a posted one and
+    /// a later one from the same function, or from the host to the same function, the journal consumes the later one
+    /// only after the posted one.
     pub fn step<R: Wait>(&mut self, rt: &R, event: &Event) -> Outcome
         ensures steps { StepsTo self.old event.now result self.new }
         ensures controls { is_guarded self.new ≡ is_guarded self.old }
         ensures guarded { is_guarded self.new ≡ true → IsOrderly self.new }
         ensures apart { is_guarded self.old ≡ true → IsApart self.old event.now self.new }
         ensures placed { is_guarded self.new ≡ true → HaveOnePlace self.new }
+        ensures ordered { is_guarded self.new ≡ true → AreInOrder self.new }
     {
-        // A law: what an event makes of a guarded fabric is guarded.
-        guarded_fabrics_stay_sound();
+        // A law: what an event makes of a fabric is one.
+        every_event_keeps_a_fabric();
         step(
             rt,
             &mut self.hierarchy,
@@ -151,7 +155,7 @@ impl Fabric {
     /// no packet was ever taken where nobody had a case for it: no port, host or function keeps a stray packet, and
     /// no domain has an entry of an alien one; each event left every domain that it was foreign to as it was; and no
     /// packet was lost or doubled: each that a domain made stands in exactly one place, or exactly one entry of its
-    /// journal consumed it.
+    /// journal consumed it; and no packet that keeps its order behind a posted one was consumed before that.
     pub fn run<R: Wait>(
         &mut self,
         rt: &R,
@@ -165,6 +169,7 @@ impl Fabric {
         ensures guarded { IfOk result (λ outcomes. is_guarded self.new ≡ true → IsOrderly self.new) }
         ensures apart { IfOk result (λ outcomes. is_guarded self.old ≡ true → AreApart self.old events.now outcomes.items self.new) }
         ensures placed { IfOk result (λ outcomes. is_guarded self.new ≡ true → HaveOnePlace self.new) }
+        ensures ordered { IfOk result (λ outcomes. is_guarded self.new ≡ true → AreInOrder self.new) }
         ensures err { OnErr result (self.new ≡ self.old) }
     {
         let mut outcomes = Vec::with_capacity(alloc, events.len())?;

@@ -97,10 +97,21 @@ pub fn new_packets_stand_behind()
     acs::guarded_requests_go_up();
 }
 
-/// In a guarded layout a domain can't tell the other domains' events from none: of any run, take those out that neither
-/// tell credits nor are events of the domain that moved. In every run of what is left, without want of memory, each event
-/// of the domain moves, and the domain has what it has of the first run: its state, its journal, the place of each of its
-/// packets, and the violations by its functions.
+/// Every event keeps a fabric, of any layout: what `every_event_keeps_the_invariant` says, and in a guarded layout also that
+/// each packet is where somebody has a case for it, that each posted packet in flight stands on its way, and that two
+/// packets of a domain that keep their order are in turn there, and were consumed in it.
+pub fn every_event_keeps_a_fabric()
+    ensures { (old new : World) (event : Event) → IsFabric old → effect old event ≡ Some new → IsFabric new }
+{
+    acs::guarded_requests_go_up();
+}
+
+/// In the fabric of a guarded layout the events of other domains can be taken out of any run: where a domain's events that
+/// moved are run alone, with those that tell credits, each of them moves again, and the domain has the same state, journal,
+/// packets and violations in the end. Want of memory aside, it can't tell the other domains from none.
 pub fn other_domains_can_be_taken_out()
-    ensures { (platform : Platform) → IsGuarded platform → (events : List Event) (outcomes : List Outcome) (first : World) → Run (world_of platform) events outcomes first → (d : ℕ) → CannotTell d (world_of platform) events outcomes first }
-{}
+    ensures { (platform : Platform) → IsGuarded platform → (events : List Event) (outcomes : List Outcome) (first : World)
+        → Run (world_of platform) events outcomes first → (d : ℕ) → CannotTell d (world_of platform) events outcomes first }
+{
+    acs::guarded_requests_go_up();
+}

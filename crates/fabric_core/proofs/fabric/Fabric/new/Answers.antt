@@ -1,3 +1,4 @@
+use Rattle.fabric_core.proofs.FirstTurns.{turns_new}
 use Rattle.fabric_core.proofs.Orderly.{guarded_new}
 use Rattle.fabric_core.proofs.Starting.{kept_new}
 use Rattle.fabric_core.proofs.fabric.Fabric.new.Goals as goal
@@ -9,4 +10,5 @@ invariant_of-result c = record {
       c.new-4.ensures.items;
   guarded =
       guarded_new c.args.layout.now c.in_ok-new.field-0 c.in_ok-new-2.field-0 c.new-3.result.violations c.new-4.result.items c.ports.ensures.laws c.in_ok-new.ensures.start c.in_ok-new-2.ensures.start c.new-3.ensures c.new-4.ensures.items;
+  ordered = λ controls. turns_new c.args.layout.now c.in_ok-new.field-0 c.in_ok-new-2.field-0 c.new-3.result.violations c.new-4.result.items c.in_ok-new.ensures.start c.in_ok-new-2.ensures.start c.new-3.ensures c.new-4.ensures.items _;
 }

@@ -1,10 +1,12 @@
 use Rattle.std.proofs.Common.{arith, ap, ◌∙◌, subst}
 use Rattle.fabric_core.specs.Kept.{world_in}
 use Rattle.fabric_core.specs.Orderly.{IsOrderly}
+use Rattle.fabric_core.specs.Orders.{AreInOrder}
 use Rattle.fabric_core.specs.Places.{HaveOnePlace}
 use Rattle.fabric_core.specs.World.{is_guarded}
 use Rattle.fabric_core.proofs.Apart.{apart_next, apart_whole}
 use Rattle.fabric_core.proofs.Begun.{run_grow}
+use Rattle.fabric_core.proofs.InOrder.{in_order}
 use Rattle.fabric_core.proofs.OnePlace.{one_place}
 use Rattle.fabric_core.proofs.Orderly.{orderly, run_controls}
 use Rattle.fabric_core.proofs.Running.{run_next, run_whole}
@@ -38,3 +40,6 @@ returns-clause-apart g c = apart_whole c.args.self.now c.loop-event.self c.args.
 
 pub returns-clause-placed : goal.returns-clause-placed
 returns-clause-placed g c guarded = subst HaveOnePlace c.self.view_is (one_place (world_in c.self.inside) c.self.invariant (ap is_guarded c.self.view_is ∙ guarded))
+
+pub returns-clause-ordered : goal.returns-clause-ordered
+returns-clause-ordered g c guarded = subst AreInOrder c.self.view_is (in_order (world_in c.self.inside) c.self.invariant (ap is_guarded c.self.view_is ∙ guarded))

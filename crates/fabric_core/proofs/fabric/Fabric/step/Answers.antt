@@ -3,13 +3,14 @@ use Rattle.fabric_core.specs.Isolation.{IsApart}
 use Rattle.fabric_core.specs.Kept.{world_in}
 use Rattle.fabric_core.specs.World.{World, is_guarded, world_over}
 use Rattle.fabric_core.proofs.Apart.{apart_step}
+use Rattle.fabric_core.proofs.InOrder.{in_order}
 use Rattle.fabric_core.proofs.OnePlace.{one_place}
 use Rattle.fabric_core.proofs.Orderly.{fabric_step, orderly, step_controls}
 use Rattle.fabric_core.proofs.fabric.Fabric.step.Goals as goal
 
 pub invariant_of-self : goal.invariant_of-self
 invariant_of-self g c =
-    fabric_step c.guarded_fabrics_stay_sound.ensures (world_in c.self.inside) (world_over c.step.new.hierarchy c.step.new.edge c.step.new.reports.violations c.step.new.strays.items) c.args.event.now c.step.result c.self.invariant c.step.ensures
+    fabric_step c.every_event_keeps_a_fabric.ensures (world_in c.self.inside) (world_over c.step.new.hierarchy c.step.new.edge c.step.new.reports.violations c.step.new.strays.items) c.args.event.now c.step.result c.self.invariant c.step.ensures
 
 pub returns-clause-controls : goal.returns-clause-controls
 returns-clause-controls g c =
@@ -18,7 +19,7 @@ returns-clause-controls g c =
 pub returns-clause-guarded : goal.returns-clause-guarded
 returns-clause-guarded g c =
     let new = world_over c.step.new.hierarchy c.step.new.edge c.step.new.reports.violations c.step.new.strays.items in
-    orderly new (fabric_step c.guarded_fabrics_stay_sound.ensures (world_in c.self.inside) new c.args.event.now c.step.result c.self.invariant c.step.ensures)
+    orderly new (fabric_step c.every_event_keeps_a_fabric.ensures (world_in c.self.inside) new c.args.event.now c.step.result c.self.invariant c.step.ensures)
 
 pub returns-clause-apart : goal.returns-clause-apart
 returns-clause-apart g c guarded =
@@ -29,4 +30,9 @@ returns-clause-apart g c guarded =
 pub returns-clause-placed : goal.returns-clause-placed
 returns-clause-placed g c =
     let new = world_over c.step.new.hierarchy c.step.new.edge c.step.new.reports.violations c.step.new.strays.items in
-    one_place new (fabric_step c.guarded_fabrics_stay_sound.ensures (world_in c.self.inside) new c.args.event.now c.step.result c.self.invariant c.step.ensures)
+    one_place new (fabric_step c.every_event_keeps_a_fabric.ensures (world_in c.self.inside) new c.args.event.now c.step.result c.self.invariant c.step.ensures)
+
+pub returns-clause-ordered : goal.returns-clause-ordered
+returns-clause-ordered g c =
+    let new = world_over c.step.new.hierarchy c.step.new.edge c.step.new.reports.violations c.step.new.strays.items in
+    in_order new (fabric_step c.every_event_keeps_a_fabric.ensures (world_in c.self.inside) new c.args.event.now c.step.result c.self.invariant c.step.ensures)

@@ -1,0 +1,32 @@
+-- A fabric of any layout stays one through every event, and in a guarded one the order law holds.
+use Rattle.std.proofs.Common.{◌≡◌, ℕ, true, List, [], get_or, Some, refl, sym, ap, ◌∙◌, subst}
+use Rattle.std.specs.Prelude.{All, slice_get}
+use Rattle.std.proofs.lemmas.Option.{get_or_from_slice_get, slice_get-get_or, slice_get_within}
+use Rattle.layout.specs.Platform.{Platform}
+use Rattle.domain.specs.Domains.{DomainView}
+use Rattle.passage.proofs.Agreement.{RoutesUp}
+use Rattle.fabric_core.specs.declared.event.Event.{Event}
+use Rattle.fabric_core.specs.Events.{effect}
+use Rattle.fabric_core.specs.Invariant.{IsFabric}
+use Rattle.fabric_core.specs.Orders.{AreInOrder}
+use Rattle.fabric_core.specs.World.{World, is_guarded}
+use Rattle.fabric_core.proofs.Guarded.{guarded_after}
+use Rattle.fabric_core.proofs.Keeping.{kept_after}
+use Rattle.fabric_core.proofs.KeptTurns.{turns_after}
+use Rattle.fabric_core.proofs.Orderly.{same_controls}
+use Rattle.fabric_core.proofs.Routes.{routes_stay}
+
+pub in_order : (w : World) → IsFabric w → is_guarded w ≡ true → AreInOrder w
+in_order w fabric guarded = λ place d less.
+    let x = get_or w.edge.domains place d in
+    (fabric.ordered guarded place x (slice_get-get_or w.edge.domains place d less)).order
+
+pub fabric_after : RoutesUp → (w w' : World) (event : Event) → IsFabric w → effect w event ≡ Some w' → IsFabric w'
+fabric_after routes w w' event fabric moved = record {
+  kept = kept_after w w' event fabric.kept moved;
+  guarded = λ controls. guarded_after routes w w' event fabric.kept (fabric.guarded (was controls)) moved;
+  ordered = λ controls. turns_after routes w w' event fabric (was controls) moved (guarded_after routes w w' event fabric.kept (fabric.guarded (was controls)) moved);
+}
+  where
+    was : is_guarded w' ≡ true → is_guarded w ≡ true
+    was controls = sym (same_controls w w' (routes_stay w w' event moved)) ∙ controls

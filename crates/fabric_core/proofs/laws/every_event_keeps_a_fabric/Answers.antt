@@ -1,0 +1,5 @@
+use Rattle.fabric_core.proofs.InOrder.{fabric_after}
+use Rattle.fabric_core.proofs.laws.every_event_keeps_a_fabric.Goals as goal
+
+pub returns : goal.returns
+returns c = fabric_after c.guarded_requests_go_up.ensures.routed
