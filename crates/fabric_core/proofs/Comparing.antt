@@ -1,8 +1,7 @@
 -- Where two runs from one start leave a domain the same journal, they leave it the same state.
-use Rattle.std.proofs.Common.{◌≡◌, ℕ, ◌==◌, Bool, List, map, Option, Some, None, refl, sym, ap, ◌∙◌}
+use Rattle.std.proofs.Common.{◌≡◌, ℕ, ◌==◌, List, map, Option, Some, None, refl, sym, ap, ◌∙◌}
 use Rattle.std.specs.Prelude.{option_map, slice_get}
 use Rattle.std.specs.List.{position}
-use Rattle.fab_types.specs.declared.outcome.Outcome.{Outcome}
 use Rattle.layout.specs.Share.{Share}
 use Rattle.domain.specs.declared.entry.Entry.{Entry}
 use Rattle.domain.specs.Domains.{DomainView}
@@ -14,7 +13,7 @@ use Rattle.tenants.specs.Tenants.{domain_at, place_of}
 use Rattle.fabric_core.specs.declared.event.Event.{Event}
 use Rattle.fabric_core.specs.Comparisons.{AreEqual, IsRun, journal_of}
 use Rattle.fabric_core.specs.Isolation.{domain_of}
-use Rattle.fabric_core.specs.Runs.{Run, share_of}
+use Rattle.fabric_core.specs.Runs.{share_of}
 use Rattle.fabric_core.specs.World.{World}
 use Rattle.fabric_core.proofs.Begun.{run_grow}
 

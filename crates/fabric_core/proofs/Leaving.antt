@@ -1,5 +1,5 @@
 -- A run, and the run of what is left of it, by one event more.
-use Rattle.std.proofs.Common.{◌≡◌, ℕ, ◌+◌, ◌<◌, ◌≤◌, Bool, true, false, cond, List, [], ◌∷◌, ◌++◌, length, take, get_or, refl, sym, ap, ◌∙◌, subst, arith}
+use Rattle.std.proofs.Common.{◌≡◌, ℕ, ◌+◌, ◌<◌, ◌≤◌, Bool, true, false, cond, List, [], ◌∷◌, ◌++◌, length, take, sym, ap, ◌∙◌, subst}
 use Rattle.std.specs.Prelude.{All, slice_index_or}
 use Rattle.std.proofs.lemmas.List.{append-nil, take_more}
 use Rattle.std.proofs.lemmas.List.Elements.{All-append, All-cons, All-nil}
@@ -9,11 +9,11 @@ use Rattle.layout.specs.Platform.{Platform}
 use Rattle.layout.specs.Laws.{IsPlatform}
 use Rattle.passage.specs.Guarded.{IsGuarded}
 use Rattle.fabric_core.specs.declared.event.Event.{Event}
-use Rattle.fabric_core.specs.Events.{StepsTo, effect}
+use Rattle.fabric_core.specs.Events.{StepsTo}
 use Rattle.fabric_core.specs.Purging.{BothStep, StepsIf}
 use Rattle.fabric_core.specs.Runs.{Run}
 use Rattle.fabric_core.specs.TakenOut.{AreBothRuns, CannotTell, HasMemory, after, events_left, is_left, or_same}
-use Rattle.fabric_core.specs.World.{World, is_guarded, world_of}
+use Rattle.fabric_core.specs.World.{World, world_of}
 use Rattle.fabric_core.proofs.Running.{run_more, take_all}
 
 -- the world after an event is the one that it steps to

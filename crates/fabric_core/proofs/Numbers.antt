@@ -1,5 +1,5 @@
 -- A fabric has the domains that own a port of its layout, at its start.
-use Rattle.std.proofs.Common.{◌≡◌, ℕ, ◌+◌, ◌-◌, ◌<◌, ◌≤◌, ◌==◌, Bool, true, false, cond, List, [], ◌∷◌, length, map, get_or, Option, Some, None, refl, sym, ap, ◌∙◌, arith}
+use Rattle.std.proofs.Common.{◌≡◌, ℕ, ◌-◌, ◌≤◌, ◌==◌, Bool, true, false, cond, List, [], ◌∷◌, length, map, Option, Some, None, refl, sym, ap, ◌∙◌, arith}
 use Rattle.std.specs.Prelude.{◌&&◌, ◌||◌, filter, is_some, nat_lt, slice_get}
 use Rattle.std.specs.List.{find, list_any, position, position_or_len, range_with_len}
 use Rattle.std.proofs.lemmas.Bool.{eq-eqb, eqb-true, ltb-false}
