@@ -52,7 +52,7 @@ function_others index f place within (Function other) there found = go (cases_eq
     go : (bus_of other ≡ bus_of f) ⊎ (bus_of other ≢ bus_of f) → IsNoted (Function f) place (entry_for (get_or index.by_bus (bus_of other) None) other) (Function other) there
     go (inl here) =
         let there_is : get_or (set index.by_bus (bus_of f) new) (bus_of other) None ≡ new =
-            ap (λ (b : ℕ). get_or (set index.by_bus (bus_of f) new) b None) here ∙ get_or-set_same index.by_bus (bus_of f) new None within in
+        ap (λ (b : ℕ). get_or (set index.by_bus (bus_of f) new) b None) here ∙ get_or-set_same index.by_bus (bus_of f) new None within in
         inl (entry_is f place other there (sym (ap (λ (o : Option Noted). entry_for o other) there_is) ∙ found))
     go (inr apart) = inr (sym (ap (λ (o : Option Noted). entry_for o other) (get_or-set_other index.by_bus (bus_of f) (bus_of other) new None apart)) ∙ found)
 
@@ -65,7 +65,7 @@ host_others index n place within (Host other) there found = go (cases_eq other n
     go : (other ≡ n) ⊎ (other ≢ n) → IsNoted (Host n) place (get_or index.by_domain other None) (Host other) there
     go (inl here) =
         let there_is : get_or (set index.by_domain n (Some place)) other None ≡ Some place =
-            ap (λ (k : ℕ). get_or (set index.by_domain n (Some place)) k None) here ∙ get_or-set_same index.by_domain n (Some place) None within in
+        ap (λ (k : ℕ). get_or (set index.by_domain n (Some place)) k None) here ∙ get_or-set_same index.by_domain n (Some place) None within in
         inl (ap Host here, some_is there place (sym there_is ∙ found))
       where
         some_is : (a b : ℕ) → Some b ≡ Some a → a ≡ b

@@ -14,7 +14,7 @@ returns-in-Function c =
     rw (c.in-Function.is)
     (c.entry_for.ensures
     ∙ ap (λ (o : Option Noted). entry_for o c.in-Function.function)
-        (ap (λ (b : ℕ). get_or entries b read) (c.from.ensures ∙ bus) ∙ get_or_default entries (bus_of c.in-Function.function) read None (omega (arith, long, bus, small))))
+    (ap (λ (b : ℕ). get_or entries b read) (c.from.ensures ∙ bus) ∙ get_or_default entries (bus_of c.in-Function.function) read None (omega (arith, long, bus, small))))
 
 pub returns-in-Host : goal.returns-in-Host
 unfolding noted_place
