@@ -4,3 +4,4 @@ pub mod Events
 pub mod Parts
 pub mod Running
 pub mod Writing
+pub mod Isolating

@@ -6,3 +6,4 @@ pub mod Report
 pub mod Rising
 pub mod Runs
 pub mod Sweeps
+pub mod Isolated

@@ -11,6 +11,7 @@ use Rattle.domain.specs.Machine.{replay}
 use Rattle.tenants.specs.Tenants.{domain_at, place_of}
 use Rattle.fabric_core.specs.World.{World}
 use Rattle.commands.specs.Driving.{IsDriven}
+use Rattle.commands.specs.Isolated.{IsIsolated}
 use Rattle.commands.specs.Report.{IsPart, IsReport}
 use Rattle.commands.specs.CommandLine.{Asked, First, Run, Alone}
 use Rattle.commands.specs.First.{Prints}
@@ -24,8 +25,9 @@ pub record AreFiles (holds : List ℕ → List ℕ → Type 0) (layout_name scri
   pub script_file : holds script_name script_text
   pub script : script.reading script_text ≡ Ok lines
 
--- what `run` prints: the fabric of the one file is driven by the other, and of that the begins that were refused, as
--- they came, and then the report
+-- What `run` prints: the fabric of the one file is driven by the other, and of that the begins that were refused, as
+-- they came, and then the report. Where the layout is guarded, no domain can tell that run from the one that is left when
+-- all other domains' events are taken out
 pub record RunPrints (holds : List ℕ → List ℕ → Type 0) (layout_name script_name : List ℕ) (text : List ℕ) : Type 0 where
   pub platform : Platform
   pub lines : List Line
@@ -33,15 +35,18 @@ pub record RunPrints (holds : List ℕ → List ℕ → Type 0) (layout_name scr
   pub world : World
   pub refused : List ℕ
   pub driven : IsDriven platform lines world refused
+  pub isolated : IsIsolated platform lines world
   pub report : List ℕ
   pub reports : IsReport world report
   pub all : text ≡ refused ++ report
 
--- a domain is the replay of its journal in such a run, from what the layout gives it
+-- a domain is the replay of its journal in such a run, from what the layout gives it; where the layout is guarded it can't
+-- tell that run from the one that is left without the others
 pub record IsReplayed (platform : Platform) (lines : List Line) (share : Share) (domain : DomainView) : Type 0 where
   pub world : World
   pub refused : List ℕ
   pub driven : IsDriven platform lines world refused
+  pub isolated : IsIsolated platform lines world
   pub ran : DomainView
   pub there : domain_at world.edge.domains (place_of world.edge.domains share.domain) ≡ Some ran
   pub share_is : domain.share ≡ share

@@ -3,6 +3,7 @@
 ghost use Rattle.std.specs.Prelude.{◌≡◌, IfErr, IfOk, OnOk};
 ghost use Rattle.commands.specs.Driving.{Begins, Does, Drives, IsDriven, Wrote};
 ghost use Rattle.commands.specs.Endings.{IsRunFault};
+ghost use Rattle.commands.specs.Isolated.{IsIsolated};
 
 use crate::fault::Fault;
 use crate::report;
@@ -26,6 +27,7 @@ pub fn driven<'a, R: Wait, W: Write>(
     out: &mut W,
 ) -> Result<Fabric, Fault<'a>>
     ensures ok { IfOk result (λ fabric. Wrote (W.contents out.old) (W.contents out.new) (IsDriven layout.now lines.now fabric)) }
+    ensures isolated { IfOk result (λ fabric. IsIsolated layout.now lines.now fabric) }
     ensures fault { IfErr result (λ fault. IsRunFault fault) }
 {
     let mut fabric = Fabric::new(alloc, layout)?;

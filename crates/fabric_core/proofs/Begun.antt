@@ -328,7 +328,7 @@ effect_grow w (Arrive f class) = arrive_grow w f (taken w (to_function f) class)
 same_world : (w v : World) → v ≡ w → Grow Nothing w.edge.domains v.edge.domains
 same_world w v e = subst (λ (x : World). Grow Nothing w.edge.domains x.edge.domains) (sym e) (same_grow w.edge.domains)
 
-step_grow : (w v : World) (event : Event) (o : Outcome) → StepsTo w event o v → Grow (λ place. accepted_one w.edge.domains place event o) w.edge.domains v.edge.domains
+pub step_grow : (w v : World) (event : Event) (o : Outcome) → StepsTo w event o v → Grow (λ place. accepted_one w.edge.domains place event o) w.edge.domains v.edge.domains
 step_grow w v event Moved s = effect_grow w event v s
 step_grow w v event Idle s = same_world w v s.2
 step_grow w v event (Refused fault) s = same_world w v s.1
@@ -337,13 +337,13 @@ step_grow w v event NoMemory s = same_world w v s.2
 -- ---- a run
 
 module _ (old new : List DomainView) (shares : map share_of new ≡ map share_of old) where
-  function_same : (f : ℕ) → place_of_function new f ≡ place_of_function old f
+  pub function_same : (f : ℕ) → place_of_function new f ≡ place_of_function old f
   unfolding place_of_function
   function_same f =
       sym (position_map (λ s. is_own_function s f) share_of new)
       ∙ (ap (position (λ s. is_own_function s f)) shares ∙ position_map (λ s. is_own_function s f) share_of old)
 
-  domain_same : (n : ℕ) → place_of new n ≡ place_of old n
+  pub domain_same : (n : ℕ) → place_of new n ≡ place_of old n
   unfolding place_of
   domain_same n = sym (position_map (λ (s : Share). s.domain == n) share_of new) ∙ (ap (position (λ (s : Share). s.domain == n)) shares ∙ position_map (λ (s : Share). s.domain == n) share_of old)
 

@@ -3,13 +3,12 @@
 use Rattle.std.proofs.Common.{◌≡◌, ◌⊎◌, inl, inr, ℕ, zero, suc, ◌+◌, ◌<◌, ◌≤◌, Bool, true, false, cond, List, [], ◌∷◌, ◌++◌, length, Option, Some, None, refl, sym, ap, ◌∙◌, subst, arith, append-nil, le-ltb, lt-ltb}
 use Rattle.std.specs.Prelude.{IsSome, nat_lt, slice_get, slice_set}
 use Rattle.std.proofs.lemmas.List.Sums.{sum_by-append}
-use Rattle.layout.specs.Share.{Share}
 use Rattle.domain.specs.Consumed.{consumes, is_in_order, times_consumed, times_waiting}
 use Rattle.domain.specs.Domains.{DomainView}
 use Rattle.domain.specs.Machine.{change, replay}
 use Rattle.domain.specs.Sent.{Sent, sent, sent_of, source}
 use Rattle.disposition.specs.Emissions.{Emission}
-use Rattle.domain.specs.State.{Alone, Change, item_at}
+use Rattle.domain.specs.State.{Change, item_at}
 use Rattle.domain.specs.declared.entry.Entry.{Entry}
 use Rattle.domain.specs.declared.entry.Entry.TheVariants.{Deliver}
 use Rattle.domain.proofs.Consuming.{consumed_needs, consumed_once}

@@ -34,7 +34,7 @@ use Rattle.fabric_core.proofs.LongPages.{long_registers, long_zeroed}
 -- ---- on links
 
 -- nothing is on a direction
-abbrev IsQuiet : Channel → Type 0
+abbrev pub IsQuiet : Channel → Type 0
 IsQuiet c = frames_on c ≡ []
 
 -- what holds of each element and of the one beside them holds at each place
@@ -43,7 +43,7 @@ at_any P [] i d beside all = beside
 at_any P (x ∷ xs) zero d beside all = All-head P x xs all
 at_any P (x ∷ xs) (suc i) d beside all = at_any P xs i d beside (All-tail P x xs all)
 
-abbrev AreQuiet : List SimplexView → Type 0
+abbrev pub AreQuiet : List SimplexView → Type 0
 AreQuiet lanes = All IsQuiet (map channel lanes)
 
 quiet_switch : (platform : Platform) (switch : SwitchLine) → AreQuiet (switch_lanes platform switch)
@@ -55,14 +55,14 @@ quiet_switch platform switch =
 quiet_function : (platform : Platform) (function : FunctionLine) → AreQuiet (function_lanes platform function)
 quiet_function platform function = All-cons IsQuiet (channel (unused_below platform function.id)) [] refl (All-nil IsQuiet)
 
-quiet_nodes : (platform : Platform) → All AreQuiet (nodes_of platform)
+pub quiet_nodes : (platform : Platform) → All AreQuiet (nodes_of platform)
 quiet_nodes platform =
     All-cons AreQuiet (root_lanes platform) (map (switch_lanes platform) platform.switches ++ map (function_lanes platform) platform.functions) (All-cons IsQuiet _ [] refl (All-nil IsQuiet))
     (All-append AreQuiet (map (switch_lanes platform) platform.switches) (map (function_lanes platform) platform.functions)
     (All-map AreQuiet (switch_lanes platform) platform.switches (λ i switch less. quiet_switch platform (get_or platform.switches i switch)))
     (All-map AreQuiet (function_lanes platform) platform.functions (λ i function less. quiet_function platform (get_or platform.functions i function))))
 
-quiet_at : (platform : Platform) (end : LinkEnd) → IsQuiet (channel_at (channels_of (nodes_of platform)) end)
+pub quiet_at : (platform : Platform) (end : LinkEnd) → IsQuiet (channel_at (channels_of (nodes_of platform)) end)
 quiet_at platform end =
     at_any IsQuiet (get_or (channels_of (nodes_of platform)) end.node []) end.lane no_channel refl
     (at_any (All IsQuiet) (channels_of (nodes_of platform)) end.node [] (All-nil IsQuiet) (All-map (All IsQuiet) (map channel) (nodes_of platform) (quiet_nodes platform)))

@@ -1,9 +1,6 @@
 -- A fabric of any layout stays one through every event, and in a guarded one the order law holds.
-use Rattle.std.proofs.Common.{◌≡◌, ℕ, true, List, [], get_or, Some, refl, sym, ap, ◌∙◌, subst}
-use Rattle.std.specs.Prelude.{All, slice_get}
-use Rattle.std.proofs.lemmas.Option.{get_or_from_slice_get, slice_get-get_or, slice_get_within}
-use Rattle.layout.specs.Platform.{Platform}
-use Rattle.domain.specs.Domains.{DomainView}
+use Rattle.std.proofs.Common.{◌≡◌, true, get_or, Some, sym, ◌∙◌}
+use Rattle.std.proofs.lemmas.Option.{slice_get-get_or}
 use Rattle.passage.proofs.Agreement.{RoutesUp}
 use Rattle.fabric_core.specs.declared.event.Event.{Event}
 use Rattle.fabric_core.specs.Events.{effect}

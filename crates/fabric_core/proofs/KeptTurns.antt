@@ -1,6 +1,6 @@
 -- In a guarded fabric every event keeps what the order law rests on: each posted packet in flight stands on its way, and a
 -- packet that keeps its order behind it stands in turn with it.
-use Rattle.std.proofs.Common.{◌≡◌, ℕ, ◌<◌, ◌≤◌, Bool, true, false, List, length, Option, Some, None, refl, sym, ap, ◌∙◌, subst, arith, ltb-true, ltb-false}
+use Rattle.std.proofs.Common.{◌≡◌, ℕ, ◌<◌, ◌≤◌, Bool, true, false, List, length, Option, Some, None, refl, sym, subst, arith, ltb-true, ltb-false}
 use Rattle.std.specs.Prelude.{IsSome, nat_lt, slice_get}
 use Rattle.std.proofs.lemmas.Option.{slice_get_within}
 use Rattle.fab_types.specs.declared.place.Place.{Place}
@@ -27,7 +27,6 @@ use Rattle.fabric_core.specs.World.{World, is_guarded}
 use Rattle.fabric_core.proofs.AloneSteps.{way_kept}
 use Rattle.fabric_core.proofs.DeedOf.{deed_of}
 use Rattle.fabric_core.proofs.Entered.{Stepped, before, flying_before, gone_consumed, listed_before, one_new, order_after, order_new, same_share}
-use Rattle.fabric_core.proofs.Guarded.{guarded_after}
 use Rattle.fabric_core.proofs.NewPairs.{new_turn}
 use Rattle.fabric_core.proofs.NewWays.{new_way}
 use Rattle.fabric_core.proofs.OneWay.{one_places}

@@ -1,32 +1,27 @@
 -- In a guarded fabric a new packet that is to keep its order behind a posted one stands in turn with it.
-use Rattle.std.proofs.Common.{◌≡◌, ℕ, zero, suc, ◌≤◌, ◌==◌, Bool, true, false, List, [], ◌∷◌, ◌++◌, length, Option, Some, None, refl, sym, ap, ◌∙◌, subst, arith, eq-eqb}
-use Rattle.std.specs.Prelude.{IsSome, option_map, slice_get}
-use Rattle.std.proofs.lemmas.Option.{same_Some, slice_get_within}
+use Rattle.std.proofs.Common.{◌≡◌, ℕ, ◌≤◌, ◌==◌, Bool, true, false, List, [], ◌∷◌, ◌++◌, length, Option, Some, None, refl, sym, ap, ◌∙◌, subst, eq-eqb}
+use Rattle.std.specs.Prelude.{IsSome, slice_get}
 use Rattle.fab_types.specs.declared.place.Direction.{Direction}
 use Rattle.fab_types.specs.declared.place.Origin.{Origin}
 use Rattle.fab_types.specs.declared.place.Origin.TheVariants as origin
 use Rattle.fab_types.specs.declared.place.Place.{Place}
 use Rattle.fab_types.specs.declared.place.Place.TheVariants.{Ingress, Outbox}
 use Rattle.frame_log.specs.Descriptor.{Descriptor}
-use Rattle.layout.specs.Share.{Share}
 use Rattle.domain.specs.Consumed.{consumes}
 use Rattle.domain.specs.Domains.{DomainView}
-use Rattle.disposition.specs.Heads.{descriptor_of}
-use Rattle.domain.specs.Machine.{change}
-use Rattle.domain.specs.Sent.{Sent, carrier, sent, sent_of, source, source_of_carried}
+use Rattle.domain.specs.Sent.{carrier, sent, source}
 use Rattle.disposition.specs.Emissions.{Emission}
 use Rattle.domain.specs.State.{item_at}
 use Rattle.domain.specs.declared.entry.Entry.{Entry}
 use Rattle.domain.specs.declared.entry.Entry.TheVariants.{Carry, Deliver, Refuse}
 use Rattle.domain.proofs.OneOutbox.{one_outbox}
-use Rattle.domain.proofs.Sending.{are_sent, sent_after}
 use Rattle.tenants.specs.Tenants.{Made, made_at, place_of}
 use Rattle.passage.proofs.Agreement.{RoutesUp}
 use Rattle.fabric_core.specs.declared.event.Event.{Event}
 use Rattle.fabric_core.specs.Events.{effect}
 use Rattle.fabric_core.specs.Invariant.{IsFabric}
 use Rattle.fabric_core.specs.Orders.{AreOrdered, GoesBy, KeepsToWay, TurnOf}
-use Rattle.fabric_core.specs.Places.{IsFlown, flown, is_numbered}
+use Rattle.fabric_core.specs.Places.{IsFlown, is_numbered}
 use Rattle.fabric_core.specs.Soundness.{IsGuardedFabric}
 use Rattle.fabric_core.specs.Trails.{standing_at}
 use Rattle.fabric_core.specs.World.{World, is_guarded}

@@ -14,7 +14,7 @@ use Rattle.domain.specs.Orders.{IsTo}
 use Rattle.domain.specs.Sent.{Sent, carrier, sent}
 use Rattle.domain.specs.declared.entry.Entry.{Entry}
 use Rattle.domain.specs.declared.entry.Entry.TheVariants.{Carry, Deliver}
-use Rattle.tenants.specs.Tenants.{Made, domain_at, made_at, place_of, place_of_function}
+use Rattle.tenants.specs.Tenants.{Made, domain_at, place_of, place_of_function}
 use Rattle.passage.specs.Guarded.{IsFunctionOf}
 use Rattle.passage.specs.Sound.{Falling, IsSound}
 use Rattle.passage.proofs.Links.{way_of}

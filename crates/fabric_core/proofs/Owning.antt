@@ -24,7 +24,7 @@ unless_own : (is_own : Bool) (frame : Descriptor) (frames : List Descriptor) →
 unless_own true frame frames other = absurd cc
 unless_own false frame frames other = refl
 
-own_append : (d : ℕ) (xs ys : List Descriptor) → own d (xs ++ ys) ≡ own d xs ++ own d ys
+pub own_append : (d : ℕ) (xs ys : List Descriptor) → own d (xs ++ ys) ≡ own d xs ++ own d ys
 own_append d xs ys = filter-append (λ (frame : Descriptor). frame.domain == d) xs ys
 
 -- the oldest is of another

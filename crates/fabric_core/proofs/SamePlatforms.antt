@@ -1,5 +1,5 @@
 -- Two platforms of one fabric have the same functions and ways, so packets go by the same places in both.
-use Rattle.std.proofs.Common.{◌≡◌, ℕ, ◌∷◌, List, true, sym, ap, ◌∙◌, subst}
+use Rattle.std.proofs.Common.{◌≡◌, ℕ, List, true, sym, ap, ◌∙◌, subst}
 use Rattle.std.specs.Prelude.{option_map, slice_get, Some}
 use Rattle.std.specs.Option.{option_and_then}
 use Rattle.fab_types.specs.Id.{bus_of}

@@ -47,7 +47,7 @@ spares_begin w w' origin entry place is = begun_with w w' origin entry place (ma
 abbrev LinkSpares : Channel → Option ℕ → Channel → Type 0
 LinkSpares old home new = (d : ℕ) → is_number d home ≡ false → own_on_link d new ≡ own_on_link d old
 
-same_on_link : (egress egress' wire wire' ingress ingress' : List Descriptor) → egress' ≡ egress → wire' ≡ wire → ingress' ≡ ingress
+pub same_on_link : (egress egress' wire wire' ingress ingress' : List Descriptor) → egress' ≡ egress → wire' ≡ wire → ingress' ≡ ingress
     → ◌≡◌ {A = OwnOnLink} (record { egress = egress'; wire = wire'; ingress = ingress' }) (record { egress = egress; wire = wire; ingress = ingress })
 same_on_link egress egress' wire wire' ingress ingress' a b c = cc
 

@@ -110,7 +110,7 @@ pub record Spares (old : World) (home : Option ℕ) (new : World) : Type 0 where
   pub foreign : (d : ℕ) → is_number d home ≡ false → part d new ≡ part d old
   pub own : (d : ℕ) → EntersOnce (domain_of old d) (domain_of new d)
 
-same_part : (domain domain' : Option DomainView) (boxes boxes' : List (List Descriptor)) (links links' : List (List OwnOnLink)) → domain' ≡ domain → boxes' ≡ boxes → links' ≡ links
+pub same_part : (domain domain' : Option DomainView) (boxes boxes' : List (List Descriptor)) (links links' : List (List OwnOnLink)) → domain' ≡ domain → boxes' ≡ boxes → links' ≡ links
     → ◌≡◌ {A = Part} (record { domain = domain'; outboxes = boxes'; links = links' }) (record { domain = domain; outboxes = boxes; links = links })
 same_part domain domain' boxes boxes' links links' a b c = cc
 

@@ -2,6 +2,8 @@
 use Rattle.std.specs.Prelude.{◌≡◌, ◌≢◌, ℕ, List, Option, option_map}
 use Rattle.fab_types.specs.declared.outcome.Outcome.{Outcome}
 use Rattle.domain.specs.declared.entry.Entry.{Entry}
+use Rattle.fabric_core.specs.declared.comparison.Comparison.{Comparison}
+use Rattle.fabric_core.specs.declared.comparison.Comparison.TheVariants.{Equal, JournalsDiffer}
 use Rattle.fabric_core.specs.declared.event.Event.{Event}
 use Rattle.fabric_core.specs.Isolation.{domain_of}
 use Rattle.fabric_core.specs.Runs.{Run}
@@ -28,3 +30,8 @@ pub record AreEqual (d : ℕ) (start : World) (events others : List Event) (one 
 pub record DifferInJournals (d : ℕ) (start : World) (events others : List Event) (one other : World) : Type 0 where
   pub runs : AreRuns start events others one other
   pub differ : journal_of d other ≢ journal_of d one
+
+-- what a comparison says of the fabrics that it answers
+abbrev pub Compares : ℕ → World → List Event → List Event → Comparison → Type 0
+Compares d start events others (JournalsDiffer one other) = DifferInJournals d start events others one other
+Compares d start events others (Equal one other) = AreEqual d start events others one other

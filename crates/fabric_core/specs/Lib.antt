@@ -18,3 +18,4 @@ pub mod Invariant
 pub mod Kept
 pub mod TakenOut
 pub mod Comparisons
+pub mod Purging

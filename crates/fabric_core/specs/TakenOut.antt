@@ -77,6 +77,15 @@ CannotTell d start events outcomes first =
     (outcomes' : List Outcome) (second : World) → Run start (events_left d start events outcomes) outcomes' second → All HasMemory outcomes'
     → HaveMoved (events_left d start events outcomes) outcomes' × HasSame d first second
 
+-- and there is such a run
+abbrev pub CanBeLeft : ℕ → World → List Event → List Outcome → Type 0
+CanBeLeft d start events outcomes =
+    (outcomes' : List Outcome) × (second : World) × Run start (events_left d start events outcomes) outcomes' second × All HasMemory outcomes'
+
+-- no domain can tell, of any run from here
+abbrev pub NoneCanTell : World → Type 0
+NoneCanTell start = (events : List Event) (outcomes : List Outcome) (first : World) → Run start events outcomes first → (d : ℕ) → CannotTell d start events outcomes first
+
 -- a run of a list, and a run of what is left of it; in a guarded fabric the domain has the same of both
 pub record AreBothRuns (d : ℕ) (start : World) (events : List Event) (first second : World) : Type 0 where
   pub outcomes : List Outcome

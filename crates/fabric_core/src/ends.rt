@@ -23,7 +23,7 @@ use std::sync::Wait;
 use topology::LinkEnd;
 
 /// The link between the host and the top switch.
-fn top_link(way: Way) -> Direction
+pub(crate) fn top_link(way: Way) -> Direction
     ensures { result ≡ record { lower = 0x0100; way = way } }
 {
     Direction {

@@ -8,16 +8,18 @@ ghost use Rattle.layout.specs.Share.{is_guarded_port};
 ghost use Rattle.tenants.specs.Tenants.{domain_at, place_of};
 ghost use Rattle.fabric_core.specs.Credits.{HasCredits, channel_of};
 ghost use Rattle.fabric_core.specs.Events.{StepsTo};
-ghost use Rattle.fabric_core.specs.Isolation.{AreApart, IsApart};
+ghost use Rattle.fabric_core.specs.Isolation.{AreApart, IsApart, home};
 ghost use Rattle.fabric_core.specs.Orderly.{IsOrderly};
 ghost use Rattle.fabric_core.specs.Orders.{AreInOrder};
 ghost use Rattle.fabric_core.specs.Places.{HaveOnePlace};
 ghost use Rattle.fabric_core.specs.Runs.{HaveBegun, Run};
+ghost use Rattle.fabric_core.specs.TakenOut.{NoneCanTell};
 ghost use Rattle.fabric_core.specs.World.{is_guarded, world_of};
 
 use crate::event::Event;
-use crate::laws::every_event_keeps_a_fabric;
+use crate::laws::{every_event_keeps_a_fabric, other_domains_can_be_taken_out};
 use crate::step::step;
+use crate::whose::home;
 use credit::Limits;
 use domain::Domain;
 use edge::Edge;
@@ -56,12 +58,20 @@ impl Model for Fabric {
 impl Fabric {
     /// The fabric of a layout, in which nothing was begun. It answers `NoMemory` where memory was refused. It is
     /// guarded where each downstream port of the layout has all five ACS controls set.
+    ///
+    /// In a guarded fabric no domain can tell the others from none. Take any list of events that is run from this start,
+    /// whatever functions and hosts of other domains submit, spoof or address, and take all out that other domains do,
+    /// and all that moves nothing: without want of memory each event of the domain moves in a run of what is left,
+    /// and the domain ends with the same journal and state (memory, registers, records of completions, open Tags, counts,
+    /// what is in flight), the same packets at the same places, and the same violations by its functions.
     pub fn new(alloc: Global, layout: &Layout) -> Result<Fabric, NoMemory>
         ensures start { IfOk result (λ fabric. fabric ≡ world_of layout.now) }
         ensures guarded { IfOk result (λ fabric. is_guarded fabric ≡ list_all is_guarded_port layout.now.ports) }
+        ensures isolated { IfOk result (λ fabric. is_guarded fabric ≡ true → NoneCanTell fabric) }
     {
-        // It tells what holds of every platform.
+        // What holds of every platform, and what no domain can tell, are laws.
         let _ = layout.ports();
+        other_domains_can_be_taken_out();
         Ok(Fabric {
             hierarchy: Hierarchy::new(alloc, layout)?,
             edge: Edge::new(alloc, layout)?,
@@ -101,6 +111,16 @@ impl Fabric {
     {
         let end = self.hierarchy.sender(direction)?;
         Some(self.hierarchy.credits_at(end))
+    }
+
+    /// The domain that an event is of, as the fabric stands. A begin is of the domain whose function or host begins it,
+    /// and an event that takes a packet is of that packet's home, the domain that made it, wherever the packet is and
+    /// whoever takes it. None where the event tells credits, where there is nothing to take, and where no domain has the
+    /// function or host.
+    pub fn home(&self, event: &Event) -> Option<DomainId>
+        ensures { result ≡ home self.now event.now }
+    {
+        home(&self.hierarchy, &self.edge, event)
     }
 
     /// Makes one event, and says what came of it. `Moved`: the fabric did what the event does. `Idle`: there was

@@ -3,6 +3,7 @@
 ghost use Rattle.std.specs.Prelude.{◌≡◌, ◌≤◌, ℕ, IsSome, List, Some, length, slice_get, true};
 ghost use Rattle.fab_types.specs.declared.class.Class.TheVariants.{Completion, NonPosted};
 ghost use Rattle.frame_log.specs.Descriptor.{Descriptor};
+ghost use Rattle.fab_types.specs.declared.outcome.Outcome.{Outcome};
 ghost use Rattle.fab_types.specs.declared.place.Place.{Place};
 ghost use Rattle.domain.specs.Consumed.{is_in_order};
 ghost use Rattle.domain.specs.Orders.{IsPosted};
@@ -20,7 +21,9 @@ ghost use Rattle.fabric_core.specs.Invariant.{IsFabric, IsKept};
 ghost use Rattle.fabric_core.specs.Isolation.{IsApart};
 ghost use Rattle.fabric_core.specs.Orders.{AreOrdered, GoesBy, KeepsToWay, StayOrdered, TurnOf};
 ghost use Rattle.fabric_core.specs.Places.{HaveOnePlace, IsFlown};
+ghost use Rattle.fabric_core.specs.Runs.{Run};
 ghost use Rattle.fabric_core.specs.Soundness.{IsGuardedFabric};
+ghost use Rattle.fabric_core.specs.TakenOut.{CanBeLeft, CannotTell};
 ghost use Rattle.fabric_core.specs.World.{World, is_guarded, world_of};
 
 /// Every event keeps what a fabric keeps: each packet in flight stands in exactly one place, or was lost as an alien
@@ -99,6 +102,25 @@ pub fn new_packets_stand_behind()
 /// packets of a domain that keep their order are in turn there, and were consumed in it.
 pub fn every_event_keeps_a_fabric()
     ensures { (old new : World) (event : Event) → IsFabric old → effect old event ≡ Some new → IsFabric new }
+{
+    acs::guarded_requests_go_up();
+}
+
+/// In the fabric of a guarded layout the events of other domains can be taken out of any run: where a domain's events that
+/// moved are run alone, with those that tell credits, each of them moves again, and the domain has the same state, journal,
+/// packets and violations in the end. Want of memory aside, it can't tell the other domains from none.
+pub fn other_domains_can_be_taken_out()
+    ensures { (platform : Platform) → IsGuarded platform → (events : List Event) (outcomes : List Outcome) (first : World)
+        → Run (world_of platform) events outcomes first → (d : ℕ) → CannotTell d (world_of platform) events outcomes first }
+{
+    acs::guarded_requests_go_up();
+}
+
+/// What `other_domains_can_be_taken_out` leaves of a run can be run: there is a run of it from the same start in which no
+/// event is refused memory.
+pub fn what_is_left_can_be_run()
+    ensures { (platform : Platform) → IsGuarded platform → (events : List Event) (outcomes : List Outcome) (first : World)
+        → Run (world_of platform) events outcomes first → (d : ℕ) → CanBeLeft d (world_of platform) events outcomes }
 {
     acs::guarded_requests_go_up();
 }

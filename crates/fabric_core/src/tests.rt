@@ -9,7 +9,7 @@ use std::sync::Wait;
 use std::test::Fail;
 
 /// Two domains below two switches.
-const PLATFORM: &str = "pciefab 1
+pub(crate) const PLATFORM: &str = "pciefab 1
 frames 4
 switch 01:00.0 root
 port 02:00.0 03 03 90000000 900fffff 1f 1
@@ -39,7 +39,7 @@ const FUNCTION_06: u16 = 0x0600;
 /// Nothing of the layout has this ID.
 const NOBODY: u16 = 0x0900;
 
-fn direction(lower: u16, way: Way) -> Direction {
+pub(crate) fn direction(lower: u16, way: Way) -> Direction {
     Direction {
         lower: Bdf::from_bits(lower),
         way,
@@ -48,7 +48,7 @@ fn direction(lower: u16, way: Way) -> Direction {
 
 /// An event by which a packet goes on. IDs are given by their bits, a link by the one at its lower end.
 #[derive(Clone, Copy)]
-enum Move {
+pub(crate) enum Move {
     EnterOfFunction(u16, Class),
     EnterOfHost(DomainId, Class),
     Send(u16, Way, Class),
@@ -60,7 +60,7 @@ enum Move {
 }
 
 impl Move {
-    fn event(self) -> Event {
+    pub(crate) fn event(self) -> Event {
         match self {
             Move::EnterOfFunction(id, class) => {
                 Event::Enter(Origin::Function(Bdf::from_bits(id)), class)

@@ -1,6 +1,6 @@
 -- What one box says of a call on it, said of the list that it stands in.
 use Rattle.std.proofs.Common.{◌≡◌, ◌≢◌, ℕ, zero, suc, ◌<◌, Bool, true, false, cond, List, [], ◌∷◌, length, get_or, set, Option, Some, None, refl, sym, ap, ◌∙◌, length-set, slice_get, eqb-true}
-use Rattle.std.specs.Prelude.{IfSome, MatchOption, nat_lt, option_map}
+use Rattle.std.specs.Prelude.{Result, Ok, Err, IfSome, MatchOption, OnErr, OnOk, nat_lt, option_map}
 use Rattle.std.specs.List.{position_or_len}
 use Rattle.std.proofs.lemmas.List.{get_or-set_same, set-get_or}
 use Rattle.std.proofs.lemmas.List.Folds.{position_or_len-set}
@@ -11,7 +11,7 @@ use Rattle.fab_types.specs.declared.place.Origin.TheVariants.{Function, Host}
 use Rattle.frame_log.specs.Descriptor.{Descriptor}
 use Rattle.function.specs.Tags.{same_origin}
 use Rattle.port.specs.Lanes.{Class, eligible}
-use Rattle.outboxes.specs.Outboxes.{BoxView, box_at, box_of, box_place, changed, changed_at, changed_in, queue_in, restored, restored_in, waiting, waiting_in, with_queue}
+use Rattle.outboxes.specs.Outboxes.{BoxView, box_at, box_of, box_place, changed, changed_at, changed_in, queue_in, restored, restored_in, waiting, waiting_in, with_more, with_queue}
 
 -- ---- the box at a place
 
@@ -31,6 +31,10 @@ same_place boxes i read new same origin =
     let first : position_or_len p (set boxes i new) ≡ position_or_len p boxes = position_or_len-set p boxes i new read (ap (λ (o : Origin). same_origin o origin) same) in
     ap (λ (n : ℕ). cond (nat_lt (position_or_len p (set boxes i new)) n) (Some (position_or_len p (set boxes i new))) None) (length-set boxes i new)
     ∙ ap (λ (n : ℕ). cond (nat_lt n (length boxes)) (Some n) None) first
+
+pub more_keeps_origin : {T E : Type 0} (n : ℕ) (old new : BoxView) (r : Result T E) → OnOk r (new ≡ with_more n old) → OnErr r (new ≡ old) → new.origin ≡ old.origin
+more_keeps_origin n old new (Ok x) ok err = ap (λ (b : BoxView). b.origin) ok
+more_keeps_origin n old new (Err x) ok err = ap (λ (b : BoxView). b.origin) err
 
 abbrev pub TookFrom : Class → BoxView → BoxView → Option Descriptor → Type 0
 TookFrom class old new result = MatchOption result ((eligible class (waiting old) ≡ None) × (new ≡ old)) (λ frame. eligible class (waiting old) ≡ Some (frame, waiting new))

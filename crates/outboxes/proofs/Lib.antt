@@ -1,3 +1,4 @@
 pub mod Boxes
 pub mod Changing
+pub mod Indexed
 pub mod Starting

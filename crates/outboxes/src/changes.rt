@@ -48,7 +48,8 @@ pub(crate) fn put_back_at(boxes: &mut [OriginBox], place: usize, frame: Frame)
 pub(crate) fn put_at(boxes: &mut [OriginBox], place: usize, frame: Frame)
     requires within { place < length boxes.old }
     requires has_place { IsTrue (has_place_in (slice_get boxes.old place) (class_of frame)) }
-    ensures { boxes.new ≡ changed_at (with_put frame) boxes.old (Some place) }
+    ensures put { boxes.new ≡ changed_at (with_put frame) boxes.old (Some place) }
+    ensures places { (origin : Origin) → box_place boxes.new origin ≡ box_place boxes.old origin }
 {
     boxes[place].put(frame);
 }
@@ -58,6 +59,7 @@ pub(crate) fn more_at(boxes: &mut [OriginBox], place: usize, places: usize) -> R
     requires { place < length boxes.old }
     ensures ok { OnOk result (boxes.new ≡ changed_at (with_more places) boxes.old (Some place)) }
     ensures err { OnErr result (boxes.new ≡ boxes.old) }
+    ensures places { (origin : Origin) → box_place boxes.new origin ≡ box_place boxes.old origin }
 {
     boxes[place].more(places)
 }

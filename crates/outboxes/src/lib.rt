@@ -3,6 +3,7 @@
 #![tactic(auto)]
 
 mod changes;
+mod indexing;
 mod origin_box;
 mod outboxes;
 mod starts;

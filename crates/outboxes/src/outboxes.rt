@@ -1,15 +1,17 @@
 //! The outboxes of all functions and hosts as one value.
 
-ghost use Rattle.std.specs.Prelude.{◌≡◌, IfOk, IfSome, IsSome, IsTrue, MatchOption, None, OnErr, OnOk, Some, option_map};
+ghost use Rattle.std.specs.Prelude.{◌≡◌, ◌<◌, IfOk, IfSome, IsSome, IsTrue, MatchOption, None, OnErr, OnOk, Some, length, option_map};
 ghost use Rattle.port.specs.Lanes.{class_of, eligible};
-ghost use Rattle.outboxes.specs.Outboxes.{boxes_of, changed, has_place, queue_of, restored_of, waiting_of, with_more, with_put, with_queue};
+ghost use Rattle.outboxes.specs.Outboxes.{box_place, boxes_of, changed, has_place, queue_of, restored_of, waiting_of, with_more, with_put, with_queue};
 
-use crate::changes::{box_place, more_at, put_at, put_back_at, take_at};
+use crate::changes::{more_at, put_at, put_back_at, take_at};
+use crate::indexing::{index_of, indexed_place};
 use crate::origin_box::OriginBox;
 use crate::starts::boxes_of;
 use fab_types::{Class, DomainId, Head, NoMemory, Origin};
 use frame_log::Frame;
 use layout::Layout;
+use origin_index::OriginIndex;
 use std::alloc::Global;
 use std::marker::Model;
 
@@ -17,6 +19,7 @@ use std::marker::Model;
 #[derive(Drop)]
 pub struct Outboxes {
     boxes: Vec<OriginBox>,
+    index: OriginIndex,
 }
 
 impl Model for Outboxes {
@@ -26,6 +29,10 @@ impl Model for Outboxes {
     ghost Value = { List BoxView };
 
     ghost view = { λ o. o.boxes.items };
+
+    ghost use Rattle.outboxes.specs.Indexes.{IsIndexOf};
+
+    ghost invariant = { λ o. IsIndexOf o.index o.boxes.items };
 }
 
 impl Outboxes {
@@ -34,9 +41,19 @@ impl Outboxes {
     pub fn new(alloc: Global, layout: &Layout) -> Result<Outboxes, NoMemory>
         ensures { IfOk result (λ outboxes. outboxes ≡ boxes_of layout.now) }
     {
+        let boxes = boxes_of(alloc, layout)?;
         Ok(Outboxes {
-            boxes: boxes_of(alloc, layout)?,
+            index: index_of(&boxes),
+            boxes,
         })
+    }
+
+    /// The place of the box of this origin.
+    fn place(&self, origin: Origin) -> Option<usize>
+        ensures value { result ≡ box_place self.now origin }
+        ensures within { IfSome result (λ place. place < length self.now) }
+    {
+        indexed_place(&self.index, &self.boxes, origin)
     }
 
     /// What ports read of the eligible packet of a class (PCIe 4.0, 2.4.1): the oldest that this origin has waiting,
@@ -44,7 +61,7 @@ impl Outboxes {
     pub fn head(&self, origin: Origin, class: Class) -> Option<Head>
         ensures { result ≡ option_map (λ taken. taken.0.head) (eligible class (waiting_of self.now origin)) }
     {
-        let place = box_place(&self.boxes, origin)?;
+        let place = self.place(origin)?;
         self.boxes[place].head(class)
     }
 
@@ -64,7 +81,7 @@ impl Outboxes {
         // All but what waits of this origin is as it was.
         ensures kept { self.new ≡ changed (with_queue (queue_of self.new origin)) self.old origin }
     {
-        let place = box_place(&self.boxes, origin)?;
+        let place = self.place(origin)?;
         take_at(&mut self.boxes, place, class)
     }
 
@@ -75,7 +92,7 @@ impl Outboxes {
         // All but what waits of this origin is as it was.
         ensures kept { self.new ≡ changed (with_queue (queue_of self.new origin)) self.old origin }
     {
-        let Some(place) = box_place(&self.boxes, origin) else {
+        let Some(place) = self.place(origin) else {
             unreachable!();
         };
         put_back_at(&mut self.boxes, place, frame);
@@ -85,7 +102,7 @@ impl Outboxes {
     pub fn has_place(&self, origin: Origin, class: Class) -> bool
         ensures { result ≡ has_place self.now origin class }
     {
-        match box_place(&self.boxes, origin) {
+        match self.place(origin) {
             Some(place) => self.boxes[place].has_place(class),
             None => false,
         }
@@ -96,7 +113,7 @@ impl Outboxes {
         requires { IsTrue (has_place self.old origin (class_of frame)) }
         ensures { self.new ≡ changed (with_put frame) self.old origin }
     {
-        let Some(place) = box_place(&self.boxes, origin) else {
+        let Some(place) = self.place(origin) else {
             unreachable!();
         };
         put_at(&mut self.boxes, place, frame);
@@ -107,7 +124,7 @@ impl Outboxes {
         ensures ok { OnOk result (self.new ≡ changed (with_more places) self.old origin) }
         ensures err { OnErr result (self.new ≡ self.old) }
     {
-        match box_place(&self.boxes, origin) {
+        match self.place(origin) {
             Some(place) => more_at(&mut self.boxes, place, places),
             None => Ok(()),
         }

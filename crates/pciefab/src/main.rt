@@ -14,7 +14,11 @@ mod programs;
 #[cfg(test)]
 mod random;
 #[cfg(test)]
+mod random_events;
+#[cfg(test)]
 mod runs;
+#[cfg(test)]
+mod taken_out;
 #[cfg(test)]
 mod tests;
 #[cfg(test)]

@@ -9,8 +9,8 @@ use std::test::Fail;
 
 /// Numbers that look random and are the same in every run: a linear congruence modulo 2^64.
 #[derive(Drop)]
-struct Dice {
-    state: u64,
+pub(crate) struct Dice {
+    pub state: u64,
 }
 
 impl Dice {
@@ -21,7 +21,7 @@ impl Dice {
     const INCREMENT: u64 = 1_442_695_040_888_963_407;
 
     /// A number below the limit.
-    fn below(&mut self, limit: u64) -> u64
+    pub fn below(&mut self, limit: u64) -> u64
         requires { 0 < limit }
         ensures { result < limit }
     {
@@ -32,14 +32,14 @@ impl Dice {
     }
 
     /// Is this the one time in so many?
-    fn is_once_in(&mut self, count: u64) -> bool
+    pub fn is_once_in(&mut self, count: u64) -> bool
         requires { 0 < count }
     {
         self.below(count) == 0
     }
 
     /// One of these.
-    fn pick<T: Copy>(&mut self, items: &[T]) -> Result<T, Fail> {
+    pub fn pick<T: Copy>(&mut self, items: &[T]) -> Result<T, Fail> {
         if items.is_empty() {
             return Err(Fail::from("nothing to pick from"));
         }
@@ -50,14 +50,14 @@ impl Dice {
 
 /// A function: its bus, the megabyte of its register page, and its owner.
 #[derive(Clone, Copy)]
-struct Function {
-    bus: u64,
-    megabyte: u64,
-    owner: u64,
+pub(crate) struct Function {
+    pub bus: u64,
+    pub megabyte: u64,
+    pub owner: u64,
 }
 
 /// A function that no layout has.
-const NOBODY: Function = Function {
+pub(crate) const NOBODY: Function = Function {
     bus: 0xfe,
     megabyte: 0x80,
     owner: 1,
@@ -81,10 +81,10 @@ const ALL_CONTROLS: u64 = 0x1f;
 
 /// A layout that is being written.
 #[derive(Drop)]
-struct Plan {
+pub(crate) struct Plan {
     is_guarded: bool,
-    text: String,
-    functions: Vec<Function>,
+    pub text: String,
+    pub functions: Vec<Function>,
     /// What the next port gets.
     bus: u64,
     megabyte: u64,
@@ -243,7 +243,7 @@ impl Plan {
 }
 
 /// A layout and its functions.
-fn random_plan(alloc: Global, dice: &mut Dice, is_guarded: bool) -> Result<Plan, Fail> {
+pub(crate) fn random_plan(alloc: Global, dice: &mut Dice, is_guarded: bool) -> Result<Plan, Fail> {
     let mut plan = Plan::new(alloc, is_guarded);
     plan.add_tree(dice)?;
     for function in plan.functions.clone()? {
@@ -267,7 +267,7 @@ const WIDE: u64 = 0x20;
 const DATA: u64 = 0x40;
 
 /// Offsets in pages, most of which mean something in a register page.
-const OFFSETS: [u64; 10] = [
+pub(crate) const OFFSETS: [u64; 10] = [
     0x000, 0x004, 0x008, 0x00c, 0x100, 0x110, 0x400, 0x404, 0x7f8, 0xffc,
 ];
 
@@ -385,7 +385,7 @@ fn write_random_bytes(text: &mut String, dice: &mut Dice, count: u64) -> Result<
 }
 
 /// The word of a packet that this function submits: mostly well formed, at times too short.
-fn packet_word(
+pub(crate) fn packet_word(
     alloc: Global,
     dice: &mut Dice,
     functions: &[Function],
@@ -406,7 +406,11 @@ fn packet_word(
 }
 
 /// A line of a program: 16 bytes in hexadecimal.
-fn program_line(alloc: Global, dice: &mut Dice, functions: &[Function]) -> Result<String, Fail> {
+pub(crate) fn program_line(
+    alloc: Global,
+    dice: &mut Dice,
+    functions: &[Function],
+) -> Result<String, Fail> {
     let operation = dice.pick(&[0, 1, 1, 1, 1, 1, 2, 2, 2, 2, 2, 3, 3, 4])?;
     let count = dice.pick(&[0, 1, 1, 2, 2, 4, 4, 64])?;
     let offset = dice.below(8) * 4;

@@ -1,3 +1,4 @@
 pub mod Tenants
 pub mod Aliens
 pub mod Kept
+pub mod Indexes

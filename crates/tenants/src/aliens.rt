@@ -1,8 +1,10 @@
 //! Packets that are taken where their home has no case.
 
 ghost use Rattle.std.specs.Prelude.{◌≡◌, ◌<◌, ◌≤◌, IfErr, IfOk, IfSome, None, OnErr, Some, is_some, length, option_copied, option_map};
+ghost use Rattle.fab_types.specs.declared.place.Origin.{Origin};
 ghost use Rattle.domain.specs.declared.entry.Entry.TheVariants.{Alien};
 ghost use Rattle.tenants.specs.Aliens.{IsUntaken, aliened_at, answers, flown};
+ghost use Rattle.tenants.specs.Indexes.{place_of_origin};
 ghost use Rattle.tenants.specs.Tenants.{made_at};
 
 use crate::places::place_of;
@@ -46,6 +48,7 @@ fn taken_at<R: Wait>(
     ensures ok { IfOk result (λ sent. made_at domains.old (Alien place frame.head.parties bytes.now) (Some at) ≡ Some (record { domains = domains.new; sent = sent })) }
     ensures fault { IfErr result (λ fault. IsUntaken (made_at domains.old (Alien place frame.head.parties bytes.now) (Some at)) frame fault) }
     ensures err { OnErr result (domains.new ≡ domains.old) }
+    ensures places { (origin : Origin) → place_of_origin domains.new origin ≡ place_of_origin domains.old origin }
 {
     let there = place;
     if !domains[at].has_alien(there, bytes) {
@@ -67,6 +70,7 @@ pub(crate) fn alien_at<R: Wait>(
     ensures ok { IfOk result (λ sent. aliened_at domains.old at place frame ≡ Some (record { domains = domains.new; sent = sent })) }
     ensures fault { IfErr result (λ fault. IsUntaken (aliened_at domains.old at place frame) frame fault) }
     ensures err { OnErr result (domains.new ≡ domains.old) }
+    ensures places { (origin : Origin) → place_of_origin domains.new origin ≡ place_of_origin domains.old origin }
 {
     let Some(at) = at else {
         return Err(FrameFault::Stray(frame));

@@ -2,10 +2,12 @@
 
 ghost use Rattle.std.specs.Prelude.{◌≡◌, ◌<◌, IfOk, None, OnErr, Some, length, slice_get};
 ghost use Rattle.std.specs.Result.{IsOkUnless};
+ghost use Rattle.fab_types.specs.declared.place.Origin.{Origin};
 ghost use Rattle.fab_types.specs.declared.faults.begin.SubmitFault.{SubmitFault};
 ghost use Rattle.fab_types.specs.declared.faults.begin.TickFault.{TickFault};
 ghost use Rattle.fab_types.specs.declared.faults.begin.MmioFault.{MmioFault};
 ghost use Rattle.domain.specs.declared.entry.Entry.TheVariants.{Mmio, Submit, Tick};
+ghost use Rattle.tenants.specs.Indexes.{place_of_origin};
 ghost use Rattle.tenants.specs.Tenants.{Emits, made_at, mmio_refusal_by, submit_refusal_by, tick_refusal_by};
 
 use domain::{Domain, HostAccess};
@@ -26,6 +28,7 @@ pub(crate) fn submit_at<R: Wait>(
     ensures refused { (fault : SubmitFault) → submit_refusal_by (slice_get domains.old place) function bytes.now ≡ Some fault → result ≡ Err fault }
     ensures accepted { submit_refusal_by (slice_get domains.old place) function bytes.now ≡ None → IsOkUnless result SubmitFault.NoMemory }
     ensures err { OnErr result (domains.new ≡ domains.old) }
+    ensures places { (origin : Origin) → place_of_origin domains.new origin ≡ place_of_origin domains.old origin }
 {
     domains[place].submit(rt, function, bytes)
 }
@@ -43,6 +46,7 @@ pub(crate) fn tick_at<R: Wait>(
     ensures accepted { tick_refusal_by (slice_get domains.old place) function ≡ None → IsOkUnless result TickFault.NoMemory }
     ensures memory { result ≡ Err TickFault.NoMemory → Emits (made_at domains.old (Tick function) (Some place)) }
     ensures err { OnErr result (domains.new ≡ domains.old) }
+    ensures places { (origin : Origin) → place_of_origin domains.new origin ≡ place_of_origin domains.old origin }
 {
     domains[place].tick(rt, function)
 }
@@ -59,6 +63,7 @@ pub(crate) fn mmio_at<R: Wait>(
     ensures refused { (fault : MmioFault) → mmio_refusal_by (slice_get domains.old place) access.now ≡ Some fault → result ≡ Err fault }
     ensures accepted { mmio_refusal_by (slice_get domains.old place) access.now ≡ None → IsOkUnless result MmioFault.NoMemory }
     ensures err { OnErr result (domains.new ≡ domains.old) }
+    ensures places { (origin : Origin) → place_of_origin domains.new origin ≡ place_of_origin domains.old origin }
 {
     domains[place].mmio(rt, access)
 }

@@ -1,7 +1,9 @@
 //! Ends of packets of the domain at a place.
 
 ghost use Rattle.std.specs.Prelude.{◌≡◌, ◌<◌, IfErr, IfOk, None, OnErr, Some, length, slice_get};
+ghost use Rattle.fab_types.specs.declared.place.Origin.{Origin};
 ghost use Rattle.domain.specs.declared.entry.Entry.TheVariants.{Carry, Deliver, Refuse};
+ghost use Rattle.tenants.specs.Indexes.{place_of_origin};
 ghost use Rattle.tenants.specs.Tenants.{IsGivenBack, IsHome, IsStray, made_at, record_by};
 
 use domain::{Domain, Record};
@@ -22,6 +24,7 @@ pub(crate) fn refuse_at<R: Wait>(
     ensures ok { IfOk result (λ sent. made_at domains.old (Refuse frame.number) (Some place) ≡ Some (record { domains = domains.new; sent = sent })) }
     ensures fault { IfErr result (λ fault. IsGivenBack (made_at domains.old (Refuse frame.number) (Some place)) frame fault) }
     ensures err { OnErr result (domains.new ≡ domains.old) }
+    ensures places { (origin : Origin) → place_of_origin domains.new origin ≡ place_of_origin domains.old origin }
 {
     domains[place].refuse(rt, frame, port)
 }
@@ -38,6 +41,7 @@ pub(crate) fn carry_at<R: Wait>(
     ensures ok { IfOk result (λ sent. made_at domains.old (Carry frame.number) (Some place) ≡ Some (record { domains = domains.new; sent = sent })) }
     ensures fault { IfErr result (λ fault. IsGivenBack (made_at domains.old (Carry frame.number) (Some place)) frame fault) }
     ensures err { OnErr result (domains.new ≡ domains.old) }
+    ensures places { (origin : Origin) → place_of_origin domains.new origin ≡ place_of_origin domains.old origin }
 {
     domains[place].carry(rt, frame)
 }
@@ -54,6 +58,7 @@ pub(crate) fn deliver_at(
     ensures delivery { IfOk result (λ given. given ≡ record_by (slice_get domains.old place) frame.number) }
     ensures fault { IfErr result (λ fault. IsStray (made_at domains.old (Deliver frame.number) (Some place)) frame fault) }
     ensures err { OnErr result (domains.new ≡ domains.old) }
+    ensures places { (origin : Origin) → place_of_origin domains.new origin ≡ place_of_origin domains.old origin }
 {
     domains[place].deliver(frame)
 }

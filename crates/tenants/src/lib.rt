@@ -5,6 +5,7 @@ mod aliens;
 mod begins;
 mod desk;
 mod ends;
+mod indexing;
 mod places;
 mod starts;
 mod tenants;

@@ -1,23 +1,25 @@
 //! The domains of a fabric as one value.
 
-ghost use Rattle.std.specs.Prelude.{◌≡◌, IfOk, IfErr, IfSome, None, OnErr, Some, is_some};
+ghost use Rattle.std.specs.Prelude.{◌≡◌, ◌<◌, IfOk, IfErr, IfSome, None, OnErr, Some, is_some, length};
 ghost use Rattle.std.specs.Option.{option_copied};
 ghost use Rattle.std.specs.Result.{IsOkUnless};
 ghost use Rattle.fab_types.specs.declared.faults.begin.SubmitFault.{SubmitFault};
 ghost use Rattle.fab_types.specs.declared.faults.begin.TickFault.{TickFault};
 ghost use Rattle.fab_types.specs.declared.faults.begin.MmioFault.{MmioFault};
 ghost use Rattle.tenants.specs.Aliens.{IsUntaken, aliened, answers, owner_of_frame};
-ghost use Rattle.tenants.specs.Tenants.{Emits, IsGivenBack, IsStray, delivered, domain_at, made, made_at, mmio_refusal, place_of, place_of_function, submit_refusal, tenants_of, tick_refusal};
+ghost use Rattle.tenants.specs.Tenants.{Emits, IsGivenBack, IsHome, IsStray, delivered, domain_at, made, made_at, mmio_refusal, place_of, place_of_function, submit_refusal, tenants_of, tick_refusal};
 
 use crate::aliens::{alien_at, answers_alien, has_alien};
 use crate::begins::{mmio_at, submit_at, tick_at};
 use crate::ends::{carry_at, deliver_at, refuse_at};
-use crate::places::{owner_of_frame, place_of, place_of_function};
+use crate::indexing::{index_of, indexed_home, indexed_place};
+use crate::places::owner_of_frame;
 use crate::starts::domains_of;
 use domain::{Domain, HostAccess, Record};
 use fab_types::{Bdf, DomainId, MmioFault, NoMemory, Place, PortId, SubmitFault, TickFault};
 use frame_log::{Frame, FrameFault};
 use layout::Layout;
+use origin_index::OriginIndex;
 use std::alloc::Global;
 use std::marker::Model;
 use std::sync::Wait;
@@ -26,6 +28,7 @@ use std::sync::Wait;
 #[derive(Drop)]
 pub struct Tenants {
     domains: Vec<Domain>,
+    index: OriginIndex,
 }
 
 impl Model for Tenants {
@@ -34,9 +37,11 @@ impl Model for Tenants {
 
     ghost Value = { List DomainView };
 
-    ghost use Rattle.tenants.specs.Kept.{domains_of};
+    ghost use Rattle.tenants.specs.Kept.{IsIndexed, domains_of};
 
     ghost view = { domains_of };
+
+    ghost invariant = { IsIndexed };
 }
 
 impl Tenants {
@@ -46,9 +51,28 @@ impl Tenants {
     pub fn new(alloc: Global, layout: &Layout) -> Result<Tenants, NoMemory>
         ensures { IfOk result (λ tenants. tenants ≡ tenants_of layout.now) }
     {
+        let domains = domains_of(alloc, layout)?;
         Ok(Tenants {
-            domains: domains_of(alloc, layout)?,
+            index: index_of(layout.functions(), &domains),
+            domains,
         })
+    }
+
+    /// The place of the domain with this number.
+    fn place(&self, number: DomainId) -> Option<usize>
+        ensures value { result ≡ place_of self.now number }
+        ensures within { IfSome result (λ place. place < length self.now) }
+        ensures home { IfSome result (λ place. IsHome self.now place number) }
+    {
+        indexed_place(&self.index, &self.domains, number)
+    }
+
+    /// The place of the domain that this function is of.
+    fn home(&self, function: Bdf) -> Option<usize>
+        ensures value { result ≡ place_of_function self.now function }
+        ensures within { IfSome result (λ place. place < length self.now) }
+    {
+        indexed_home(&self.index, &self.domains, function)
     }
 
     /// The domain of this number, if there is one.
@@ -56,7 +80,7 @@ impl Tenants {
         ensures value { option_copied result ≡ domain_at self.now (place_of self.now number) }
         ensures number { IfSome result (λ domain. domain.now.share.domain ≡ number) }
     {
-        let place = place_of(&self.domains, number)?;
+        let place = self.place(number)?;
         Some(&self.domains[place])
     }
 
@@ -64,7 +88,7 @@ impl Tenants {
     pub fn domain_of_function(&self, function: Bdf) -> Option<&Domain>
         ensures { option_copied result ≡ domain_at self.now (place_of_function self.now function) }
     {
-        let home = place_of_function(&self.domains, function)?;
+        let home = self.home(function)?;
         Some(&self.domains[home])
     }
 
@@ -89,7 +113,7 @@ impl Tenants {
         ensures accepted { submit_refusal self.old function bytes.now ≡ None → IsOkUnless result SubmitFault.NoMemory }
         ensures err { OnErr result (self.new ≡ self.old) }
     {
-        match place_of_function(&self.domains, function) {
+        match self.home(function) {
             Some(place) => submit_at(rt, &mut self.domains, place, function, bytes),
             None => Err(SubmitFault::NoFunction),
         }
@@ -106,7 +130,7 @@ impl Tenants {
         ensures memory { result ≡ Err TickFault.NoMemory → Emits (made_at self.old (Tick function) (place_of_function self.old function)) }
         ensures err { OnErr result (self.new ≡ self.old) }
     {
-        match place_of_function(&self.domains, function) {
+        match self.home(function) {
             Some(place) => tick_at(rt, &mut self.domains, place, function),
             None => Err(TickFault::NoFunction),
         }
@@ -126,7 +150,7 @@ impl Tenants {
         ensures accepted { mmio_refusal self.old domain access.now ≡ None → IsOkUnless result MmioFault.NoMemory }
         ensures err { OnErr result (self.new ≡ self.old) }
     {
-        match place_of(&self.domains, domain) {
+        match self.place(domain) {
             Some(place) => mmio_at(rt, &mut self.domains, place, access),
             None => Err(MmioFault::NotYours),
         }
@@ -144,7 +168,7 @@ impl Tenants {
         ensures stray { made self.old frame.domain (Refuse frame.number) ≡ None → result ≡ Err (FrameFault.Stray frame) }
         ensures err { OnErr result (self.new ≡ self.old) }
     {
-        match place_of(&self.domains, frame.domain()) {
+        match self.place(frame.domain()) {
             Some(place) => refuse_at(rt, &mut self.domains, place, frame, port),
             None => Err(FrameFault::Stray(frame)),
         }
@@ -157,7 +181,7 @@ impl Tenants {
         ensures stray { made self.old frame.domain (Carry frame.number) ≡ None → result ≡ Err (FrameFault.Stray frame) }
         ensures err { OnErr result (self.new ≡ self.old) }
     {
-        match place_of(&self.domains, frame.domain()) {
+        match self.place(frame.domain()) {
             Some(place) => carry_at(rt, &mut self.domains, place, frame),
             None => Err(FrameFault::Stray(frame)),
         }
@@ -171,7 +195,7 @@ impl Tenants {
         ensures stray { made self.old frame.domain (Deliver frame.number) ≡ None → result ≡ Err (FrameFault.Stray frame) }
         ensures err { OnErr result (self.new ≡ self.old) }
     {
-        match place_of(&self.domains, frame.domain()) {
+        match self.place(frame.domain()) {
             Some(place) => deliver_at(&mut self.domains, place, frame),
             None => Err(FrameFault::Stray(frame)),
         }
@@ -193,7 +217,7 @@ impl Tenants {
         ensures stray { aliened self.old number place frame ≡ None → result ≡ Err (FrameFault.Stray frame) }
         ensures err { OnErr result (self.new ≡ self.old) }
     {
-        let at = place_of(&self.domains, number);
+        let at = self.place(number);
         alien_at(rt, &mut self.domains, at, place, frame)
     }
 
@@ -201,7 +225,7 @@ impl Tenants {
     pub fn has_alien(&self, number: DomainId, place: Place, frame: &Frame) -> bool
         ensures { result ≡ is_some (aliened self.now number place frame.now) }
     {
-        let at = place_of(&self.domains, number);
+        let at = self.place(number);
         has_alien(&self.domains, at, place, frame)
     }
 
@@ -209,7 +233,7 @@ impl Tenants {
     pub fn answers_alien(&self, number: DomainId, place: Place, frame: &Frame) -> bool
         ensures { result ≡ answers (aliened self.now number place frame.now) }
     {
-        let at = place_of(&self.domains, number);
+        let at = self.place(number);
         answers_alien(&self.domains, at, place, frame)
     }
 

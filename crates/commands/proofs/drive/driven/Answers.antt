@@ -1,9 +1,12 @@
 use Rattle.std.proofs.Common.{◌≡◌, ◌∙◌, List, ap, subst, sym}
+use Rattle.std.specs.Prelude.{true}
 use Rattle.domain.specs.Domains.{DomainView}
 use Rattle.fabric_core.specs.declared.event.Event.{Event}
-use Rattle.fabric_core.specs.World.{World, world_of}
+use Rattle.fabric_core.specs.TakenOut.{NoneCanTell}
+use Rattle.fabric_core.specs.World.{World, is_guarded, world_of}
 use Rattle.commands.specs.Driving.{Drives}
 use Rattle.commands.specs.Sweeps.{IsSweep}
+use Rattle.commands.proofs.Isolating.{isolated_by}
 use Rattle.commands.proofs.drive.driven.Goals as goal
 
 pub returns-clause-ok : goal.returns-clause-ok
@@ -21,3 +24,8 @@ returns-clause-ok g c =
       },
       written.2,
     )
+
+pub returns-clause-isolated : goal.returns-clause-isolated
+returns-clause-isolated g c =
+    let driven = returns-clause-ok g c in
+    isolated_by c.args.layout.now c.args.lines.now c.drive_all.new.fabric driven.0 driven.1 (subst (λ (w : World). is_guarded w ≡ true → NoneCanTell w) c.in_ok-fabric.ensures.start c.in_ok-fabric.ensures.isolated)

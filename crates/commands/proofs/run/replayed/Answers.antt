@@ -8,6 +8,7 @@ returns-in-Ok g c =
       world = c.in_ok-fabric.fabric;
       refused = refused.0;
       driven = refused.1;
+      isolated = c.in_ok-fabric.ensures.isolated;
       ran = c.in-Some.domain.now;
       there = sym (rw c.domain-number.ensures at c.in-Some.ensures);
       share_is = c.in-Ok.ensures.journal.1;

@@ -16,6 +16,7 @@ returns g c =
         world = c.in_ok-fabric.fabric;
         refused = refused.0;
         driven = rw c.lines.ensures at refused.1;
+        isolated = rw c.lines.ensures at c.in_ok-fabric.ensures.isolated;
         report = written.0;
         reports = written.1;
         all = refl;

@@ -4,6 +4,7 @@ use Rattle.domain.specs.declared.entry.Entry.TheVariants.{Mmio}
 use Rattle.domain.specs.Domains.{DomainView}
 use Rattle.tenants.specs.Tenants.{mmio_refusal_by}
 use Rattle.tenants.proofs.Making.{frame_made}
+use Rattle.tenants.proofs.Indexed.{places_stay, share_kept}
 use Rattle.tenants.proofs.begins.mmio_at.Goals as goal
 
 pub returns-clause-ok : goal.returns-clause-ok
@@ -20,3 +21,8 @@ pub returns-clause-accepted : goal.returns-clause-accepted
 returns-clause-accepted g c =
     let at = slice_get-get_or c.args.domains.now c.args.place c.index-domains-place.result c.requires in
     λ told. c.mmio.ensures.accepted (sym (ap (λ (o : Option DomainView). mmio_refusal_by o c.args.access.now) at) ∙ told)
+
+pub returns-clause-places : goal.returns-clause-places
+returns-clause-places g c =
+    let ds = c.args.domains.now in let i = c.args.place in let read = c.index-domains-place.result in
+    places_stay ds i read c.mmio.new.self (share_kept _ (get_or ds i read) c.mmio.new.self c.mmio.result (λ x m. m.share) c.mmio.ensures.ok c.mmio.ensures.err)

@@ -1,3 +1,4 @@
+use Rattle.fabric_core.proofs.FirstRuns.{untold_new}
 use Rattle.fabric_core.proofs.FirstTurns.{turns_new}
 use Rattle.fabric_core.proofs.Orderly.{guarded_new}
 use Rattle.fabric_core.proofs.Starting.{kept_new}
@@ -12,3 +13,8 @@ invariant_of-result c = record {
       guarded_new c.args.layout.now c.in_ok-new.field-0 c.in_ok-new-2.field-0 c.new-3.result.violations c.new-4.result.items c.ports.ensures.laws c.in_ok-new.ensures.start c.in_ok-new-2.ensures.start c.new-3.ensures c.new-4.ensures.items;
   ordered = λ controls. turns_new c.args.layout.now c.in_ok-new.field-0 c.in_ok-new-2.field-0 c.new-3.result.violations c.new-4.result.items c.in_ok-new.ensures.start c.in_ok-new-2.ensures.start c.new-3.ensures c.new-4.ensures.items _;
 }
+
+pub returns-clause-isolated : goal.returns-clause-isolated
+returns-clause-isolated c =
+    untold_new c.args.layout.now c.in_ok-new.field-0 c.in_ok-new-2.field-0 c.new-3.result.violations c.new-4.result.items c.ports.ensures.laws c.other_domains_can_be_taken_out.ensures c.in_ok-new.ensures.start c.in_ok-new-2.ensures.start c.new-3.ensures
+    c.new-4.ensures.items

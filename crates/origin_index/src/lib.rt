@@ -1,0 +1,9 @@
+//! Where what belongs to a function or a host stands in a list.
+#![tactic(auto)]
+
+mod index;
+
+pub use index::OriginIndex;
+
+#[cfg(test)]
+mod tests;

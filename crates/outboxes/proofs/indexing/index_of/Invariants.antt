@@ -1,0 +1,5 @@
+use Rattle.outboxes.specs.Indexes.{IsIndexOf}
+use Rattle.outboxes.proofs.indexing.index_of.Given as goal
+
+abbrev pub invariant-loop-outbox : goal.invariant-loop-outbox
+invariant-loop-outbox l = IsIndexOf l.index l.boxes

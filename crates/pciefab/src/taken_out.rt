@@ -1,0 +1,192 @@
+//! Runs without the events of other domains: what a domain has of them, beside what it has of the whole run.
+
+use crate::texts::PLATFORM;
+use commands::sweep_events;
+use fab_types::Class::Posted;
+use fab_types::{Bdf, CompareFault, Direction, DomainId, Origin, PortId, Way};
+use fabric_core::{Comparison, Event, Fabric, compare_runs, purge_run};
+use frame_log::PacketBytes;
+use layout::Layout;
+use std::alloc::Global;
+use std::sync::Wait;
+use std::test::Fail;
+
+/// A write of 03:00.0, and three reads of what it wrote: of four bytes, of two, and of none. How many spoofed writes
+/// come after each.
+const PACKETS: [(&str, u32); 4] = [
+    ("400000010300000f0000100011223344", 2000),
+    ("000000010300200f00001000", 1500),
+    ("000000010300210600001000", 1500),
+    ("000000010300220000001000", 0),
+];
+
+/// A write of 06:00.0 in the name of 03:00.0.
+const SPOOFED_WRITE: &str = "400000010300000f00001000deadbeef";
+
+/// A list of events over a layout.
+#[derive(Drop)]
+struct Script {
+    alloc: Global,
+    layout: Layout,
+    events: Vec<Event>,
+}
+
+impl Script {
+    fn new(alloc: Global) -> Option<Script> {
+        Some(Script {
+            alloc,
+            layout: Layout::read(alloc, PLATFORM).ok()?,
+            events: Vec::new(alloc),
+        })
+    }
+
+    fn add(&mut self, event: Event) -> bool {
+        self.events.push(event).is_ok()
+    }
+
+    fn submit(&mut self, function: Bdf, word: &str) -> bool {
+        match hex::decode(self.alloc, word) {
+            Ok(bytes) => self.add(Event::Submit(function, PacketBytes::from_vec(bytes))),
+            Err(_) => false,
+        }
+    }
+
+    /// Each event of the layout once.
+    fn sweep(&mut self) -> Option<()> {
+        let fabric = Fabric::new(self.alloc, &self.layout).ok()?;
+        let events = sweep_events(self.alloc, &self.layout, fabric.domains()).ok()?;
+        for event in events {
+            self.events.push(event).ok()?;
+        }
+        Some(())
+    }
+
+    /// 03:00.0 submits a packet, which and whose answer then arrive.
+    fn ask(&mut self, word: &str) -> bool {
+        let mut is_done = self.submit(Bdf::from_bits(0x0300), word);
+        for _ in 0..8 {
+            is_done &= self.sweep().is_some();
+        }
+        is_done
+    }
+
+    /// 06:00.0 submits a packet in the name of another, which its port stops.
+    fn spoof(&mut self) -> bool {
+        let sender = Bdf::from_bits(0x0600);
+        let up = Direction {
+            lower: sender,
+            way: Way::Up,
+        };
+        self.submit(sender, SPOOFED_WRITE)
+            && self.add(Event::Enter(Origin::Function(sender), Posted))
+            && self.add(Event::Send(up, Posted))
+            && self.add(Event::Take(up))
+            && self.add(Event::Pass(PortId::new(Bdf::from_bits(0x0500)), Posted))
+            && self.add(Event::Credit(up))
+    }
+
+    fn spoof_times(&mut self, times: u32) -> bool {
+        let mut is_done = true;
+        for _ in 0..times {
+            is_done &= self.spoof();
+        }
+        is_done
+    }
+}
+
+/// The packets of 03:00.0 in turn.
+fn quiet(alloc: Global) -> Option<Script> {
+    let mut script = Script::new(alloc)?;
+    for (packet, _) in PACKETS {
+        if !script.ask(packet) {
+            return None;
+        }
+    }
+    Some(script)
+}
+
+/// The same, with 5,000 spoofed writes between them.
+fn loud(alloc: Global) -> Option<Script> {
+    let mut script = Script::new(alloc)?;
+    for (packet, times) in PACKETS {
+        if !script.ask(packet) || !script.spoof_times(times) {
+            return None;
+        }
+    }
+    Some(script)
+}
+
+/// How often a domain began something.
+fn begins(fabric: &Fabric, domain: DomainId) -> Option<u32> {
+    Some(fabric.domain(domain)?.counts().begins)
+}
+
+/// How many entries its journal has, if it is the same in both.
+fn entries(one: &Fabric, other: &Fabric, domain: DomainId) -> Option<usize> {
+    let (one, other) = (one.domain(domain)?, other.domain(domain)?);
+    if one.has_same_journal(other) {
+        Some(one.journal().len())
+    } else {
+        None
+    }
+}
+
+/// Does a comparison of both lists say that the domain's journals are equal? It says nothing where it fails.
+fn are_equal<R: Wait>(
+    rt: &R,
+    alloc: Global,
+    one: &Script,
+    other: &Script,
+    domain: DomainId,
+) -> Option<bool> {
+    match compare_runs(rt, alloc, &one.layout, &one.events, &other.events, domain) {
+        Ok(Comparison::Equal(_, _)) => Some(true),
+        Ok(Comparison::JournalsDiffer(_, _)) => Some(false),
+        Err(_) => None,
+    }
+}
+
+#[test]
+fn five_thousand_spoofed_writes_leave_no_trace_in_the_other_domain(
+    rt: HostRuntime,
+) -> Result<(), Fail> {
+    let alloc = rt.alloc();
+    let quiet = quiet(alloc).ok_or("a list")?;
+    let loud = loud(alloc).ok_or("a longer list")?;
+    let domain = DomainId::new(1).ok_or("a domain")?;
+    let other = DomainId::new(2).ok_or("another domain")?;
+    assert_eq!(rt; are_equal(&rt, alloc, &quiet, &loud, domain), Some(true));
+    assert_eq!(rt; are_equal(&rt, alloc, &quiet, &loud, other), Some(false));
+    match purge_run(&rt, alloc, &loud.layout, &loud.events, domain) {
+        Ok((whole, left)) => {
+            // Four begins, three answers, and what ends each of the seven packets.
+            assert_eq!(rt; entries(&whole, &left, domain), Some(11));
+            assert_eq!(rt; begins(&whole, other), Some(5000));
+            assert_eq!(rt; begins(&left, other), Some(0));
+            assert_eq!(rt; whole.violations().len(), 5000);
+            assert_eq!(rt; left.violations().len(), 0);
+        }
+        Err(_) => return Err(Fail::from("two fabrics")),
+    }
+    Ok(())
+}
+
+#[test]
+fn a_domain_that_owns_no_port_is_refused(rt: HostRuntime) -> Result<(), Fail> {
+    let script = Script::new(rt.alloc()).ok_or("a layout")?;
+    let nobody = DomainId::new(3).ok_or("a domain")?;
+    let (layout, events) = (&script.layout, &script.events);
+    assert!(rt;
+        matches!(
+            compare_runs(&rt, rt.alloc(), layout, events, events, nobody),
+            Err(CompareFault::NoDomain)
+        )
+    );
+    assert!(rt;
+        matches!(
+            purge_run(&rt, rt.alloc(), layout, events, nobody),
+            Err(CompareFault::NoDomain)
+        )
+    );
+    Ok(())
+}
