@@ -69,7 +69,7 @@ impl Outboxes {
     pub fn home(&self, origin: Origin, class: Class) -> Option<DomainId>
         ensures { result ≡ option_map (λ taken. taken.0.domain) (eligible class (waiting_of self.now origin)) }
     {
-        let place = box_place(&self.boxes, origin)?;
+        let place = self.place(origin)?;
         self.boxes[place].home(class)
     }
 
