@@ -4,7 +4,7 @@ ghost use Rattle.std.specs.Prelude.{◌≡◌, ℕ, None, Some, slice_index_or};
 ghost use Rattle.fab_types.specs.declared.place.Origin.{Origin};
 ghost use Rattle.origin_index.specs.Indexes.{IsNoted, entry_for, noted_place};
 
-use fab_types::{Bdf, DomainId, Origin};
+use fab_types::{Bdf, Origin};
 
 /// A place, and the function that it was noted for.
 #[derive(Clone, Copy)]

@@ -4,9 +4,8 @@ use Rattle.std.specs.List.{find, position, position_or_len}
 use Rattle.std.specs.Option.{unwrap_or}
 use Rattle.std.proofs.lemmas.Bool.{cases_lt}
 use Rattle.std.proofs.lemmas.List.{length-drop, take_rest}
-use Rattle.std.proofs.lemmas.List.FromFn.{get_or-map-range_with_len}
-use Rattle.fab_types.specs.Id.{bus_of}
-use Rattle.topology.specs.BusIndexes.{first_on, firsts_of}
+use Rattle.std.proofs.lemmas.List.FromFn.{get_or-map-range_with_len, length-map-range_with_len}
+use Rattle.topology.specs.FirstIndexes.{first_on, firsts_of}
 
 -- the first that passes, or the end
 pub first_within : {X : Type 0} (p : X → Bool) (xs : List X) → position_or_len p xs ≤ length xs
@@ -79,32 +78,36 @@ module _ {X : Type 0} (p q : X → Bool) (implies : (x : X) → p x ≡ true →
       ∙ number_after start n (length xs) (first_within q xs)
       ∙ ap (λ (k : ℕ). option_map (λ i. start + i) (cond {A = Option ℕ} (nat_lt n k) (Some n) None)) (sym (length-drop start xs))
 
--- ---- by the bus of an ID
+-- ---- by a key
 
-pub first_on_is : (buses : List ℕ) (bus : ℕ) → unwrap_or (position (λ other. other == bus) buses) (length buses) ≡ first_on buses bus
-first_on_is buses bus = first_or_end (λ other. other == bus) buses
+pub first_on_is : (keys : List ℕ) (key : ℕ) → unwrap_or (position (λ other. other == key) keys) (length keys) ≡ first_on keys key
+first_on_is keys key = first_or_end (λ other. other == key) keys
 
--- what the index of a list has for a bus
-pub indexed : {X : Type 0} (bus_in : X → ℕ) (xs : List X) (bus : ℕ) → bus < 256 → get_or (firsts_of (map bus_in xs)) bus 0 ≡ position_or_len (λ x. bus_in x == bus) xs
-indexed bus_in xs bus in_range = get_or-map-range_with_len (first_on (map bus_in xs)) 0 256 bus bus 0 in_range (omega arith) ∙ first_mapped bus_in (λ other. other == bus) xs
+-- an index has a place for each key
+pub many_firsts : (count : ℕ) (keys : List ℕ) → length (firsts_of count keys) ≡ count
+many_firsts count keys = length-map-range_with_len (first_on keys) 0 count
 
-same_bus : (one other : ℕ) → (one == other) ≡ true → (bus_of one == bus_of other) ≡ true
-same_bus one other h = eq-eqb _ _ (ap bus_of (eqb-true one other h))
+-- what the index of a list has for a key
+pub indexed : {X : Type 0} (key_in : X → ℕ) (xs : List X) (count key : ℕ) → key < count → get_or (firsts_of count (map key_in xs)) key 0 ≡ position_or_len (λ x. key_in x == key) xs
+indexed key_in xs count key in_range = get_or-map-range_with_len (first_on (map key_in xs)) 0 count key key 0 in_range (omega arith) ∙ first_mapped key_in (λ other. other == key) xs
 
--- from the first element on the bus of an ID on, the ID is found as in the whole list
-module _ {X : Type 0} (id_of : X → ℕ) (xs : List X) (id start bus : ℕ) (bus_is : bus ≡ bus_of id) (starts : start ≡ position_or_len (λ x. bus_of (id_of x) == bus) xs) where
-  starts_at : start ≡ position_or_len (λ x. bus_of (id_of x) == bus_of id) xs
-  starts_at = starts ∙ ap (λ (b : ℕ). position_or_len (λ x. bus_of (id_of x) == b) xs) bus_is
+-- from the first element that has the key of an ID on, the ID is found as in the whole list
+module _ {X : Type 0} (key_of : ℕ → ℕ) (id_of : X → ℕ) (xs : List X) (id start key : ℕ) (key_is : key ≡ key_of id) (starts : start ≡ position_or_len (λ x. key_of (id_of x) == key) xs) where
+  same_key : (one other : ℕ) → (one == other) ≡ true → (key_of one == key_of other) ≡ true
+  same_key one other h = eq-eqb _ _ (ap key_of (eqb-true one other h))
 
-  after : (ys : List X) → ys ≡ xs → take (length ys - start) (drop start ys) ≡ drop (position_or_len (λ x. bus_of (id_of x) == bus_of id) xs) xs
+  starts_at : start ≡ position_or_len (λ x. key_of (id_of x) == key_of id) xs
+  starts_at = starts ∙ ap (λ (b : ℕ). position_or_len (λ x. key_of (id_of x) == b) xs) key_is
+
+  after : (ys : List X) → ys ≡ xs → take (length ys - start) (drop start ys) ≡ drop (position_or_len (λ x. key_of (id_of x) == key_of id) xs) xs
   after ys same = ap (λ (zs : List X). take (length zs - start) (drop start zs)) same ∙ take_rest xs start ∙ ap (λ (n : ℕ). drop n xs) starts_at
 
-  pub found_on_bus : (ys : List X) → ys ≡ xs → find (λ x. id_of x == id) (take (length ys - start) (drop start ys)) ≡ find (λ x. id_of x == id) xs
-  found_on_bus ys same = ap (find (λ x. id_of x == id)) (after ys same)
-      ∙ found_from (λ x. id_of x == id) (λ x. bus_of (id_of x) == bus_of id) (λ x h. same_bus (id_of x) id h) xs
+  pub found_from_key : (ys : List X) → ys ≡ xs → find (λ x. id_of x == id) (take (length ys - start) (drop start ys)) ≡ find (λ x. id_of x == id) xs
+  found_from_key ys same = ap (find (λ x. id_of x == id)) (after ys same)
+      ∙ found_from (λ x. id_of x == id) (λ x. key_of (id_of x) == key_of id) (λ x h. same_key (id_of x) id h) xs
 
-  pub numbered_on_bus : (ys : List X) (found : Option ℕ) → ys ≡ xs → found ≡ position (λ x. id_of x == id) (take (length ys - start) (drop start ys)) → option_map (λ k. start + k) found ≡ position (λ x. id_of x == id) xs
-  numbered_on_bus ys found same e =
+  pub numbered_from_key : (ys : List X) (found : Option ℕ) → ys ≡ xs → found ≡ position (λ x. id_of x == id) (take (length ys - start) (drop start ys)) → option_map (λ k. start + k) found ≡ position (λ x. id_of x == id) xs
+  numbered_from_key ys found same e =
       ap (option_map (λ k. start + k)) (e ∙ ap (position (λ x. id_of x == id)) (after ys same))
-      ∙ ap (λ (n : ℕ). option_map (λ k. n + k) (position (λ x. id_of x == id) (drop (position_or_len (λ x. bus_of (id_of x) == bus_of id) xs) xs))) starts_at
-      ∙ sym (position_from (λ x. id_of x == id) (λ x. bus_of (id_of x) == bus_of id) (λ x h. same_bus (id_of x) id h) xs)
+      ∙ ap (λ (n : ℕ). option_map (λ k. n + k) (position (λ x. id_of x == id) (drop (position_or_len (λ x. key_of (id_of x) == key_of id) xs) xs))) starts_at
+      ∙ sym (position_from (λ x. id_of x == id) (λ x. key_of (id_of x) == key_of id) (λ x h. same_key (id_of x) id h) xs)

@@ -1,6 +1,6 @@
 pub mod Nodes
 pub mod Links
 pub mod Places
-pub mod BusIndexes
+pub mod FirstIndexes
 pub mod Topologies
 pub mod WellPlaced

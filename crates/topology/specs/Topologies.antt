@@ -5,7 +5,7 @@ use Rattle.topology.specs.declared.links.Link.{Link}
 use Rattle.topology.specs.declared.nodes.LinkEnd.{LinkEnd}
 use Rattle.topology.specs.declared.places.PortPlace.{PortPlace}
 use Rattle.topology.specs.declared.topology.Topology.TheInside.{Inside}
-use Rattle.topology.specs.BusIndexes.{firsts_of, link_buses, place_buses}
+use Rattle.topology.specs.FirstIndexes.{firsts_of, link_buses, place_slots}
 use Rattle.topology.specs.Links.{links_of}
 use Rattle.topology.specs.Nodes.{lanes_of}
 use Rattle.topology.specs.Places.{places_of}
@@ -46,5 +46,5 @@ pub record IsSound (t : Tree) : Type 0 where
 -- its fields: the indexes are those of its lists
 pub record IsIndexed (t : Inside) : Type 0 where
   pub sound : IsSound (view_of t)
-  pub links : t.links_by_bus ≡ firsts_of (link_buses t.links.items)
-  pub places : t.places_by_bus ≡ firsts_of (place_buses t.places.items)
+  pub links : t.links_by_bus ≡ firsts_of 256 (link_buses t.links.items)
+  pub places : t.places_by_slot ≡ firsts_of 8192 (place_slots t.places.items)

@@ -1,7 +1,7 @@
 //! Where links and the ports of switches stand in the tree of a layout.
 #![tactic(auto)]
 
-mod bus_index;
+mod first_index;
 mod laws;
 mod links;
 mod nodes;

@@ -4,13 +4,13 @@ ghost use Rattle.std.specs.Prelude.{◌≡◌, ◌==◌, ◌<◌, ◌≤◌, IfO
 ghost use Rattle.std.specs.List.{position, position_or_len};
 ghost use Rattle.std.specs.Option.{option_copied};
 ghost use Rattle.fab_types.specs.Id.{bus_of};
-ghost use Rattle.topology.specs.BusIndexes.{firsts_of, link_buses, place_buses};
+ghost use Rattle.topology.specs.FirstIndexes.{firsts_of, link_buses, place_slots, slot_of};
 ghost use Rattle.topology.specs.Nodes.{lanes_of};
 ghost use Rattle.topology.specs.Links.{link_at, sender_of};
 ghost use Rattle.topology.specs.Places.{place_at};
 ghost use Rattle.topology.specs.Topologies.{IsSound, tree_of};
 
-use crate::bus_index::BusIndex;
+use crate::first_index::FirstIndex;
 use crate::links::{Link, links_of};
 use crate::nodes::{LinkEnd, lanes_of_switch};
 use crate::places::{PortPlace, places_of};
@@ -26,8 +26,8 @@ pub struct Topology {
     lanes: Vec<usize>,
     links: Vec<Link>,
     places: Vec<PortPlace>,
-    links_by_bus: BusIndex,
-    places_by_bus: BusIndex,
+    links_by_bus: FirstIndex,
+    places_by_slot: FirstIndex,
 }
 
 impl Model for Topology {
@@ -55,33 +55,46 @@ fn lanes_of(alloc: Global, layout: &Layout) -> Result<Vec<usize>, NoMemory>
     )
 }
 
-fn buses_of_links(alloc: Global, links: &[Link]) -> Result<Vec<u8>, NoMemory>
+fn buses_of_links(alloc: Global, links: &[Link]) -> Result<Vec<u16>, NoMemory>
     ensures { IfOk result (λ buses. buses.items ≡ link_buses links.now) }
 {
-    Ok(links.iter().map(|link| link.lower.bus()).collect(alloc)?)
-}
-
-fn buses_of_places(alloc: Global, places: &[PortPlace]) -> Result<Vec<u8>, NoMemory>
-    ensures { IfOk result (λ buses. buses.items ≡ place_buses places.now) }
-{
     Ok(
-        places
+        links
             .iter()
-            .map(|place| place.id.id().bus())
+            .map(|link| u16::from(link.lower.bus()))
             .collect(alloc)?,
     )
 }
 
-fn index_links(alloc: Global, links: &[Link]) -> Result<BusIndex, NoMemory>
-    ensures { IfOk result (λ index. index ≡ firsts_of (link_buses links.now)) }
+/// Bus and device of an ID, as one number.
+fn slot_of(id: Bdf) -> u16
+    ensures value { result ≡ slot_of id }
+    ensures small { result < 8192 }
 {
-    BusIndex::new(alloc, &buses_of_links(alloc, links)?)
+    id.bits() / 8
 }
 
-fn index_places(alloc: Global, places: &[PortPlace]) -> Result<BusIndex, NoMemory>
-    ensures { IfOk result (λ index. index ≡ firsts_of (place_buses places.now)) }
+fn slots_of_places(alloc: Global, places: &[PortPlace]) -> Result<Vec<u16>, NoMemory>
+    ensures { IfOk result (λ slots. slots.items ≡ place_slots places.now) }
 {
-    BusIndex::new(alloc, &buses_of_places(alloc, places)?)
+    Ok(
+        places
+            .iter()
+            .map(|place| slot_of(place.id.id()))
+            .collect(alloc)?,
+    )
+}
+
+fn index_links(alloc: Global, links: &[Link]) -> Result<FirstIndex, NoMemory>
+    ensures { IfOk result (λ index. index ≡ firsts_of 256 (link_buses links.now)) }
+{
+    FirstIndex::new(alloc, 256, &buses_of_links(alloc, links)?)
+}
+
+fn index_places(alloc: Global, places: &[PortPlace]) -> Result<FirstIndex, NoMemory>
+    ensures { IfOk result (λ index. index ≡ firsts_of 8192 (place_slots places.now)) }
+{
+    FirstIndex::new(alloc, 8192, &slots_of_places(alloc, places)?)
 }
 
 fn find_link(links: &[Link], lower: Bdf) -> Option<&Link>
@@ -115,7 +128,7 @@ impl Topology {
         Ok(Topology {
             lanes: lanes_of(alloc, layout)?,
             links_by_bus: index_links(alloc, &links)?,
-            places_by_bus: index_places(alloc, &places)?,
+            places_by_slot: index_places(alloc, &places)?,
             links,
             places,
         })
@@ -149,15 +162,15 @@ impl Topology {
         ensures value { result ≡ position_or_len (λ link. bus_of link.lower == bus) self.now.links }
         ensures within { result ≤ length self.now.links }
     {
-        self.links_by_bus.first(bus)
+        self.links_by_bus.first(u16::from(bus))
     }
 
-    /// The number of the first port on a bus, or how many ports there are.
-    fn first_place_on(&self, bus: u8) -> usize
-        ensures value { result ≡ position_or_len (λ place. bus_of place.id == bus) self.now.places }
+    /// The number of the first port that has bus and device of this ID, or how many ports there are.
+    fn first_place_in(&self, id: Bdf) -> usize
+        ensures value { result ≡ position_or_len (λ place. slot_of place.id == slot_of id) self.now.places }
         ensures within { result ≤ length self.now.places }
     {
-        self.places_by_bus.first(bus)
+        self.places_by_slot.first(slot_of(id))
     }
 
     /// The link of which this ID is the lower end, if it is a function or an upstream port.
@@ -179,7 +192,7 @@ impl Topology {
     pub fn place(&self, id: PortId) -> Option<PortPlace>
         ensures { result ≡ place_at self.now.places id }
     {
-        let start = self.first_place_on(id.id().bus());
+        let start = self.first_place_in(id.id());
         find_place(&self.places[start..], id).copied()
     }
 
@@ -188,7 +201,7 @@ impl Topology {
         ensures value { result ≡ position (λ place. place.id == id) self.now.places }
         ensures within { IfSome result (λ i. i < length self.now.places) }
     {
-        let start = self.first_place_on(id.id().bus());
+        let start = self.first_place_in(id.id());
         let further = find_number(&self.places[start..], id)?;
         Some(start + further)
     }
