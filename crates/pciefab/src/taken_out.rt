@@ -23,6 +23,46 @@ const PACKETS: [(&str, u32); 4] = [
 /// A write of 06:00.0 in the name of 03:00.0.
 const SPOOFED_WRITE: &str = "400000010300000f00001000deadbeef";
 
+/// How a posted packet of 06:00.0 goes to its port, and its credits come back.
+#[derive(Clone, Copy)]
+enum Step {
+    Enter,
+    Send,
+    Take,
+    Pass,
+    Credit,
+}
+
+const TO_THE_PORT: [Step; 5] = [
+    Step::Enter,
+    Step::Send,
+    Step::Take,
+    Step::Pass,
+    Step::Credit,
+];
+
+const SENDER: u16 = 0x0600;
+
+/// The port above it.
+const PORT: u16 = 0x0500;
+
+impl Step {
+    fn event(self) -> Event {
+        let sender = Bdf::from_bits(SENDER);
+        let up = Direction {
+            lower: sender,
+            way: Way::Up,
+        };
+        match self {
+            Step::Enter => Event::Enter(Origin::Function(sender), Posted),
+            Step::Send => Event::Send(up, Posted),
+            Step::Take => Event::Take(up),
+            Step::Pass => Event::Pass(PortId::new(Bdf::from_bits(PORT)), Posted),
+            Step::Credit => Event::Credit(up),
+        }
+    }
+}
+
 /// A list of events over a layout.
 #[derive(Drop)]
 struct Script {
@@ -40,15 +80,13 @@ impl Script {
         })
     }
 
-    fn add(&mut self, event: Event) -> bool {
-        self.events.push(event).is_ok()
+    fn add(&mut self, event: Event) -> Option<()> {
+        self.events.push(event).ok()
     }
 
-    fn submit(&mut self, function: Bdf, word: &str) -> bool {
-        match hex::decode(self.alloc, word) {
-            Ok(bytes) => self.add(Event::Submit(function, PacketBytes::from_vec(bytes))),
-            Err(_) => false,
-        }
+    fn submit(&mut self, function: Bdf, word: &str) -> Option<()> {
+        let bytes = hex::decode(self.alloc, word).ok()?;
+        self.add(Event::Submit(function, PacketBytes::from_vec(bytes)))
     }
 
     /// Each event of the layout once.
@@ -62,35 +100,21 @@ impl Script {
     }
 
     /// 03:00.0 submits a packet, which and whose answer then arrive.
-    fn ask(&mut self, word: &str) -> bool {
-        let mut is_done = self.submit(Bdf::from_bits(0x0300), word);
+    fn ask(&mut self, word: &str) -> Option<()> {
+        self.submit(Bdf::from_bits(0x0300), word)?;
         for _ in 0..8 {
-            is_done &= self.sweep().is_some();
+            self.sweep()?;
         }
-        is_done
+        Some(())
     }
 
     /// 06:00.0 submits a packet in the name of another, which its port stops.
-    fn spoof(&mut self) -> bool {
-        let sender = Bdf::from_bits(0x0600);
-        let up = Direction {
-            lower: sender,
-            way: Way::Up,
-        };
-        self.submit(sender, SPOOFED_WRITE)
-            && self.add(Event::Enter(Origin::Function(sender), Posted))
-            && self.add(Event::Send(up, Posted))
-            && self.add(Event::Take(up))
-            && self.add(Event::Pass(PortId::new(Bdf::from_bits(0x0500)), Posted))
-            && self.add(Event::Credit(up))
-    }
-
-    fn spoof_times(&mut self, times: u32) -> bool {
-        let mut is_done = true;
-        for _ in 0..times {
-            is_done &= self.spoof();
+    fn spoof(&mut self) -> Option<()> {
+        self.submit(Bdf::from_bits(SENDER), SPOOFED_WRITE)?;
+        for step in TO_THE_PORT {
+            self.add(step.event())?;
         }
-        is_done
+        Some(())
     }
 }
 
@@ -98,9 +122,7 @@ impl Script {
 fn quiet(alloc: Global) -> Option<Script> {
     let mut script = Script::new(alloc)?;
     for (packet, _) in PACKETS {
-        if !script.ask(packet) {
-            return None;
-        }
+        script.ask(packet)?;
     }
     Some(script)
 }
@@ -109,8 +131,9 @@ fn quiet(alloc: Global) -> Option<Script> {
 fn loud(alloc: Global) -> Option<Script> {
     let mut script = Script::new(alloc)?;
     for (packet, times) in PACKETS {
-        if !script.ask(packet) || !script.spoof_times(times) {
-            return None;
+        script.ask(packet)?;
+        for _ in 0..times {
+            script.spoof()?;
         }
     }
     Some(script)
