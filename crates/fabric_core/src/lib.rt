@@ -30,6 +30,8 @@ pub use purge::purge_run;
 #[cfg(test)]
 mod checkers;
 #[cfg(test)]
+mod rows;
+#[cfg(test)]
 mod tests;
 #[cfg(test)]
 mod walks;

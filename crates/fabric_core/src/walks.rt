@@ -39,11 +39,15 @@ const ADDRESSES: [u8; 3] = [0x10, 0x20, 0x50];
 
 /// Numbers that look random and are the same in every run: a linear congruence modulo 2^64.
 #[derive(Drop)]
-struct Dice {
+pub(crate) struct Dice {
     state: u64,
 }
 
 impl Dice {
+    pub(crate) fn new(seed: u64) -> Dice {
+        Dice { state: seed }
+    }
+
     /// One of these.
     fn pick<T: Copy>(&mut self, items: &[T]) -> Result<T, Fail> {
         let product = self.state.wrapping_mul(6_364_136_223_846_793_005);
@@ -248,13 +252,13 @@ fn numbers_of(alloc: Global, frames: &[Frame], domain: DomainId) -> Result<Vec<u
 
 /// A fabric, and what its two domains made.
 #[derive(Drop)]
-struct Walk {
+pub(crate) struct Walk {
     fabric: Fabric,
     notes: Vec<Notes>,
 }
 
 impl Walk {
-    fn new(alloc: Global) -> Result<Walk, Fail> {
+    pub(crate) fn new(alloc: Global) -> Result<Walk, Fail> {
         let layout = Layout::read(alloc, PLATFORM).map_err(|_| "a layout")?;
         let mut notes = Vec::new(alloc);
         for number in [1, 2] {
@@ -281,6 +285,12 @@ impl Walk {
         Ok(())
     }
 
+    /// Makes an event, whatever comes of it.
+    pub(crate) fn make<R: Wait>(&mut self, rt: &R, event: &Event) -> Result<(), Fail> {
+        let _ = self.fabric.step(rt, event);
+        self.note()
+    }
+
     /// Makes so many events.
     fn go<R: Wait>(
         &mut self,
@@ -291,14 +301,27 @@ impl Walk {
     ) -> Result<(), Fail> {
         for _ in 0..events {
             let event = dice.next_event(alloc)?;
-            let _ = self.fabric.step(rt, &event);
-            self.note()?;
+            self.make(rt, &event)?;
+        }
+        Ok(())
+    }
+
+    /// Makes so many events that begin nothing.
+    pub(crate) fn wander<R: Wait>(
+        &mut self,
+        rt: &R,
+        dice: &mut Dice,
+        events: u32,
+    ) -> Result<(), Fail> {
+        for _ in 0..events {
+            let event = dice.next_move()?.event();
+            self.make(rt, &event)?;
         }
         Ok(())
     }
 
     /// Does the order law hold of each domain?
-    fn is_in_order(&self, alloc: Global) -> Result<bool, Fail> {
+    pub(crate) fn is_in_order(&self, alloc: Global) -> Result<bool, Fail> {
         for notes in &self.notes {
             let Some(domain) = self.fabric.domain(notes.domain) else {
                 return Ok(false);
@@ -313,6 +336,11 @@ impl Walk {
 
     fn has_pairs(&self) -> bool {
         self.notes.iter().all(|notes| has_pairs(&notes.packets))
+    }
+
+    /// Does the place law hold of each domain? It takes the fabric apart.
+    pub(crate) fn is_placed(self, alloc: Global) -> Result<bool, Fail> {
+        is_placed(alloc, self)
     }
 }
 
@@ -378,7 +406,6 @@ fn add_of_functions(frames: &mut Vec<Frame>, edge: &mut Edge) -> Result<(), Fail
     Ok(())
 }
 
-/// Does the place law hold of each domain? It takes the fabric apart.
 fn is_placed(alloc: Global, walk: Walk) -> Result<bool, Fail> {
     let Walk { fabric, notes } = walk;
     let Fabric {
@@ -415,11 +442,11 @@ fn are_placed(alloc: Global, edge: &Edge, notes: &[Notes], frames: &[Frame]) -> 
 fn walks_leave_packets_in_order_and_each_in_one_place(rt: HostRuntime) -> Result<(), Fail> {
     for seed in 0..12_u64 {
         let mut walk = Walk::new(rt.alloc())?;
-        let mut dice = Dice { state: seed };
+        let mut dice = Dice::new(seed);
         walk.go(&rt, rt.alloc(), &mut dice, 2_500)?;
         assert!(rt; walk.has_pairs(), "{seed}");
         assert!(rt; walk.is_in_order(rt.alloc())?, "{seed}");
-        assert!(rt; is_placed(rt.alloc(), walk)?, "{seed}");
+        assert!(rt; walk.is_placed(rt.alloc())?, "{seed}");
     }
     Ok(())
 }
