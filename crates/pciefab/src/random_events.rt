@@ -24,7 +24,7 @@ struct Scene<'a> {
 }
 
 fn id_of(function: Function) -> Bdf {
-    Bdf::new(function.bus as u8, 0, 0).unwrap_or(Bdf::from_bits(0))
+    Bdf::new((function.bus % 256) as u8, 0, 0).unwrap_or(Bdf::from_bits(0))
 }
 
 /// The bytes of a word in hexadecimal, which is `-` where there are none.
@@ -71,10 +71,10 @@ impl Scene<'_> {
                 )
             }
         };
-        let domain = DomainId::new(function.owner as u8).ok_or("a domain")?;
+        let domain = DomainId::new((function.owner % 256) as u8).ok_or("a domain")?;
         let access = HostAccess {
             function: id_of(function),
-            offset: offset as u16,
+            offset: (offset % 4096) as u16,
             operation,
         };
         self.events.push(Event::Mmio(domain, access))?;
