@@ -4,7 +4,7 @@
 use crate::random::{Dice, Function, NOBODY, OFFSETS, packet_word, program_line, random_plan};
 use commands::sweep_events;
 use domain::{Domain, HostAccess, Operation};
-use fab_types::{Bdf, DomainId, Violation};
+use fab_types::{Bdf, CompareFault, DomainId, Violation};
 use fabric_core::{Event, Fabric, purge_run};
 use frame_log::PacketBytes;
 use layout::Layout;
@@ -214,11 +214,17 @@ fn begins(fabric: &Fabric) -> u64 {
     begins
 }
 
+fn both_runs<R: Wait>(
+    rt: &R,
+    scene: &Scene<'_>,
+    number: DomainId,
+) -> Result<(Fabric, Fabric), CompareFault> {
+    purge_run(rt, scene.alloc, &scene.layout, &scene.events, number)
+}
+
 /// Runs the list with and without the events of others than this domain. None where it is not the same.
 fn purged<R: Wait>(rt: &R, scene: &Scene<'_>, number: DomainId) -> Result<Option<Tally>, Fail> {
-    let (whole, left) = purge_run(rt, scene.alloc, &scene.layout, &scene.events, number).map_err(
-        |_| "two fabrics",
-    )?;
+    let (whole, left) = both_runs(rt, scene, number).map_err(|_| "two fabrics")?;
     if !has_same(scene.alloc, &whole, &left, number)? {
         return Ok(None);
     }

@@ -154,19 +154,46 @@ fn entries(one: &Fabric, other: &Fabric, domain: DomainId) -> Option<usize> {
     }
 }
 
-/// Does a comparison of both lists say that the domain's journals are equal? It says nothing where it fails.
-fn are_equal<R: Wait>(
+fn compared<R: Wait>(
     rt: &R,
-    alloc: Global,
     one: &Script,
     other: &Script,
     domain: DomainId,
-) -> Option<bool> {
-    match compare_runs(rt, alloc, &one.layout, &one.events, &other.events, domain) {
-        Ok(Comparison::Equal(_, _)) => Some(true),
-        Ok(Comparison::JournalsDiffer(_, _)) => Some(false),
-        Err(_) => None,
-    }
+) -> Result<Comparison, CompareFault> {
+    compare_runs(
+        rt,
+        one.alloc,
+        &one.layout,
+        &one.events,
+        &other.events,
+        domain,
+    )
+}
+
+fn purged<R: Wait>(
+    rt: &R,
+    script: &Script,
+    domain: DomainId,
+) -> Result<(Fabric, Fabric), CompareFault> {
+    purge_run(rt, script.alloc, &script.layout, &script.events, domain)
+}
+
+fn is_equal(comparison: &Comparison) -> bool {
+    matches!(comparison, Comparison::Equal(_, _))
+}
+
+/// Does a comparison of both lists say that the domain's journals are equal? It says nothing where it fails.
+fn are_equal<R: Wait>(rt: &R, one: &Script, other: &Script, domain: DomainId) -> Option<bool> {
+    Some(is_equal(&compared(rt, one, other, domain).ok()?))
+}
+
+/// What 5,000 writes of the other domain leave in the whole run, and in what is left of it.
+fn leaves_no_trace(whole: &Fabric, left: &Fabric, domain: DomainId, other: DomainId) -> bool {
+    // Four begins, three answers, and what ends each of the seven packets.
+    let journals = entries(whole, left, domain) == Some(11);
+    let begun = begins(whole, other) == Some(5000) && begins(left, other) == Some(0);
+    let told = whole.violations().len() == 5000 && left.violations().is_empty();
+    journals && begun && told
 }
 
 #[test]
@@ -178,19 +205,10 @@ fn five_thousand_spoofed_writes_leave_no_trace_in_the_other_domain(
     let loud = loud(alloc).ok_or("a longer list")?;
     let domain = DomainId::new(1).ok_or("a domain")?;
     let other = DomainId::new(2).ok_or("another domain")?;
-    assert_eq!(rt; are_equal(&rt, alloc, &quiet, &loud, domain), Some(true));
-    assert_eq!(rt; are_equal(&rt, alloc, &quiet, &loud, other), Some(false));
-    match purge_run(&rt, alloc, &loud.layout, &loud.events, domain) {
-        Ok((whole, left)) => {
-            // Four begins, three answers, and what ends each of the seven packets.
-            assert_eq!(rt; entries(&whole, &left, domain), Some(11));
-            assert_eq!(rt; begins(&whole, other), Some(5000));
-            assert_eq!(rt; begins(&left, other), Some(0));
-            assert_eq!(rt; whole.violations().len(), 5000);
-            assert_eq!(rt; left.violations().len(), 0);
-        }
-        Err(_) => return Err(Fail::from("two fabrics")),
-    }
+    assert_eq!(rt; are_equal(&rt, &quiet, &loud, domain), Some(true));
+    assert_eq!(rt; are_equal(&rt, &quiet, &loud, other), Some(false));
+    let (whole, left) = purged(&rt, &loud, domain).map_err(|_| "two fabrics")?;
+    assert!(rt; leaves_no_trace(&whole, &left, domain, other));
     Ok(())
 }
 
@@ -198,18 +216,12 @@ fn five_thousand_spoofed_writes_leave_no_trace_in_the_other_domain(
 fn a_domain_that_owns_no_port_is_refused(rt: HostRuntime) -> Result<(), Fail> {
     let script = Script::new(rt.alloc()).ok_or("a layout")?;
     let nobody = DomainId::new(3).ok_or("a domain")?;
-    let (layout, events) = (&script.layout, &script.events);
     assert!(rt;
         matches!(
-            compare_runs(&rt, rt.alloc(), layout, events, events, nobody),
+            compared(&rt, &script, &script, nobody),
             Err(CompareFault::NoDomain)
         )
     );
-    assert!(rt;
-        matches!(
-            purge_run(&rt, rt.alloc(), layout, events, nobody),
-            Err(CompareFault::NoDomain)
-        )
-    );
+    assert!(rt; matches!(purged(&rt, &script, nobody), Err(CompareFault::NoDomain)));
     Ok(())
 }
