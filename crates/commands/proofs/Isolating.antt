@@ -82,5 +82,5 @@ isolated_by platform lines w text driven none =
       made = all.1;
       outcomes = all.2.0;
       run = all.2.1;
-      isolated = λ guarded domain. none guarded all.0 all.2.0 w all.2.1 domain;
+      isolated = λ guarded domain. (none guarded).taken_out all.0 all.2.0 w all.2.1 domain;
     }

@@ -83,8 +83,8 @@ CanBeLeft d start events outcomes =
     (outcomes' : List Outcome) × (second : World) × Run start (events_left d start events outcomes) outcomes' second × All HasMemory outcomes'
 
 -- no domain can tell, of any run from here
-abbrev pub NoneCanTell : World → Type 0
-NoneCanTell start = (events : List Event) (outcomes : List Outcome) (first : World) → Run start events outcomes first → (d : ℕ) → CannotTell d start events outcomes first
+pub record NoneCanTell (start : World) : Type 0 where
+  pub taken_out : (events : List Event) (outcomes : List Outcome) (first : World) → Run start events outcomes first → (d : ℕ) → CannotTell d start events outcomes first
 
 -- a run of a list, and a run of what is left of it; in a guarded fabric the domain has the same of both
 pub record AreBothRuns (d : ℕ) (start : World) (events : List Event) (first second : World) : Type 0 where
