@@ -127,7 +127,7 @@ fn random_scene<'a>(
         moves,
         events: Vec::new(alloc),
     };
-    for _ in 0..60 {
+    for _ in 0..150 {
         if dice.is_once_in(4) {
             scene.add_begin(dice)?;
         }
@@ -253,6 +253,6 @@ fn a_domain_has_the_same_without_the_events_of_others(rt: HostRuntime) -> Result
             all.begins = all.begins.wrapping_add(tally.begins);
         }
     }
-    assert!(rt; all.entries > 1000 && all.begins > 800);
+    assert!(rt; all.entries > 4000 && all.begins > 2000);
     Ok(())
 }
