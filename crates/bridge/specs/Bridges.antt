@@ -5,6 +5,7 @@ use Rattle.layout.specs.declared.lines.PortLine.{PortLine}
 use Rattle.layout.specs.declared.lines.SwitchLine.{SwitchLine}
 use Rattle.layout.specs.Laws.{each_pair, are_apart, is_nested}
 use Rattle.layout.specs.Platform.{Platform}
+use Rattle.layout.specs.Share.{is_guarded_port}
 use Rattle.bridge.specs.declared.routing.Bridge.TheInside.{Inside}
 use Rattle.bridge.specs.Groups.{groups_of}
 
@@ -19,9 +20,10 @@ of_platform platform = record { switches = platform.switches; ports = platform.p
 abbrev pub tree_of : Inside → Tree
 tree_of s = record { switches = s.lines.items; ports = s.ports.items }
 
--- neither the buses nor the windows of two ports of one switch meet; each port is one of a switch; and each switch has
--- its ports by it
+-- neither the buses nor the windows of two ports of one switch meet; each port is one of a switch; each switch has
+-- its ports by it; and what is said of the controls is so
 pub record IsKept (s : Inside) : Type 0 where
   pub apart : each_pair are_apart s.ports.items ≡ true
   pub nested : list_all (is_nested s.lines.items s.ports.items) s.ports.items ≡ true
   pub groups : s.switches.items ≡ groups_of s.lines.items s.ports.items
+  pub guarded : s.is_guarded ≡ list_all is_guarded_port s.ports.items

@@ -1,10 +1,12 @@
 //! The switches of a platform, and where their ports send packets.
 
 ghost use Rattle.std.specs.Prelude.{◌≡◌, ◌==◌, ℕ, ◌≤◌, count_by, All, true, Some, IfOk};
+ghost use Rattle.std.specs.List.{list_all};
 ghost use Rattle.std.specs.Option.{option_copied};
 ghost use Rattle.fab_types.specs.Id.{bus_of};
 ghost use Rattle.layout.specs.declared.lines.PortLine.{PortLine};
 ghost use Rattle.layout.specs.Owners.{owner_of};
+ghost use Rattle.layout.specs.Share.{is_guarded_port};
 ghost use Rattle.bridge.specs.Groups.{groups_of, group_on, group_at, route_across, route_into, route_among};
 ghost use Rattle.bridge.specs.Routes.{is_holder, route_of, switch_bus, exit_at, target_of, holds};
 
@@ -24,6 +26,8 @@ pub struct Bridge {
     ports: Vec<PortLine>,
     // each switch with its own ports, among which a route is found
     switches: Vec<Switch>,
+    // are all five controls set on each port?
+    is_guarded: bool,
 }
 
 impl Model for Bridge {
@@ -106,6 +110,7 @@ impl Bridge {
             lines,
             ports,
             switches,
+            is_guarded: layout.is_guarded(),
         })
     }
 
@@ -130,5 +135,12 @@ impl Bridge {
         ensures { result ≡ owner_of self.now.ports id }
     {
         owner_of(&self.ports, id)
+    }
+
+    /// Are all five ACS controls set on each downstream port (PCIe 4.0, 6.12.1)?
+    pub fn is_guarded(&self) -> bool
+        ensures { result ≡ list_all is_guarded_port self.now.ports }
+    {
+        self.is_guarded
     }
 }

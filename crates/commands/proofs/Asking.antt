@@ -1,5 +1,5 @@
 -- A request is for one thing alone.
-use Rattle.std.proofs.Common.{◌≡◌, ℕ, List, Bor, subst}
+use Rattle.std.proofs.Common.{ℕ, List, Bor, subst}
 use Rattle.commands.specs.CommandLine.{Asked, First, Run, Alone, IsAsked}
 use Rattle.commands.specs.declared.command_line.Files.{Files}
 use Rattle.commands.specs.declared.command_line.Request.TheVariants as request

@@ -1,7 +1,6 @@
 -- The events of a script's lines, as one run.
-use Rattle.std.proofs.Common.{◌≡◌, ℕ, zero, suc, ◌≤◌, Bool, true, false, List, [], ◌∷◌, ◌++◌, refl, sym, ap, subst, arith}
+use Rattle.std.proofs.Common.{◌≡◌, ℕ, zero, suc, ◌≤◌, Bool, true, false, List, [], ◌∷◌, ◌++◌, refl, subst, arith}
 use Rattle.std.specs.Prelude.{MatchBool}
-use Rattle.std.proofs.lemmas.List.{append-nil}
 use Rattle.fab_types.specs.declared.outcome.Outcome.{Outcome}
 use Rattle.layout.specs.Platform.{Platform}
 use Rattle.script.specs.declared.lines.Command.{Command}

@@ -1,5 +1,5 @@
 -- What a fabric keeps where a domain has the entry of an alien packet: the packet is lost, and stays in flight at its home.
-use Rattle.std.proofs.Common.{◌≡◌, ℕ, Bool, true, false, cond, ◌||◌, List, [], ◌∷◌, Option, Some, None, refl, ap, ◌∙◌}
+use Rattle.std.proofs.Common.{◌≡◌, ℕ, Bool, true, cond, ◌||◌, List, [], ◌∷◌, Option, Some, None, refl, ap, ◌∙◌}
 use Rattle.std.specs.Prelude.{length, nat_lt, option_to_list}
 use Rattle.std.specs.List.{list_all}
 use Rattle.fab_types.specs.declared.head.Parties.{Parties}

@@ -1,19 +1,18 @@
 -- In a guarded fabric nobody gets an alien packet.
-use Rattle.std.proofs.Common.{◌≡◌, ℕ, Bool, true, false, cond, List, length, Option, Some, None, refl, ap, ◌∙◌}
-use Rattle.std.specs.Prelude.{◌||◌, nat_lt, option_map, slice_get}
+use Rattle.std.proofs.Common.{◌≡◌, ℕ, Bool, true, false, cond, List, Option, Some, None, refl, ap, ◌∙◌}
+use Rattle.std.specs.Prelude.{option_map, slice_get}
+use Rattle.std.specs.List.{list_all}
 use Rattle.std.specs.Option.{option_and_then}
 use Rattle.fab_types.specs.declared.head.Parties.{Parties}
 use Rattle.fab_types.specs.declared.place.Origin.TheVariants.{Function, Host}
 use Rattle.fab_types.specs.declared.place.Place.{Place}
 use Rattle.fab_types.specs.declared.place.Place.TheVariants.{Ingress}
 use Rattle.frame_log.specs.Descriptor.{Descriptor}
-use Rattle.layout.specs.Share.{Share, is_guarded}
+use Rattle.layout.specs.Share.{is_guarded, is_guarded_port}
 use Rattle.domain.specs.declared.entry.Entry.TheVariants.{Alien}
-use Rattle.domain.specs.Aliens.{alien, received_if, reception_by}
+use Rattle.domain.specs.Aliens.{alien}
 use Rattle.domain.specs.Domains.{DomainView}
 use Rattle.disposition.specs.Emissions.{Emission}
-use Rattle.domain.specs.State.{Alone}
-use Rattle.disposition.specs.Takers.{taker_of}
 use Rattle.edge.specs.Edges.{EdgeView, emitted_if}
 use Rattle.hierarchy.specs.declared.lost.Lost.{Lost}
 use Rattle.hierarchy.specs.Lost.{lost_among}
@@ -24,9 +23,11 @@ use Rattle.fabric_core.specs.Aliens.{alien_at_function, alien_at_host, or_else, 
 use Rattle.fabric_core.specs.Endings.{Ending, Taken, edge_by_function, edge_by_host, own_by_function, own_by_host, taken_at}
 use Rattle.fabric_core.specs.Losing.{Losing, is_at_port_of, losing, losing_by, losing_to, losing_with, pass, passed_unless}
 use Rattle.fabric_core.specs.Passing.{turned}
+use Rattle.fabric_core.specs.Invariant.{IsKept}
 use Rattle.fabric_core.specs.Soundness.{IsGuardedFabric}
-use Rattle.fabric_core.specs.World.{World}
+use Rattle.fabric_core.specs.World.{World, is_guarded as is_guarded_world}
 use Rattle.fabric_core.proofs.AlienEntries.{alien_illegal}
+use Rattle.fabric_core.proofs.Settling.{share_at}
 use Rattle.fabric_core.proofs.SoundDomains.{share_is}
 
 -- ---- in domains of guarded shares
@@ -61,6 +62,24 @@ or_none : (own other : Option EdgeView) → other ≡ None → or_else own other
 or_none None other none = none
 or_none (Some edge) other none = refl
 
+-- where each domain is of a guarded layout, no port loses a packet
+module _ (w : World) (guarded : AreOfGuarded w.edge.domains) where
+  none_losing_to : (lost : Lost) (t : Taken) → losing_to w lost t ≡ None
+  none_losing_to lost t =
+      none_if (is_at_port_of w.edge.domains t.frame.domain lost.place) (losing_with lost t (aliened w.edge.domains t.frame.domain lost.place t.frame))
+      (ap (losing_with lost t) (none_aliened w.edge.domains guarded (place_of w.edge.domains t.frame.domain) lost.place t.frame))
+
+  none_losing_taken : (lost : Lost) (o : Option Taken) → option_and_then (losing_to w lost) o ≡ None
+  none_losing_taken lost None = refl
+  none_losing_taken lost (Some t) = none_losing_to lost t
+
+  none_losing_by : (class : Class) (o : Option Lost) → losing_by w class o ≡ None
+  none_losing_by class None = refl
+  none_losing_by class (Some lost) = none_losing_taken lost (taken_at w.channels class (Some lost.input))
+
+  pub none_losing : (port : ℕ) (class : Class) → losing w port class ≡ None
+  none_losing port class = none_losing_by class (lost_among w.tree w.routes w.channels w.ports port class)
+
 module _ (w : World) (g : IsGuardedFabric w) where
   pub of_guarded : AreOfGuarded w.edge.domains
   of_guarded place d at = ap is_guarded (share_is g.platform w.edge.domains place d g.of_it.shares at) ∙ g.guarded.controls
@@ -82,21 +101,14 @@ module _ (w : World) (g : IsGuardedFabric w) where
   home_at_function function frame ending = or_none (own_by_function w.edge function frame ending) (alien_at_function w.edge function frame) (none_at_function function frame)
 
   -- no port loses a packet
-  none_losing_to : (lost : Lost) (t : Taken) → losing_to w lost t ≡ None
-  none_losing_to lost t =
-      none_if (is_at_port_of w.edge.domains t.frame.domain lost.place) (losing_with lost t (aliened w.edge.domains t.frame.domain lost.place t.frame))
-      (ap (losing_with lost t) (none_aliened w.edge.domains of_guarded (place_of w.edge.domains t.frame.domain) lost.place t.frame))
-
-  none_losing_taken : (lost : Lost) (o : Option Taken) → option_and_then (losing_to w lost) o ≡ None
-  none_losing_taken lost None = refl
-  none_losing_taken lost (Some t) = none_losing_to lost t
-
-  none_losing_by : (class : Class) (o : Option Lost) → losing_by w class o ≡ None
-  none_losing_by class None = refl
-  none_losing_by class (Some lost) = none_losing_taken lost (taken_at w.channels class (Some lost.input))
-
-  none_losing : (port : ℕ) (class : Class) → losing w port class ≡ None
-  none_losing port class = none_losing_by class (lost_among w.tree w.routes w.channels w.ports port class)
-
   pub passes_as_turned : (port : ℕ) (class : Class) → pass w port class ≡ turned w port class
-  passes_as_turned port class = ap (passed_unless w port class) (none_losing port class)
+  passes_as_turned port class = ap (passed_unless w port class) (none_losing w of_guarded port class)
+
+-- ---- what is kept of any fabric
+
+-- its domains know the ports of its layout
+kept_of_guarded : (w : World) → IsKept w → is_guarded_world w ≡ true → AreOfGuarded w.edge.domains
+kept_of_guarded w kept controls place d at = ap (list_all is_guarded_port) (share_at w.routes.ports w.edge.domains place d kept.shares at) ∙ controls
+
+pub none_lost : (w : World) → IsKept w → is_guarded_world w ≡ true → (port : ℕ) (class : Class) → losing w port class ≡ None
+none_lost w kept controls = none_losing w (kept_of_guarded w kept controls)

@@ -1,5 +1,5 @@
 -- In a guarded fabric each packet that a domain made stands in exactly one place, or was consumed exactly once.
-use Rattle.std.proofs.Common.{◌≡◌, ℕ, List, [], ◌++◌, true, Option, Some, sym, ap, ◌∙◌, subst}
+use Rattle.std.proofs.Common.{◌≡◌, ℕ, List, ◌++◌, true, Option, Some, sym, ap, ◌∙◌, subst}
 use Rattle.std.specs.Prelude.{All, count_by, slice_get}
 use Rattle.std.proofs.lemmas.List.{append-nil}
 use Rattle.std.proofs.lemmas.Option.{get_or_from_slice_get, slice_get_within}
@@ -10,7 +10,7 @@ use Rattle.domain.proofs.Consuming.{consumed_once}
 use Rattle.tenants.specs.Tenants.{domain_at}
 use Rattle.fabric_core.specs.Invariant.{IsFabric}
 use Rattle.fabric_core.specs.Places.{ArePlaced, HasPlaces, HaveOnePlace, IsFlown, flown_by, frames_of, is_numbered}
-use Rattle.fabric_core.specs.Soundness.{IsGuardedFabric, IsWellKept}
+use Rattle.fabric_core.specs.Soundness.{IsWellKept}
 use Rattle.fabric_core.specs.World.{World, is_guarded}
 
 module _ (w : World) (fabric : IsFabric w) (guarded : is_guarded w ≡ true) where

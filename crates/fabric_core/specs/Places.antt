@@ -1,5 +1,5 @@
 -- Where packets are: each that is in flight stands in exactly one place, with the head that its bytes give.
-use Rattle.std.specs.Prelude.{◌≡◌, ℕ, ◌==◌, Bool, true, ◌&&◌, List, [], ◌++◌, All, count_by, slice_get, Option, Some, None}
+use Rattle.std.specs.Prelude.{◌≡◌, ℕ, ◌==◌, Bool, true, ◌&&◌, List, [], ◌++◌, All, count_by, slice_get, Some}
 use Rattle.std.specs.List.{flat_map}
 use Rattle.frame_log.specs.Descriptor.{Descriptor}
 use Rattle.domain.specs.Domains.{DomainView}

@@ -14,7 +14,8 @@ use hierarchy::Hierarchy;
 use port::Reports;
 use std::sync::Wait;
 
-/// This port has its turn: the desk is the edge, and every report is taken.
+/// This port has its turn: the desk is the edge, and every report is taken. In a guarded layout no domain has a case for
+/// an alien packet, so none is looked for.
 pub(crate) fn pass<R: Wait>(
     rt: &R,
     hierarchy: &mut Hierarchy,
@@ -25,6 +26,9 @@ pub(crate) fn pass<R: Wait>(
 ) -> Outcome
     ensures { (strays : List Descriptor) → IsKept (world_over hierarchy.old edge.old reports.old.violations strays) → StepsTo (world_over hierarchy.old edge.old reports.old.violations strays) (Pass port class) result (world_over hierarchy.new edge.new reports.new.violations strays) }
 {
+    if hierarchy.is_guarded() {
+        return hierarchy.pass(rt, port, class, edge, reports);
+    }
     let Some(lost) = hierarchy.lost_at(port, class) else {
         return hierarchy.pass(rt, port, class, edge, reports);
     };

@@ -1,11 +1,13 @@
 //! The links and switches of a layout.
 
 ghost use Rattle.std.specs.Prelude.{◌≡◌, ◌≤◌, ◌++◌, IfOk, IfSome, IsSome, List, MatchBool, MatchOption, None, Some, false, option_map, slice_get};
+ghost use Rattle.std.specs.List.{list_all};
 ghost use Rattle.fab_types.specs.declared.class.Class.{Class};
 ghost use Rattle.credit.specs.Kinds.{Kind};
 ghost use Rattle.credit.specs.Limits.{MayStart, at};
 ghost use Rattle.frame_log.specs.Descriptor.{Descriptor};
 ghost use Rattle.layout.specs.Owners.{owner_of};
+ghost use Rattle.layout.specs.Share.{is_guarded_port};
 ghost use Rattle.link.specs.Channels.{IsCovered, count_in, is_full, receive, send, tell};
 ghost use Rattle.link.specs.Simplexes.{simplex_restored};
 ghost use Rattle.port.specs.Lanes.{class_of, eligible};
@@ -80,6 +82,13 @@ impl Hierarchy {
         ensures { result ≡ owner_of (self.now.routes).ports id }
     {
         self.bridge.owner(id)
+    }
+
+    /// Are all five ACS controls set on each downstream port (PCIe 4.0, 6.12.1)?
+    pub fn is_guarded(&self) -> bool
+        ensures { result ≡ list_all is_guarded_port (self.now.routes).ports }
+    {
+        self.bridge.is_guarded()
     }
 
     /// Where the packets of this direction are sent from, if there is such a link.

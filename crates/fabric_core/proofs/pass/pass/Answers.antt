@@ -1,4 +1,4 @@
-use Rattle.std.proofs.Common.{List, sym, ap, ◌∙◌}
+use Rattle.std.proofs.Common.{List, refl, sym, ap, ◌∙◌}
 use Rattle.std.specs.Option.{is_some}
 use Rattle.fab_types.specs.declared.class.Class.TheVariants.{Completion}
 use Rattle.link.specs.Channels.{Channel, is_full}
@@ -7,19 +7,29 @@ use Rattle.hierarchy.specs.Moves.{channel_at}
 use Rattle.hierarchy.specs.Views.{channels}
 use Rattle.hierarchy.proofs.Room.{full_left}
 use Rattle.fabric_core.specs.Losing.{is_at_port_of}
+use Rattle.fabric_core.specs.World.{world_over}
+use Rattle.fabric_core.proofs.GuardedAliens.{none_lost}
 use Rattle.fabric_core.proofs.LostAnswers.{lost_answers}
 use Rattle.fabric_core.proofs.Losses.{first_of, keeps_it, lose_step, nothing_lost, second_of, some_made, turned_step, was_back}
 use Rattle.fabric_core.proofs.Over.{rest_after}
 use Rattle.fabric_core.proofs.Settled.{Took, took_after}
 use Rattle.fabric_core.proofs.pass.pass.Goals as goal
 
+pub returns-then-is_guarded : goal.returns-then-is_guarded
+returns-then-is_guarded g c strays kept =
+    let h = c.args.hierarchy.now in
+    let edge = c.args.edge.now in
+    let violations = c.args.reports.now.violations in
+    turned_step h h c.pass.new.self edge c.pass.new.desk violations c.pass.new.reporter.violations strays c.args.class c.pass.result c.args.port kept (record { tree = refl; routes = refl; ports = refl }) refl
+    (none_lost (world_over h edge violations strays) kept (sym c.is_guarded.ensures ∙ c.if-is_guarded.true) c.args.port c.args.class) c.pass.ensures
+
 pub returns-in_default : goal.returns-in_default
 returns-in_default g c strays kept =
     let h = c.args.hierarchy.now in
     let edge = c.args.edge.now in
     let violations = c.args.reports.now.violations in
-    turned_step h c.lost_at.new.self c.pass.new.self edge c.pass.new.desk violations c.pass.new.reporter.violations strays c.args.class c.pass.result c.args.port kept c.lost_at.ensures.rest c.lost_at.ensures.same
-    (nothing_lost h edge violations strays c.args.port c.args.class (sym c.in_default.ensures.value)) c.pass.ensures
+    turned_step h c.lost_at.new.self c.pass-in_default.new.self edge c.pass-in_default.new.desk violations c.pass-in_default.new.reporter.violations strays c.args.class c.pass-in_default.result c.args.port kept c.lost_at.ensures.rest c.lost_at.ensures.same
+    (nothing_lost h edge violations strays c.args.port c.args.class (sym c.in_default.ensures.value)) c.pass-in_default.ensures
 
 pub lose-requires-clause-full : goal.lose-requires-clause-full
 lose-requires-clause-full g c =
