@@ -3,9 +3,10 @@
 # many events it makes, how many of them move something a second, and the most memory. The scripts: 65,000 lines of
 # mixed packets, ticks and accesses of hosts with a sweep after every 2,000 of them, the same with a sweep behind
 # each, and 5,000 writes in the name of another domain, each with a sweep. Last comes an idle fabric, which is swept
-# 2,000 times: how many events a second that move nothing. It builds the program in a temporary folder, from the
-# sources of this repository, and proves what no check has proved there before. With a folder as its argument it
-# writes the texts there and does nothing else.
+# 2,000 times: how many events a second that move nothing. Beside each stands the time of a simulator in plain Rust
+# (bench/plain), of which nothing is proved, and which must count the same events. It builds both programs in a temporary
+# folder, from the sources of this repository, and proves what no check has proved there before; it wants rustc. With a
+# folder as its argument it writes the texts there and does nothing else.
 set -euo pipefail
 here=$(cd "$(dirname "$0")/.." && pwd)
 
@@ -235,13 +236,19 @@ PROGRAM
 # Not by rt try, whose build tests each access and is far slower.
 ( cd "$work/crates/fabrics" && rt run > "$work/fabrics.log" 2>&1 ) || { tail -20 "$work/fabrics.log"; exit 1; }
 
+rustc --edition 2021 -O -o "$work/plain" "$here/bench/plain/main.rs"
+
 texts "$work/texts"
 cd "$work/texts"
 printf '%s\n' * | grep -v '^layout$' | sort -V | while read -r name; do
-    "$work/crates/fabrics/out/fabrics" layout "$name" | awk -v name="$name" '
+    echo "$("$work/crates/fabrics/out/fabrics" layout "$name") $("$work/plain" time layout "$name")" | awk -v name="$name" '
+        $2 != $8 || $3 != $9 {
+            print name ": the plain simulator counts " $8 " that moved something, of " $9 ", and not " $2 " of " $3
+            exit 1
+        }
         {
             seconds = $1 / 1e9
-            printf "%s: %.2f s, %d events, %.2f million a second; %d moved something, %.2f million a second; %.1f MB\n",
-                name, seconds, $3, $3 / seconds / 1e6, $2, $2 / seconds / 1e6, $5 / 1000
+            printf "%s: %.2f s, %d events, %.2f million a second; %d moved something, %.2f million a second; %.1f MB; plain Rust %.2f s\n",
+                name, seconds, $3, $3 / seconds / 1e6, $2, $2 / seconds / 1e6, $5 / 1000, $7 / 1e9
         }'
 done

@@ -1,0 +1,141 @@
+"""Random layouts and scripts. `deal.py FOLDER COUNT` writes the pairs `1.layout` and `1.script` to COUNT of them."""
+
+import random, sys
+
+from switches import text
+
+CONTROLS = [0x00, 0x01, 0x02, 0x04, 0x08, 0x10, 0x1b, 0x1d]
+ENABLES = [0x0f, 0x0f, 0x0c, 0x06, 0x00, 0xff, 0xff, 0x3c, 0x8f]
+
+
+class Deal:
+    def __init__(self, number):
+        self.dice = random.Random(number)
+        self.lines, self.functions = [], []
+        self.is_guarded = self.dice.random() < 0.4
+        self.switches = self.dice.randrange(1, 5)
+
+    def controls(self):
+        if self.is_guarded or self.dice.random() < 0.4:
+            return 0x1f
+        return self.dice.choice(CONTROLS)
+
+    def switch(self, above, bus, base, owner, depth):
+        """Adds the lines of a switch, and answers the first bus and address that are free below it."""
+        self.switches -= 1
+        self.lines.append(f'switch {text(bus << 8)} {above}')
+        inner, bus = bus + 1, bus + 2
+        for device in range(self.dice.randrange(1, 6)):
+            port, place, first, low = f'{inner:02x}:{device:02x}.0', len(self.lines), bus, base
+            own = owner or self.dice.randrange(1, 4)
+            if depth < 3 and self.switches and self.dice.random() < 0.4:
+                bus, base = self.switch(port, bus, base, own, depth + 1)
+            else:
+                if self.dice.random() < 0.9:
+                    self.functions.append((bus << 8, own, base))
+                    self.lines.append(f'function {text(bus << 8)} {base:08x}')
+                bus, base = bus + 1, base + 0x100000
+            self.lines.insert(place, f'port {port} {first:02x} {bus - 1:02x} {low:08x} {base - 1:08x} {self.controls():02x} {own}')
+        return bus, base
+
+    def layout(self):
+        self.switch('root', 1, 0x90000000, None, 1)
+        head = ['pciefab 1', 'frames 12']
+        for bdf, own, _ in self.functions:
+            peers = [peer for peer, owner, _ in self.functions if owner == own]
+            for page in self.dice.sample([1, 2, 3, 0x90000, 0x100001], 3):
+                target = f'frame {own * 3 + self.dice.randrange(3)}'
+                if self.dice.random() < 0.3:
+                    target = f'peer {text(self.dice.choice(peers))}'
+                self.lines.append(f'map {text(bdf)} {page:x} {target} {self.dice.choice(["r", "w", "rw", "rw"])}')
+            if self.dice.random() < 0.3:
+                limits = [self.dice.randrange(low, low + 5) for low in (1, 16) * 3]
+                self.lines.append(f'credit {text(bdf)} ' + ' '.join(map(str, limits)))
+        for own in sorted({own for _, own, _ in self.functions}):
+            self.lines.append(f'budget {own} {self.dice.choice([5, 400, 400, 400])}')
+        return self.garbled(head + self.lines)
+
+    def script(self):
+        lines = []
+        for _ in range(self.dice.randrange(5, 120)):
+            lines.append(self.command())
+            if self.dice.random() < 0.3:
+                lines.append(f'sweep {self.dice.choice([1, 1, 2, 5, 30])}')
+        return self.garbled(lines + ['sweep 1000'])
+
+    def garbled(self, lines):
+        """Now and then a line is lost, or stands twice, or has another character."""
+        if self.dice.random() < 0.05:
+            number = self.dice.randrange(len(lines))
+            line = lines.pop(number)
+            at = self.dice.randrange(len(line))
+            other = line[:at] + self.dice.choice('019 f') + line[at + 1:]
+            lines[number:number] = self.dice.choice([[], [line, line], [other], [other]])
+        return lines
+
+    def command(self):
+        bdf, own, _ = self.dice.choice(self.functions or [(0xfe00, 1, 0)])
+        if self.dice.random() < 0.02:
+            bdf ^= 0x100
+        roll = self.dice.random()
+        if roll < 0.6:
+            return f'submit {text(bdf)} {self.packet(bdf) or "-"}'
+        if roll < 0.75:
+            return f'tick {text(bdf)}'
+        if self.dice.random() < 0.3:
+            return f'mmio {own} read {text(bdf)} {self.offset():03x} {self.dice.choice([0, 1, 1, 2, 4, 64, 65])}'
+        offset, data = self.written()
+        return f'mmio {own} write {text(bdf)} {offset:03x} {data}'
+
+    def offset(self):
+        return self.dice.choice([0, 4, 8, 12, 0x100, 0x400, 0x404, 0x401, 0xffc])
+
+    def written(self):
+        """A start or a stop of the program, one of its lines, or data."""
+        roll = self.dice.random()
+        if roll < 0.3:
+            return 4, f'0{self.dice.choice("1110")}000000'
+        if roll < 0.8:
+            line = [self.dice.choice([0, 1, 1, 2, 2, 3, 4]), self.dice.choice([1, 1, 2, 4, 64, 0])]
+            line += self.dice.choice([[0, 0], [4, 0], [0, 2], [1, 0], [0, 4]]) + [self.dice.randrange(2), 0, 0, 0]
+            return 0x100 + 16 * self.dice.randrange(3), bytes(line).hex() + self.address().to_bytes(8, 'little').hex()
+        return self.offset(), self.dice.randbytes(self.dice.choice([1, 3, 4, 8, 40])).hex()
+
+    def address(self):
+        page = self.dice.choice([1, 1, 2, 3, 0x90000, 0x100001, 5])
+        if self.functions and self.dice.random() < 0.3:
+            page = self.dice.choice(self.functions)[2] >> 12
+        return page << 12 | self.dice.choice([0, 0, 4, 0x100, 0x400, 0xff8, 0xffc])
+
+    def packet(self, bdf):
+        """Mostly a request to memory, by the function or in the name of another."""
+        if self.dice.random() < 0.05:
+            return self.dice.randbytes(self.dice.randrange(0, 40)).hex()
+        if self.functions and self.dice.random() < 0.15:
+            bdf = self.dice.choice(self.functions)[0]
+        kind = self.dice.choice([0, 0, 0, 0, 0, 0, 2, 4, 0x34, 0x0a, 0x0c])
+        has_data = self.dice.random() < 0.5
+        count = self.dice.choice([1, 1, 1, 2, 4, 33, 64, 65])
+        address = self.address()
+        is_long = address >> 32 != 0 or self.dice.random() < 0.03
+        enables = self.dice.choice(ENABLES) if self.dice.random() < 0.2 else 0x0f if count == 1 else 0xff
+        head = (kind << 24 | has_data << 30 | is_long << 29 | self.dice.choice([0, 0, 0x2000, 0x1000, 0x40000]) | count)
+        if self.dice.random() < 0.15:
+            head |= self.dice.choice([0x400, 0x800, 0xc00, 0x4000, 0x8000, 0x100000])
+        words = [head, bdf << 16 | self.dice.randrange(4) << 8 | enables]
+        words += [address >> 32, address & 0xffffffff] if is_long else [address & 0xffffffff]
+        data = self.dice.randbytes(4 * count) if has_data else b''
+        return b''.join(word.to_bytes(4, 'big') for word in words).hex() + data.hex()
+
+
+def write(name, lines):
+    with open(name, 'w') as file:
+        file.write('\n'.join(lines) + '\n')
+
+
+if __name__ == '__main__':
+    folder, count = sys.argv[1], int(sys.argv[2])
+    for number in range(1, count + 1):
+        deal = Deal(number)
+        write(f'{folder}/{number}.layout', deal.layout())
+        write(f'{folder}/{number}.script', deal.script())

@@ -1,0 +1,81 @@
+//! A plain simulator of the fabric, in ordinary Rust: a yardstick of the speed of `pciefab run`, and an independent
+//! check of what it prints, written from docs/ and not from the crates. Nothing of it is proved.
+//!
+//!     rustc --edition 2021 -O -o plain bench/plain/main.rs
+//!     plain run LAYOUT SCRIPT     prints what `pciefab run` prints
+//!     plain time LAYOUT SCRIPT    prints NANOSECONDS MOVED ALL of the script's events, by processor time
+
+mod build;
+mod clock;
+mod domain;
+mod fabric;
+mod function;
+mod id;
+mod layout;
+mod link;
+mod packet;
+mod port;
+mod report;
+mod script;
+mod words;
+
+use fabric::Fabric;
+use layout::Layout;
+use script::Command;
+use std::io::Write;
+use std::process::ExitCode;
+
+fn file(name: &str) -> Result<String, String> {
+    std::fs::read_to_string(name).map_err(|_| format!("file {name}: unreadable"))
+}
+
+/// The fabric and the commands of two files, or the line that says what is wrong with them.
+fn read(layout: &str, script: &str) -> Result<(Fabric, Vec<(u32, Command)>), String> {
+    let faulty = |(line, cause)| format!("layout {line}: {} {cause:?}", cause as u8);
+    let layout = Layout::read(&file(layout)?).map_err(faulty)?;
+    let commands = script::read(&file(script)?).map_err(|line| format!("script {line}: Line"))?;
+    Ok((build::fabric(&layout), commands))
+}
+
+fn run(layout: &str, script: &str) -> Result<String, String> {
+    let (mut fabric, commands) = read(layout, script)?;
+    let mut out = String::new();
+    for (line, command) in commands {
+        if let Err(fault) = fabric.obey(command) {
+            report::refusal(&mut out, line, fault);
+        }
+    }
+    report::end(&mut out, &fabric);
+    Ok(out)
+}
+
+fn time(layout: &str, script: &str) -> Result<String, String> {
+    let (mut fabric, commands) = read(layout, script)?;
+    let start = clock::processor_time();
+    for (_, command) in commands {
+        // A refused begin is an event like any other.
+        let _ = fabric.obey(command);
+    }
+    let time = clock::processor_time() - start;
+    Ok(format!("{time} {} {}\n", fabric.count.moved, fabric.count.all))
+}
+
+fn main() -> ExitCode {
+    let words: Vec<String> = std::env::args().skip(1).collect();
+    let words: Vec<&str> = words.iter().map(String::as_str).collect();
+    let answer = match words[..] {
+        ["run", layout, script] => run(layout, script),
+        ["time", layout, script] => time(layout, script),
+        _ => Err("usage".to_string()),
+    };
+    match answer {
+        Ok(text) => match std::io::stdout().write_all(text.as_bytes()) {
+            Ok(()) => ExitCode::SUCCESS,
+            Err(_) => ExitCode::FAILURE,
+        },
+        Err(line) => {
+            eprintln!("{line}");
+            ExitCode::FAILURE
+        }
+    }
+}

@@ -1,0 +1,125 @@
+//! Ports of switches: access control and routes.
+
+use crate::link::{Frame, Party};
+use crate::packet::{Kind, Status};
+
+const VALIDATES_SOURCE: u8 = 1;
+const BLOCKS_TRANSLATED: u8 = 2;
+const REDIRECTS_REQUESTS: u8 = 4;
+const REDIRECTS_COMPLETIONS: u8 = 8;
+const FORWARDS_UPSTREAM: u8 = 16;
+
+/// No way out of the switch.
+const NOWHERE: u8 = 0xff;
+
+/// A downstream port as a way out of its switch.
+pub struct Exit {
+    pub buses: std::ops::RangeInclusive<u8>,
+    pub controls: u8,
+    /// The direction that leads down from it, if anything stands below.
+    pub down: Option<usize>,
+}
+
+/// Finds by one look which exit has a bus, or a megabyte below 4 GB.
+pub struct Switch {
+    pub up: usize,
+    pub exits: Vec<Exit>,
+    by_bus: Box<[u8; 256]>,
+    by_megabyte: Vec<u8>,
+}
+
+/// The test that a request failed.
+#[derive(Clone, Copy, Debug)]
+pub enum Test {
+    Source,
+    Translation,
+}
+
+/// What becomes of a packet at a port.
+#[derive(Clone, Copy)]
+pub enum Course {
+    /// It goes on by this direction.
+    Forward(usize),
+    /// It ends here; if it is non-posted it is answered so.
+    Stop(Status, Option<Test>),
+    /// It ends here, and nobody hears of it.
+    Lose,
+}
+
+impl Switch {
+    pub fn new(up: usize) -> Switch {
+        Switch { up, exits: Vec::new(), by_bus: Box::new([NOWHERE; 256]), by_megabyte: vec![NOWHERE; 4096] }
+    }
+
+    /// Adds a downstream port with its window, and answers its number in the switch.
+    pub fn add(&mut self, exit: Exit, base: u32, limit: u32) -> usize {
+        let number = self.exits.len();
+        let [low, high] = [*exit.buses.start(), *exit.buses.end()].map(usize::from);
+        self.by_bus[low..=high].fill(number as u8);
+        self.by_megabyte[(base >> 20) as usize..=(limit >> 20) as usize].fill(number as u8);
+        self.exits.push(exit);
+        number
+    }
+
+    /// The exit that has what the packet is routed by.
+    fn holder(&self, frame: &Frame) -> Option<usize> {
+        let header = &frame.packet.header;
+        let exit = match (header.kind, frame.party) {
+            (Kind::Completion, Party::PortAnswer(bus)) => self.by_bus[usize::from(bus)],
+            (Kind::Completion, _) => self.by_bus[usize::from(header.requester.bus())],
+            _ => match self.by_megabyte.get((header.address >> 20) as usize) {
+                Some(exit) => *exit,
+                None => NOWHERE,
+            },
+        };
+        (exit != NOWHERE).then_some(usize::from(exit))
+    }
+
+    /// Of a packet that came down to the switch.
+    pub fn downward(&self, frame: &Frame) -> Course {
+        match self.holder(frame) {
+            Some(exit) => self.by_exit(exit),
+            None => Course::Lose,
+        }
+    }
+
+    fn by_exit(&self, exit: usize) -> Course {
+        self.exits[exit].down.map_or(Course::Lose, Course::Forward)
+    }
+
+    /// Of a packet that came up to the exit with this number.
+    pub fn upward(&self, own: usize, frame: &Frame) -> Course {
+        let exit = &self.exits[own];
+        let header = &frame.packet.header;
+        let is_memory = matches!(header.kind, Kind::Read | Kind::Write);
+        if header.kind == Kind::Malformed {
+            return Course::Stop(Status::Unsupported, None);
+        }
+        if header.kind != Kind::Completion {
+            if exit.controls & VALIDATES_SOURCE != 0 && !exit.buses.contains(&header.requester.bus()) {
+                return Course::Stop(Status::Abort, Some(Test::Source));
+            }
+            if exit.controls & BLOCKS_TRANSLATED != 0 && is_memory && header.address_type != 0 {
+                return Course::Stop(Status::Abort, Some(Test::Translation));
+            }
+            if !is_memory {
+                return Course::Stop(Status::Unsupported, None);
+            }
+        }
+        self.redirected(own, frame)
+    }
+
+    fn redirected(&self, own: usize, frame: &Frame) -> Course {
+        let controls = self.exits[own].controls;
+        let header = &frame.packet.header;
+        let redirects = match header.kind {
+            Kind::Completion => controls & REDIRECTS_COMPLETIONS != 0 && !header.relaxed,
+            _ => controls & REDIRECTS_REQUESTS != 0,
+        };
+        match self.holder(frame) {
+            Some(exit) if exit == own && controls & FORWARDS_UPSTREAM == 0 => Course::Stop(Status::Unsupported, None),
+            Some(exit) if exit != own && !redirects => self.by_exit(exit),
+            _ => Course::Forward(self.up),
+        }
+    }
+}
