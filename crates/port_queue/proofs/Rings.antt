@@ -2,7 +2,7 @@
 use Rattle.std.proofs.Common.{◌≡◌, ℕ, zero, suc, ◌+◌, ◌-◌, ◌<◌, ◌≤◌, inl, inr, List, [], ◌∷◌, ◌++◌, Option, Some, None, length, take, drop, get_or, replicate, refl, sym, ap, ◌∙◌, append_assoc, length-append, zero-add, arith, slice_get}
 use Rattle.std.proofs.Math.ListN.{set}
 use Rattle.std.proofs.Math.Seq.{set-append_seam, drop-append_seam, take-append_seam}
-use Rattle.std.proofs.lemmas.List.{set-append_left, set-append_right, take-append-drop, length-set, append-nil, length-take-le, length-drop, get_or_default}
+use Rattle.std.proofs.lemmas.List.{set-append_left, set-append_right, take-append-drop, length-set, append-nil, length-take-le, length-drop, get_or_default, length-replicate, replicate-append-replicate}
 use Rattle.std.proofs.lemmas.Bool.{cases_lt}
 use Rattle.port_queue.specs.Ring.{somes, rotated, row, IsRing}
 
@@ -247,3 +247,40 @@ module _ {X : Type 0} where
   -- no items
   pub empty_ring : (n : ℕ) (cs : List (Option X)) → cs ≡ replicate n None → length cs ≡ n → IsRing n 0 0 cs × (somes (rotated 0 cs) ≡ [])
   empty_ring n cs is size = ring_of n 0 0 n cs [] size (omega arith) refl (zero-add n) (append-nil cs ∙ is)
+
+module _ {X : Type 0} where
+  -- each part of a list of equal elements is one
+  parts_equal : (n : ℕ) (v : X) (xs ys : List X) → xs ++ ys ≡ replicate n v → (xs ≡ replicate (length xs) v) × (ys ≡ replicate (length ys) v)
+  parts_equal n v [] ys same = (let long = ap length same ∙ length-replicate n v in (refl, same ∙ ap (λ k. replicate k v) (sym long)))
+  parts_equal zero v (x ∷ xs) ys same = cc
+  parts_equal (suc n) v (x ∷ xs) ys same =
+      let here : x ≡ v = cc in
+      let rest : xs ++ ys ≡ replicate n v = cc in
+      let parts = parts_equal n v xs ys rest in (
+        ap (λ z. z ∷ xs) here ∙ ap (λ zs. v ∷ zs) parts.0,
+        parts.1,
+      )
+
+  turned_equal : (n : ℕ) (v : X) (xs ys : List X) → xs ++ ys ≡ replicate n v → ys ++ xs ≡ replicate n v
+  turned_equal n v xs ys same =
+      let parts = parts_equal n v xs ys same in
+      let long = length-append xs ys in
+      let all = ap length same ∙ length-replicate n v in
+      let sum : length ys + length xs ≡ n = omega arith in
+      ap (λ zs. zs ++ xs) parts.1
+      ∙ (ap (λ zs. replicate (length ys) v ++ zs) parts.0 ∙ (replicate-append-replicate (length ys) (length xs) v ∙ ap (λ k. replicate k v) sum))
+
+module _ {X : Type 0} where
+  none_of : (xs : List X) → length xs ≡ 0 → xs ≡ []
+  none_of [] none = refl
+  none_of (x ∷ xs) none = absurd (omega arith)
+
+module _ {X : Type 0} where
+  -- an empty ring may as well begin at its first place
+  pub begun_anew : (n first : ℕ) (cs : List (Option X)) → IsRing n first 0 cs → IsRing n 0 0 cs × (somes (rotated 0 cs) ≡ somes (rotated first cs))
+  begun_anew n first cs ring =
+      let none : somes (rotated first cs) ≡ [] = none_of (somes (rotated first cs)) ring.count.0 in
+      let all : n - 0 ≡ n = omega arith in
+      let empty : drop first cs ++ take first cs ≡ replicate n None = ring.laid ∙ (ap (λ xs. row xs (n - 0)) none ∙ ap (row []) all) in
+      let whole : cs ≡ replicate n None = sym (take-append-drop first cs) ∙ turned_equal n None (drop first cs) (take first cs) empty in
+      let made = ring_of n 0 0 n cs [] ring.size (omega arith) refl (omega arith) (append-nil cs ∙ whole) in (made.0, made.1 ∙ sym none)

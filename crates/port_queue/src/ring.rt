@@ -102,8 +102,18 @@ impl<T: Drop, const CAP: usize> Ring<T, CAP> {
         self.len += 1;
     }
 
-    /// Takes the oldest item.
+    /// Takes the oldest item. An empty ring begins at its first place again, so that few items at a time stay within few
+    /// places, and those in a cache.
     pub fn pop_front(&mut self) -> Option<T>
+        ensures items { self.old ≡ option_to_list result ++ self.new }
+        ensures value { result ≡ slice_get self.old 0 }
+    {
+        let item = self.take_first();
+        self.begin_anew();
+        item
+    }
+
+    fn take_first(&mut self) -> Option<T>
         ensures items { self.old ≡ option_to_list result ++ self.new }
         ensures value { result ≡ slice_get self.old 0 }
     {
@@ -115,5 +125,13 @@ impl<T: Drop, const CAP: usize> Ring<T, CAP> {
         self.first = if next == CAP { 0 } else { next };
         self.len -= 1;
         item
+    }
+
+    fn begin_anew(&mut self)
+        ensures { self.new ≡ self.old }
+    {
+        if self.len == 0 {
+            self.first = 0;
+        }
     }
 }

@@ -2,8 +2,8 @@ use Rattle.std.proofs.Common.{◌≡◌, ◌<◌, ◌-◌, ◌+◌, ◌++◌, �
 use Rattle.std.specs.Option.{option_to_list}
 use Rattle.port_queue.specs.Ring.{somes, rotated, IsRing}
 use Rattle.port_queue.proofs.Rings.{Pops, popped, same_at}
-use Rattle.port_queue.proofs.ring.Ring.pop_front.Goals as goal
-use Rattle.port_queue.proofs.ring.Ring.pop_front.Goals.{then-next, else-next}
+use Rattle.port_queue.proofs.ring.Ring.take_first.Goals as goal
+use Rattle.port_queue.proofs.ring.Ring.take_first.Goals.{then-next, else-next}
 
 pops : (g : _) (c : goal.After-self-2-1 g) → Pops g.row.CAP c.self.inside.first c.self.inside.len c.if-next.self c.self.inside.places.items
 pops g c =
