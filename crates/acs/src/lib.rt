@@ -11,6 +11,3 @@ pub use block::AcsBlock;
 pub use laws::{guarded_completions_go_up, guarded_requests_go_up};
 pub use redirection::redirect;
 pub use vetting::{Verdict, requester_of, vet};
-
-#[cfg(test)]
-mod tests;

@@ -9,6 +9,3 @@ mod target;
 pub use route::Route;
 pub use routing::Bridge;
 pub use target::Target;
-
-#[cfg(test)]
-mod tests;

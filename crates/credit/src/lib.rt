@@ -16,6 +16,3 @@ pub use counters::{Counters, Credits, DataCounter, HeaderCounter, Limits};
 pub use price::cost_of_payload;
 pub use receiver::Receiver;
 pub use sender::Sender;
-
-#[cfg(test)]
-mod tests;

@@ -6,6 +6,3 @@ mod desk;
 mod edge;
 
 pub use edge::Edge;
-
-#[cfg(test)]
-mod tests;

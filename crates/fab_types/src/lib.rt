@@ -30,6 +30,3 @@ pub use outcome::Outcome;
 pub use place::{Direction, Origin, Place, Way};
 pub use status::Status;
 pub use violation::{Check, Violation};
-
-#[cfg(test)]
-mod tests;

@@ -15,6 +15,3 @@ pub use frame::Frame;
 pub use log::Log;
 pub use packet_bytes::PacketBytes;
 pub use token::Token;
-
-#[cfg(test)]
-mod tests;

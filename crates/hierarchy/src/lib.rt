@@ -10,6 +10,3 @@ mod start;
 
 pub use hierarchy::Hierarchy;
 pub use lost::Lost;
-
-#[cfg(test)]
-mod tests;

@@ -5,6 +5,3 @@ mod memory;
 mod page;
 
 pub use memory::HostMemory;
-
-#[cfg(test)]
-mod tests;

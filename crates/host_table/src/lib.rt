@@ -8,6 +8,3 @@ mod target;
 pub use law::lookup_is_membership;
 pub use table::HostTable;
 pub use target::Target;
-
-#[cfg(test)]
-mod tests;

@@ -19,6 +19,3 @@ pub use owners::owner_of;
 pub use platform::Layout;
 pub use rules::tree::{id_below, internal_bus, is_taken, port_above, port_at, port_over};
 pub use start::Start;
-
-#[cfg(test)]
-mod tests;

@@ -6,6 +6,3 @@ mod simplex;
 mod steps;
 
 pub use simplex::Simplex;
-
-#[cfg(test)]
-mod tests;

@@ -4,6 +4,3 @@
 mod report;
 
 pub use report::line;
-
-#[cfg(test)]
-mod tests;

@@ -8,6 +8,3 @@ mod pass_table;
 pub use eligibility::eligible;
 pub use law::takes_the_eligible;
 pub use pass_table::may_pass;
-
-#[cfg(test)]
-mod tests;

@@ -4,6 +4,3 @@
 mod index;
 
 pub use index::OriginIndex;
-
-#[cfg(test)]
-mod tests;

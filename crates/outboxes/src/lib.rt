@@ -9,6 +9,3 @@ mod outboxes;
 mod starts;
 
 pub use outboxes::Outboxes;
-
-#[cfg(test)]
-mod tests;

@@ -207,22 +207,3 @@ impl<T: Drop, const CAP: usize> PortQueue<T, CAP> {
         });
     }
 }
-
-#[cfg(test)]
-mod tests {
-    use super::*;
-    use fab_types::Class::{Completion, NonPosted, Posted};
-
-    #[test]
-    fn items_that_are_numbered_anew_keep_their_order(rt: HostRuntime) {
-        let mut queue = PortQueue::<u8, 2>::numbered_from(u64::MAX - 2);
-        queue.put(NonPosted, 1);
-        queue.put(Posted, 2);
-        queue.put(Completion, 3);
-        assert_eq!(rt; queue.next, 3);
-        assert_eq!(rt; queue.take(Completion), None);
-        assert_eq!(rt; queue.take(NonPosted), Some(1));
-        assert_eq!(rt; queue.take(Posted), Some(2));
-        assert_eq!(rt; queue.take(Completion), Some(3));
-    }
-}

@@ -23,6 +23,3 @@ pub use lanes::Lanes;
 pub use reserved::Outbox;
 #[doc(hidden)]
 pub use ring::Ring;
-
-#[cfg(test)]
-mod tests;

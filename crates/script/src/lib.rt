@@ -10,6 +10,3 @@ pub use fab_types::ScriptFault;
 pub use lines::{Command, Line};
 pub use packet_word::packet_bytes;
 pub use read::Script;
-
-#[cfg(test)]
-mod tests;

@@ -9,6 +9,3 @@ pub use lines::{
     BudgetText, CreditText, FunctionText, MapText, PortText, RightsText, Statement, SwitchText,
     TargetText,
 };
-
-#[cfg(test)]
-mod tests;

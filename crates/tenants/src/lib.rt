@@ -11,6 +11,3 @@ mod starts;
 mod tenants;
 
 pub use tenants::Tenants;
-
-#[cfg(test)]
-mod tests;

@@ -6,6 +6,3 @@ mod fields;
 
 pub use digits::{decimal, hex_byte, hex_word, hexadecimal, id};
 pub use fields::{Parts, at_blank, cut, is_comment, is_word};
-
-#[cfg(test)]
-mod tests;

@@ -24,6 +24,3 @@ pub use laws::{
 pub use request::{RequestBuf, RequestHead};
 pub use runs::Runs;
 pub use view::{TlpView, cost};
-
-#[cfg(test)]
-mod tests;

@@ -16,6 +16,3 @@ pub use links::Link;
 pub use nodes::LinkEnd;
 pub use places::PortPlace;
 pub use topology::Topology;
-
-#[cfg(test)]
-mod tests;

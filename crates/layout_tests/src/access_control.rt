@@ -1,0 +1,99 @@
+use acs::{AcsBlock, Verdict, guarded_completions_go_up, guarded_requests_go_up, redirect, vet};
+use bridge::Route;
+use fab_types::{AcsControl, AddressType, Bdf, Check, Header, PortId};
+use layout::{Layout, PortLine};
+use std::test::Fail;
+
+/// A tree of two switches.
+const EXAMPLE: &str = "pciefab 1
+switch 01:00.0 root
+port 02:00.0 03 03 90000000 900fffff 1f 1
+port 02:01.0 04 07 90100000 902fffff 1f 2
+port 02:02.0 08 09 90300000 903fffff 1f 1
+switch 04:00.0 02:01.0
+port 05:00.0 06 06 90100000 901fffff 1f 2
+port 05:01.0 07 07 90200000 902fffff 1f 2
+";
+
+// The controls that are set, and the eight bytes.
+const BLOCKS: [(u8, [u8; 8]); 5] = [
+    (0x1f, [0x0d, 0x00, 0x01, 0x00, 0x1f, 0x00, 0x1f, 0x00]),
+    (0x1e, [0x0d, 0x00, 0x01, 0x00, 0x1f, 0x00, 0x1e, 0x00]),
+    (0x1d, [0x0d, 0x00, 0x01, 0x00, 0x1f, 0x00, 0x1d, 0x00]),
+    (0x16, [0x0d, 0x00, 0x01, 0x00, 0x1f, 0x00, 0x16, 0x00]),
+    (0x00, [0x0d, 0x00, 0x01, 0x00, 0x1f, 0x00, 0x00, 0x00]),
+];
+
+#[test]
+fn a_block_is_eight_bytes_of_which_the_controls_are_the_seventh(
+    rt: HostRuntime,
+) -> Result<(), Fail> {
+    for (bits, bytes) in BLOCKS {
+        let control = AcsControl::from_register(bits).ok_or("no controls")?;
+        assert_eq!(rt; AcsBlock::new(control).bytes(), bytes);
+    }
+    Ok(())
+}
+
+fn port_of(layout: &Layout, id: u16) -> Option<PortLine> {
+    let id = PortId::new(Bdf::from_bits(id));
+    layout.ports().iter().find(|port| port.id == id).copied()
+}
+
+fn request(requester: u16) -> Header {
+    Header::OtherRequest {
+        requester: Bdf::from_bits(requester),
+    }
+}
+
+fn translated_write(requester: u16) -> Header {
+    Header::Memory {
+        requester: Bdf::from_bits(requester),
+        address_type: AddressType::Translated,
+        address: 0x1000,
+    }
+}
+
+fn completion(relaxed_ordering: bool) -> Header {
+    Header::Completion {
+        target: Bdf::from_bits(0x0700),
+        relaxed_ordering,
+    }
+}
+
+const SPOOFED: Verdict = Verdict::Violation(Check::SourceValidation);
+
+const TRANSLATED: Verdict = Verdict::Violation(Check::TranslationBlocking);
+
+#[test]
+fn the_bus_of_the_requester_is_tested_and_then_the_address_type(
+    rt: HostRuntime,
+) -> Result<(), Fail> {
+    let layout = Layout::read(rt.alloc(), EXAMPLE)?;
+    let port = port_of(&layout, 0x0210).ok_or("no port")?;
+    assert_eq!(rt; vet(&port, &request(0x09ff)), Verdict::Pass);
+    assert_eq!(rt; vet(&port, &request(0x0a00)), SPOOFED);
+    let port = port_of(&layout, 0x0208).ok_or("no port")?;
+    assert_eq!(rt; vet(&port, &request(0x051d)), Verdict::Pass);
+    let port = port_of(&layout, 0x0500).ok_or("no port")?;
+    assert_eq!(rt; vet(&port, &translated_write(0x0300)), SPOOFED);
+    assert_eq!(rt; vet(&port, &translated_write(0x0600)), TRANSLATED);
+    Ok(())
+}
+
+#[test]
+fn a_guarded_port_sends_all_up_but_relaxed_completions(rt: HostRuntime) -> Result<(), Fail> {
+    let layout = Layout::read(rt.alloc(), EXAMPLE)?;
+    let port = port_of(&layout, 0x0500).ok_or("no port")?;
+    let beside = Route::Port(PortId::new(Bdf::from_bits(0x0508)));
+    assert_eq!(rt; redirect(&port, beside, &request(0x0600)), Route::Up);
+    assert_eq!(rt; redirect(&port, beside, &completion(false)), Route::Up);
+    assert_eq!(rt; redirect(&port, beside, &completion(true)), beside);
+    assert_eq!(rt;
+        redirect(&port, Route::OwnEgress, &request(0x0600)),
+        Route::Up
+    );
+    guarded_requests_go_up();
+    guarded_completions_go_up();
+    Ok(())
+}

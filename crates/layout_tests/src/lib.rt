@@ -1,0 +1,23 @@
+//! Tests of what is read of texts and of what stands for a layout's ports, by their public calls.
+#![tactic(auto)]
+
+#[cfg(test)]
+mod access_control;
+#[cfg(test)]
+mod layouts;
+#[cfg(test)]
+mod links;
+#[cfg(test)]
+mod memory;
+#[cfg(test)]
+mod routes;
+#[cfg(test)]
+mod scripts;
+#[cfg(test)]
+mod statements;
+#[cfg(test)]
+mod tables;
+#[cfg(test)]
+mod texts;
+#[cfg(test)]
+mod violations;

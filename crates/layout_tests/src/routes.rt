@@ -1,0 +1,62 @@
+use bridge::{Bridge, Route};
+use fab_types::{AddressType, Bdf, Header, PortId};
+use layout::Layout;
+use std::test::Fail;
+
+/// A tree of two switches: two domains, four functions.
+const EXAMPLE: &str = "pciefab 1
+frames 4
+switch 01:00.0 root
+port 02:00.0 03 03 90000000 900fffff 1f 1
+port 02:01.0 04 07 90100000 902fffff 1f 2
+port 02:02.0 08 09 90300000 903fffff 1f 1
+switch 04:00.0 02:01.0
+port 05:00.0 06 06 90100000 901fffff 1f 2
+port 05:01.0 07 07 90200000 902fffff 1f 2
+function 03:00.0 90000000
+function 06:00.0 90100000
+function 07:00.0 90200000
+function 08:00.0 90300000
+";
+
+fn port(id: u16) -> PortId {
+    PortId::new(Bdf::from_bits(id))
+}
+
+fn request(address: u64) -> Header {
+    Header::Memory {
+        requester: Bdf::from_bits(0x0600),
+        address_type: AddressType::Untranslated,
+        address,
+    }
+}
+
+fn completion(target: u16) -> Header {
+    Header::Completion {
+        target: Bdf::from_bits(target),
+        relaxed_ordering: false,
+    }
+}
+
+#[test]
+fn packets_go_to_the_port_that_has_their_target_below(rt: HostRuntime) -> Result<(), Fail> {
+    let layout = Layout::read(rt.alloc(), EXAMPLE)?;
+    let bridge = Bridge::new(rt.alloc(), &layout)?;
+    let route = |ingress: u16, header: Header| bridge.route(port(ingress), &header);
+    assert_eq!(rt;
+        route(0x0500, request(0x9020_0000)),
+        Route::Port(port(0x0508))
+    );
+    assert_eq!(rt; route(0x0500, request(0x9000_0000)), Route::Up);
+    assert_eq!(rt; route(0x0208, request(0x9020_0000)), Route::OwnEgress);
+    assert_eq!(rt;
+        route(0x0100, request(0x9030_0000)),
+        Route::Port(port(0x0210))
+    );
+    assert_eq!(rt; route(0x0100, request(0x9040_0000)), Route::Nobody);
+    assert_eq!(rt;
+        route(0x0100, completion(0x0918)),
+        Route::Port(port(0x0210))
+    );
+    Ok(())
+}

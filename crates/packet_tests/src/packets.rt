@@ -1,0 +1,336 @@
+ghost use Rattle.std.specs.Prelude.{◌≡◌, ◌%◌};
+
+use fab_types::{AddressType, Bdf, Class, Malformed, Status};
+use std::process::Abort;
+use std::test::Fail;
+use tlp_view::{
+    Attributes, CompletionHead, CplBuf, Enables, Kind, RequestBuf, RequestHead, TlpView,
+    completion_spelled, cost, read_request_spelled, runs_within, spelled_once, well_formed_sound,
+    well_formed_spelled, write_request_spelled,
+};
+
+// A memory write of one DW to 1000h, by 03:00.0.
+const WRITE: [u8; 16] = [
+    0x40, 0, 0, 1, 3, 0, 0x2f, 0x0f, 0, 0, 0x10, 0, 0x11, 0x22, 0x33, 0x44,
+];
+
+// A memory read of one DW at 1000h, by 03:00.0 with Tag 20h.
+const READ: [u8; 12] = [0, 0, 0, 1, 3, 0, 0x20, 0x0f, 0, 0, 0x10, 0];
+
+fn refused(rt: &impl Abort, bytes: &[u8], cause: Malformed) {
+    assert_eq!(rt; TlpView::read(bytes).err(), Some(cause));
+}
+
+#[test]
+fn each_cause_is_named(rt: HostRuntime) {
+    refused(
+        &rt,
+        &[0x60, 0, 0, 1, 3, 0, 0, 0x0f, 0, 0, 0x10, 0],
+        Malformed::Short,
+    );
+    refused(
+        &rt,
+        &[0x80, 0, 0, 0, 0, 0, 0, 0, 0, 0, 0, 0],
+        Malformed::Kind,
+    );
+    refused(
+        &rt,
+        &[0x40, 0, 0, 2, 3, 0, 0, 0xff, 0, 0, 0x10, 0, 1, 2, 3, 4],
+        Malformed::Size,
+    );
+    refused(
+        &rt,
+        &[
+            0x40, 0, 0, 1, 3, 0, 0, 0xff, 0, 0, 0x10, 0, 0x11, 0x22, 0x33, 0x44,
+        ],
+        Malformed::Enables,
+    );
+    refused(
+        &rt,
+        &[
+            0x60, 0, 0, 1, 3, 0, 0, 0x0f, 0, 0, 0, 0, 0, 0, 0x10, 0, 0x11, 0x22, 0x33, 0x44,
+        ],
+        Malformed::HighForm,
+    );
+    refused(
+        &rt,
+        &[
+            0x40, 0x10, 0, 1, 3, 0, 0, 0x0f, 0, 0, 0x10, 0, 0x11, 0x22, 0x33, 0x44,
+        ],
+        Malformed::Field,
+    );
+}
+
+#[test]
+fn enables_are_tested_before_the_page(rt: HostRuntime) {
+    let mut bytes = [
+        0x40, 0, 0, 2, 3, 0, 0, 0x66, 0, 0, 0x1f, 0xfc, 1, 2, 3, 4, 5, 6, 7, 8,
+    ];
+    refused(&rt, &bytes, Malformed::Enables);
+    bytes[7] = 0xff;
+    refused(&rt, &bytes, Malformed::Crosses);
+}
+
+#[test]
+fn a_payload_of_65_dw_is_refused(rt: HostRuntime) {
+    let mut bytes = [0; 272];
+    bytes[0] = 0x40;
+    bytes[3] = 65;
+    bytes[4] = 3;
+    bytes[7] = 0xff;
+    bytes[10] = 0x10;
+    refused(&rt, &bytes, Malformed::Size);
+}
+
+#[test]
+fn a_write_gives_its_fields(rt: HostRuntime) -> Result<(), Fail> {
+    let packet = TlpView::read(&WRITE).ok().ok_or("a packet")?;
+    assert_eq!(rt; packet.kind(), Kind::MWr);
+    assert_eq!(rt; packet.class(), Class::Posted);
+    assert_eq!(rt; packet.requester(), Bdf::from_bits(0x0300));
+    assert_eq!(rt; packet.tag(), 0x2f);
+    assert_eq!(rt; packet.address(), Some(0x1000));
+    assert_eq!(rt; packet.at(), Some(AddressType::Untranslated));
+    assert_eq!(rt;
+        packet.attr(),
+        Attributes {
+            id_based_ordering: false,
+            relaxed_ordering: false,
+            no_snoop: false
+        }
+    );
+    assert_eq!(rt; packet.enables(), Some(Enables { first: 15, last: 0 }));
+    assert_eq!(rt; packet.length(), Some(1));
+    assert_eq!(rt; packet.status(), None);
+    assert_eq!(rt; packet.byte_count(), None);
+    assert_eq!(rt; packet.lower_address(), None);
+    assert_eq!(rt; packet.payload(), &WRITE[12..]);
+    assert_eq!(rt; packet.cost().data, 1);
+    assert_eq!(rt; cost(&WRITE[..15]).class, Class::Posted);
+    assert_eq!(rt; cost(&WRITE[..15]).data, 0);
+    Ok(())
+}
+
+#[test]
+fn runs_are_the_enabled_bytes(rt: HostRuntime) -> Result<(), Fail> {
+    let bytes = [
+        0x40, 0, 0, 2, 3, 0, 0, 0x5a, 0, 0, 0x10, 0, 1, 2, 3, 4, 5, 6, 7, 8,
+    ];
+    let packet = TlpView::read(&bytes).ok().ok_or("a packet")?;
+    let mut runs = packet.runs();
+    assert_eq!(rt; runs.next(), Some((1, [2].as_slice())));
+    assert_eq!(rt; runs.next(), Some((3, [4, 5].as_slice())));
+    assert_eq!(rt; runs.next(), Some((6, [7].as_slice())));
+    assert_eq!(rt; runs.next(), None);
+    let (before, after) = packet.split_at_dword(1).ok_or("two DW")?;
+    assert_eq!(rt; before, [1, 2, 3, 4].as_slice());
+    assert_eq!(rt; after, [5, 6, 7, 8].as_slice());
+    assert!(rt; packet.split_at_dword(3).is_none());
+    Ok(())
+}
+
+#[test]
+fn a_long_write_has_one_run(rt: HostRuntime) -> Result<(), Fail> {
+    let mut bytes = [9; 12 + 16];
+    for (i, byte) in [0x40, 0, 0, 4, 3, 0, 0, 0x7c, 0, 0, 0x10, 0]
+        .iter()
+        .enumerate()
+    {
+        if i < bytes.len() {
+            bytes[i] = *byte;
+        }
+    }
+    let packet = TlpView::read(&bytes).ok().ok_or("a packet")?;
+    let mut runs = packet.runs();
+    assert_eq!(rt; runs.next(), Some((2, [9; 13].as_slice())));
+    assert_eq!(rt; runs.next(), None);
+    Ok(())
+}
+
+// What a header log of a real machine holds, with 0 for its payload, and what it is known to be.
+#[derive(Drop)]
+struct Logged {
+    bytes: &'static [u8],
+    kind: Kind,
+    requester: u16,
+    tag: u8,
+    enables: Option<Enables>,
+    address: Option<u64>,
+}
+
+const FIRST_DW: Option<Enables> = Some(Enables { first: 15, last: 0 });
+
+#[test]
+fn logged_headers_are_read(rt: HostRuntime) -> Result<(), Fail> {
+    let rows = [
+        Logged {
+            bytes: &[0x40, 0, 0, 1, 0, 0, 0, 0x0f, 0xfe, 0xc3, 0, 0, 0, 0, 0, 0],
+            kind: Kind::MWr,
+            requester: 0,
+            tag: 0,
+            enables: FIRST_DW,
+            address: Some(0xfec3_0000),
+        },
+        Logged {
+            bytes: &[
+                0x60, 0, 0, 1, 0, 0, 2, 0x0f, 0, 0, 0x2f, 0xf8, 0, 0, 0, 0, 0, 0, 0, 0,
+            ],
+            kind: Kind::MWr,
+            requester: 0,
+            tag: 2,
+            enables: FIRST_DW,
+            address: Some(0x2ff8_0000_0000),
+        },
+        Logged {
+            bytes: &[4, 0, 0, 1, 0, 0, 7, 1, 2, 1, 0, 0x34],
+            kind: Kind::CfgRd0,
+            requester: 0,
+            tag: 7,
+            enables: None,
+            address: None,
+        },
+        Logged {
+            bytes: &[4, 0, 0, 1, 0, 0x18, 0, 3, 4, 1, 0, 0],
+            kind: Kind::CfgRd0,
+            requester: 0x0018,
+            tag: 0,
+            enables: None,
+            address: None,
+        },
+        Logged {
+            bytes: &[4, 0, 0, 1, 0, 0x20, 0x0a, 3, 5, 1, 0, 0],
+            kind: Kind::CfgRd0,
+            requester: 0x0020,
+            tag: 0x0a,
+            enables: None,
+            address: None,
+        },
+    ];
+    for row in &rows {
+        let packet = TlpView::read(row.bytes).ok().ok_or("a packet")?;
+        assert_eq!(rt; packet.kind(), row.kind);
+        assert_eq!(rt; packet.length(), Some(1));
+        assert_eq!(rt; packet.requester().bits(), row.requester);
+        assert_eq!(rt; packet.tag(), row.tag);
+        assert_eq!(rt; packet.enables(), row.enables);
+        assert_eq!(rt; packet.address(), row.address);
+    }
+    Ok(())
+}
+
+fn answer_to(request: &TlpView) -> Option<CplBuf> {
+    match request.length() {
+        Some(count) if count <= 64 => {
+            let head = CompletionHead::of_read(Bdf::from_bits(0), request);
+            Some(CplBuf::new(head, usize::from(count)))
+        }
+        _ => None,
+    }
+}
+
+#[test]
+fn a_read_is_completed(rt: HostRuntime) -> Result<(), Fail> {
+    let request = TlpView::read(&READ).ok().ok_or("a packet")?;
+    let mut answer = answer_to(&request).ok_or("a short read")?;
+    assert_eq!(rt; answer.payload_mut().len(), 4);
+    answer
+        .payload_mut()
+        .copy_from_slice(&[0x11, 0x22, 0x33, 0x44]);
+    let bytes = [
+        0x4a, 0, 0, 1, 0, 0, 0, 4, 3, 0, 0x20, 0, 0x11, 0x22, 0x33, 0x44,
+    ];
+    assert_eq!(rt; answer.bytes(), bytes.as_slice());
+    let packet = TlpView::read(answer.bytes()).ok().ok_or("a completion")?;
+    assert_eq!(rt; packet.status(), Some(Status::SC));
+    assert_eq!(rt; packet.byte_count(), Some(4));
+    assert_eq!(rt; packet.lower_address(), Some(0));
+    Ok(())
+}
+
+#[test]
+fn a_request_is_refused(rt: HostRuntime) -> Result<(), Fail> {
+    let mut bytes = READ;
+    bytes[6] = 0x23;
+    let request = TlpView::read(&bytes).ok().ok_or("a packet")?;
+    let head = CompletionHead::of_refusal(Bdf::from_bits(0), Status::UR, &request);
+    let answer = CplBuf::new(head, 0);
+    assert_eq!(rt;
+        answer.bytes(),
+        [0x0a, 0, 0, 0, 0, 0, 0x20, 4, 3, 0, 0x23, 0].as_slice()
+    );
+    Ok(())
+}
+
+#[test]
+fn requests_are_made(rt: HostRuntime) -> Result<(), Fail> {
+    let enables = Enables::all(1);
+    let attributes = Attributes {
+        id_based_ordering: false,
+        relaxed_ordering: true,
+        no_snoop: false,
+    };
+    let head = RequestHead {
+        requester: Bdf::from_bits(0x0300),
+        tag: 0x20,
+        enables,
+        address: 0x1000,
+        address_type: AddressType::Untranslated,
+        attributes,
+    };
+    let high = RequestHead {
+        requester: Bdf::from_bits(0x0300),
+        tag: 0,
+        enables,
+        address: 0x1_0000_0000,
+        address_type: AddressType::Untranslated,
+        attributes,
+    };
+    let read = RequestBuf::read(head, 1);
+    assert_eq!(rt;
+        read.bytes(),
+        [0, 0, 0x20, 1, 3, 0, 0x20, 0x0f, 0, 0, 0x10, 0].as_slice()
+    );
+    let write = RequestBuf::write(high, &[0x11, 0x22, 0x33, 0x44]);
+    let bytes = [
+        0x60, 0, 0x20, 1, 3, 0, 0, 0x0f, 0, 0, 0, 1, 0, 0, 0, 0, 0x11, 0x22, 0x33, 0x44,
+    ];
+    assert_eq!(rt; write.bytes(), bytes.as_slice());
+    let packet = TlpView::read(write.bytes()).ok().ok_or("a write")?;
+    assert_eq!(rt; packet.address(), Some(0x1_0000_0000));
+    assert!(rt; packet.attr().relaxed_ordering);
+    Ok(())
+}
+
+// The same request in another page.
+fn moved_to(request: &TlpView, page: u32) -> Option<RequestBuf>
+    requires { page % 4096 ≡ 0 }
+{
+    if request.kind().is_memory() {
+        let address = u64::from(page) + request.address().unwrap_or(0) % 4096;
+        Some(RequestBuf::moved(request, address))
+    } else {
+        None
+    }
+}
+
+#[test]
+fn a_request_is_moved(rt: HostRuntime) -> Result<(), Fail> {
+    let request = TlpView::read(&WRITE).ok().ok_or("a packet")?;
+    let moved = moved_to(&request, 0x9030_0000).ok_or("a memory request")?;
+    let bytes = [
+        0x40, 0, 0, 1, 3, 0, 0x2f, 0x0f, 0x90, 0x30, 0, 0, 0x11, 0x22, 0x33, 0x44,
+    ];
+    assert_eq!(rt; moved.bytes(), bytes.as_slice());
+    Ok(())
+}
+
+#[test]
+fn the_laws_are_called() {
+    spelled_once();
+    well_formed_spelled();
+    well_formed_sound();
+    runs_within();
+    completion_spelled();
+    read_request_spelled();
+    write_request_spelled();
+}
