@@ -30,10 +30,37 @@ fn with_controls(alloc: Global, text: &str, line: &str, controls: &str) -> Resul
     Ok(format!(in alloc; "{front}{line} {controls}{back}")?)
 }
 
+fn layout_of(alloc: Global, row: &Row<'_>) -> Result<String, Fail> {
+    let layout = with_controls(alloc, PLATFORM, UPPER, row.upper)?;
+    with_controls(alloc, layout.as_str(), LOWER, row.lower)
+}
+
+/// What the run prints, and each domain alone.
+#[derive(Drop)]
+struct Outputs {
+    run: String,
+    first: String,
+    second: String,
+}
+
+fn outputs_of<R: Wait>(rt: &R, alloc: Global, files: &Texts<'_>) -> Result<Outputs, Fail> {
+    Ok(Outputs {
+        run: ended(rt, alloc, &["run", "layout", "script"], files)?.out,
+        first: ended(rt, alloc, &["alone", "layout", "script", "1"], files)?.out,
+        second: ended(rt, alloc, &["alone", "layout", "script", "2"], files)?.out,
+    })
+}
+
+fn are_as_told(alloc: Global, outputs: &Outputs, row: &Row<'_>) -> Result<bool, Fail> {
+    let (before, part_1, part_2) = (row.before, row.part_1, row.part_2);
+    let whole = format!(in alloc; "{before}{part_1}{part_2}")?;
+    let is_whole = outputs.run == whole;
+    Ok(is_whole && outputs.first.as_str() == part_1 && outputs.second.as_str() == part_2)
+}
+
 /// What the run prints, and each domain alone, where these are not what the row says.
 fn unlike<R: Wait>(rt: &R, alloc: Global, row: &Row<'_>) -> Result<Option<String>, Fail> {
-    let layout = with_controls(alloc, PLATFORM, UPPER, row.upper)?;
-    let layout = with_controls(alloc, layout.as_str(), LOWER, row.lower)?;
+    let layout = layout_of(alloc, row)?;
     let packet = row.packet;
     let script = format!(in alloc; "submit 06:00.0 {packet}\nsweep 1000\n")?;
     let files = Texts {
@@ -41,14 +68,11 @@ fn unlike<R: Wait>(rt: &R, alloc: Global, row: &Row<'_>) -> Result<Option<String
         layout: layout.as_bytes(),
         script: script.as_bytes(),
     };
-    let run = ended(rt, alloc, &["run", "layout", "script"], &files)?.out;
-    let first = ended(rt, alloc, &["alone", "layout", "script", "1"], &files)?.out;
-    let second = ended(rt, alloc, &["alone", "layout", "script", "2"], &files)?.out;
-    let (before, part_1, part_2) = (row.before, row.part_1, row.part_2);
-    let whole = format!(in alloc; "{before}{part_1}{part_2}")?;
-    if run == whole && first.as_str() == part_1 && second.as_str() == part_2 {
+    let outputs = outputs_of(rt, alloc, &files)?;
+    if are_as_told(alloc, &outputs, row)? {
         return Ok(None);
     }
+    let (run, first, second) = (&outputs.run, &outputs.first, &outputs.second);
     Ok(Some(format!(in alloc; "{run}----\n{first}----\n{second}")?))
 }
 

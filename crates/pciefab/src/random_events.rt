@@ -110,6 +110,29 @@ impl Scene<'_> {
     }
 }
 
+/// The events of a sweep of this layout.
+fn moves_of(alloc: Global, layout: &Layout) -> Result<Vec<Event>, Fail> {
+    let fabric = Fabric::new(alloc, layout)?;
+    let moves = sweep_events(alloc, layout, fabric.domains())?;
+    Ok(moves)
+}
+
+fn empty_scene<'a>(
+    alloc: Global,
+    text: &str,
+    functions: &'a [Function],
+) -> Result<Scene<'a>, Fail> {
+    let layout = Layout::read(alloc, text).map_err(|_| "a layout")?;
+    let moves = moves_of(alloc, &layout)?;
+    Ok(Scene {
+        alloc,
+        layout,
+        functions,
+        moves,
+        events: Vec::new(alloc),
+    })
+}
+
 /// A random list of events over this layout.
 fn random_scene<'a>(
     alloc: Global,
@@ -117,16 +140,7 @@ fn random_scene<'a>(
     text: &str,
     functions: &'a [Function],
 ) -> Result<Scene<'a>, Fail> {
-    let layout = Layout::read(alloc, text).map_err(|_| "a layout")?;
-    let fabric = Fabric::new(alloc, &layout)?;
-    let moves = sweep_events(alloc, &layout, fabric.domains())?;
-    let mut scene = Scene {
-        alloc,
-        layout,
-        functions,
-        moves,
-        events: Vec::new(alloc),
-    };
+    let mut scene = empty_scene(alloc, text, functions)?;
     for _ in 0..150 {
         if dice.is_once_in(4) {
             scene.add_begin(dice)?;
@@ -222,17 +236,32 @@ fn both_runs<R: Wait>(
     purge_run(rt, scene.alloc, &scene.layout, &scene.events, number)
 }
 
-/// Runs the list with and without the events of others than this domain. None where it is not the same.
-fn purged<R: Wait>(rt: &R, scene: &Scene<'_>, number: DomainId) -> Result<Option<Tally>, Fail> {
-    let (whole, left) = both_runs(rt, scene, number).map_err(|_| "two fabrics")?;
-    if !has_same(scene.alloc, &whole, &left, number)? {
+fn entries(fabric: &Fabric, number: DomainId) -> Option<usize> {
+    Some(fabric.domain(number)?.journal().len())
+}
+
+/// What the domain did in these runs. None where it is not the same in both.
+fn tally_of(
+    alloc: Global,
+    whole: &Fabric,
+    left: &Fabric,
+    number: DomainId,
+) -> Result<Option<Tally>, Fail> {
+    if !has_same(alloc, whole, left, number)? {
         return Ok(None);
     }
-    let domain = whole.domain(number).ok_or("a domain")?;
     Ok(Some(Tally {
-        entries: domain.journal().len(),
-        begins: begins(&whole).wrapping_sub(begins(&left)),
+        entries: entries(whole, number).ok_or("a domain")?,
+        begins: begins(whole).wrapping_sub(begins(left)),
     }))
+}
+
+/// Runs the list with and without the events of others than this domain. None where it is not the same.
+fn purged<R: Wait>(rt: &R, scene: &Scene<'_>, number: DomainId) -> Result<Option<Tally>, Fail> {
+    match both_runs(rt, scene, number) {
+        Ok((whole, left)) => tally_of(scene.alloc, &whole, &left, number),
+        Err(_) => Err("two fabrics")?,
+    }
 }
 
 #[test]
