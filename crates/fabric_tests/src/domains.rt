@@ -5,6 +5,7 @@ use fab_types::{
 use frame_log::{Frame, FrameFault};
 use layout::Layout;
 use port::Desk;
+use std::alloc::Global;
 use std::sync::Wait;
 use std::test::Fail;
 use tenants::Tenants;
@@ -53,6 +54,13 @@ fn id(bits: u16) -> Bdf {
     Bdf::from_bits(bits)
 }
 
+/// The domains of this layout at their start. It and the helpers after it have no clauses: a test that calls them knows
+/// nothing of the domains, and so is proved in short time.
+fn start(alloc: Global, text: &str) -> Result<Tenants, Fail> {
+    let layout = Layout::read(alloc, text).ok().ok_or("a layout")?;
+    Ok(Tenants::new(alloc, &layout)?)
+}
+
 fn domain(tenants: &Tenants, number: u8) -> Option<&Domain> {
     tenants.domain(DomainId::new(number)?)
 }
@@ -69,10 +77,53 @@ fn told(record: Option<Record>) -> Option<(Origin, u8, Status)> {
     Some((record.owner(), record.tag(), record.status()))
 }
 
+/// How many entries the journal of a domain has.
+fn entries(tenants: &Tenants, number: u8) -> Option<usize> {
+    Some(domain(tenants, number)?.journal().len())
+}
+
+/// Does the first frame of memory of a domain begin with these bytes?
+fn begins_with(tenants: &Tenants, number: u8, bytes: &[u8]) -> Option<bool> {
+    let page = domain(tenants, number)?.frame(0)?;
+    Some(page.starts_with(bytes))
+}
+
+/// Has a domain bytes in flight under this number of a packet?
+fn has_bytes(tenants: &Tenants, number: u8, packet: u64) -> Option<bool> {
+    Some(domain(tenants, number)?.bytes(packet).is_some())
+}
+
+type Sent = Result<Option<Frame>, FrameFault>;
+
+fn submit<R: Wait>(
+    rt: &R,
+    tenants: &mut Tenants,
+    function: u16,
+    bytes: &[u8],
+) -> Result<Frame, SubmitFault> {
+    tenants.submit(rt, id(function), bytes)
+}
+
+fn tick<R: Wait>(rt: &R, tenants: &mut Tenants, function: u16) -> Result<Option<Frame>, TickFault> {
+    tenants.tick(rt, id(function))
+}
+
+fn carry<R: Wait>(rt: &R, tenants: &mut Tenants, frame: Frame) -> Sent {
+    tenants.carry(rt, frame)
+}
+
+fn refuse<R: Wait>(rt: &R, tenants: &mut Tenants, frame: Frame, port: u16) -> Sent {
+    tenants.refuse(rt, frame, PortId::new(id(port)))
+}
+
+fn deliver(tenants: &mut Tenants, answer: Frame) -> Result<Option<Record>, FrameFault> {
+    tenants.deliver(answer)
+}
+
 /// The host takes a packet, and what answers it is delivered.
 fn answered<R: Wait>(rt: &R, tenants: &mut Tenants, frame: Frame) -> Option<(Origin, u8, Status)> {
-    let answer = tenants.carry(rt, frame).ok()??;
-    told(tenants.deliver(answer).ok()?)
+    let answer = carry(rt, tenants, frame).ok()??;
+    told(deliver(tenants, answer).ok()?)
 }
 
 /// A port has a desk refuse a packet.
@@ -95,29 +146,32 @@ fn first_register<R: Wait>(
     Ok(tenants.mmio(rt, number, &access))
 }
 
+/// With the ID of a function of domain 1, a read of domain 2 is stopped at its first port, and its answer delivered.
+fn stopped<R: Wait>(rt: &R, tenants: &mut Tenants) -> Option<(Origin, u8, Status)> {
+    let spoof = submit(rt, tenants, 0x0600, &read(3, 6)).ok()?;
+    let answer = refused_at(rt, tenants, spoof)?;
+    told(deliver(tenants, answer).ok()?)
+}
+
 #[test]
 fn each_domain_counts_its_own_packets(rt: HostRuntime) -> Result<(), Fail> {
-    let layout = Layout::read(rt.alloc(), PLATFORM).ok().ok_or("a layout")?;
-    let mut tenants = Tenants::new(rt.alloc(), &layout)?;
+    let mut tenants = start(rt.alloc(), PLATFORM)?;
     assert_eq!(rt; tenants.domains().len(), 2);
     assert!(rt; domain(&tenants, 3).is_none());
 
     // Domain 1 writes to its page, domain 2 reads where nothing is mapped.
-    let write = tenants.submit(&rt, id(0x0300), &WRITE);
-    let read_two = tenants.submit(&rt, id(0x0600), &read(6, 5));
-    assert!(rt; tenants.carry(&rt, write.ok().ok_or("a write")?).is_ok());
+    let write = submit(&rt, &mut tenants, 0x0300, &WRITE);
+    let read_two = submit(&rt, &mut tenants, 0x0600, &read(6, 5));
+    assert!(rt; carry(&rt, &mut tenants, write.ok().ok_or("a write")?).is_ok());
     let unmapped = answered(&rt, &mut tenants, read_two.ok().ok_or("a read")?);
     assert_eq!(rt;
         unmapped,
         Some((Origin::Function(id(0x0600)), 5, Status::UR))
     );
 
-    // With the ID of a function of domain 1, a read of domain 2 is stopped at its first port.
-    let spoof = tenants.submit(&rt, id(0x0600), &read(3, 6));
-    let answer = refused_at(&rt, &mut tenants, spoof.ok().ok_or("a read")?);
-    let stopped = tenants.deliver(answer.ok_or("an answer")?).ok();
+    let stopped = stopped(&rt, &mut tenants);
     assert_eq!(rt;
-        told(stopped.ok_or("a record")?),
+        stopped,
         Some((Origin::Function(id(0x0600)), 6, Status::CA))
     );
 
@@ -128,8 +182,7 @@ fn each_domain_counts_its_own_packets(rt: HostRuntime) -> Result<(), Fail> {
 
 #[test]
 fn a_host_reaches_the_functions_of_its_domain_alone(rt: HostRuntime) -> Result<(), Fail> {
-    let layout = Layout::read(rt.alloc(), PLATFORM).ok().ok_or("a layout")?;
-    let mut tenants = Tenants::new(rt.alloc(), &layout)?;
+    let mut tenants = start(rt.alloc(), PLATFORM)?;
     let own = first_register(&rt, &mut tenants, 1)?;
     let host = Origin::Host(DomainId::new(1).ok_or("a number")?);
     assert_eq!(rt;
@@ -145,22 +198,31 @@ fn a_host_reaches_the_functions_of_its_domain_alone(rt: HostRuntime) -> Result<(
 
 #[test]
 fn what_is_of_no_domain_is_refused(rt: HostRuntime) -> Result<(), Fail> {
-    let layout = Layout::read(rt.alloc(), PLATFORM).ok().ok_or("a layout")?;
-    let mut tenants = Tenants::new(rt.alloc(), &layout)?;
-    assert!(rt; matches!(tenants.tick(&rt, id(0x0700)), Ok(None)));
-    assert!(rt; tenants.tick(&rt, id(0x0200)).err() == Some(TickFault::NoFunction));
-    assert!(rt; tenants.submit(&rt, id(0x0200), &WRITE).err() == Some(SubmitFault::NoFunction));
-    let write = tenants.submit(&rt, id(0x0300), &WRITE);
+    let mut tenants = start(rt.alloc(), PLATFORM)?;
+    assert!(rt; matches!(tick(&rt, &mut tenants, 0x0700), Ok(None)));
+    assert!(rt; tick(&rt, &mut tenants, 0x0200).err() == Some(TickFault::NoFunction));
+    assert!(rt; submit(&rt, &mut tenants, 0x0200, &WRITE).err() == Some(SubmitFault::NoFunction));
+    let write = submit(&rt, &mut tenants, 0x0300, &WRITE);
 
     // A write is no completion.
-    let stray = tenants.deliver(write.ok().ok_or("a write")?);
+    let stray = deliver(&mut tenants, write.ok().ok_or("a write")?);
     let Err(FrameFault::Stray(write)) = stray else {
         return Err(Fail::from("no stray"));
     };
-    assert!(rt; tenants.refuse(&rt, write, PortId::new(id(0x0200))).is_err());
+    assert!(rt; refuse(&rt, &mut tenants, write, 0x0200).is_err());
     assert_eq!(rt; counts(&tenants, 1), Some((1, 0)));
     assert_eq!(rt; counts(&tenants, 2), Some((1, 0)));
     Ok(())
+}
+
+fn alien<R: Wait>(
+    rt: &R,
+    tenants: &mut Tenants,
+    owner: DomainId,
+    place: Place,
+    frame: Frame,
+) -> Sent {
+    tenants.alien(rt, owner, place, frame)
 }
 
 /// The queue of the host.
@@ -173,54 +235,49 @@ fn at_host() -> Place {
 
 #[test]
 fn a_write_in_the_name_of_another_domain_is_its_entry(rt: HostRuntime) -> Result<(), Fail> {
-    let layout = Layout::read(rt.alloc(), OPEN).ok().ok_or("a layout")?;
-    let mut tenants = Tenants::new(rt.alloc(), &layout)?;
+    let mut tenants = start(rt.alloc(), OPEN)?;
     let owner = tenants.owner_of_frame(0).ok_or("an owner")?;
     assert_eq!(rt; owner, DomainId::new(1).ok_or("a number")?);
     assert!(rt; tenants.owner_of_frame(1).is_none());
 
     // Function 06:00.0 of domain 2 writes with the ID of 03:00.0 of domain 1.
-    let write = tenants.submit(&rt, id(0x0600), &WRITE);
+    let write = submit(&rt, &mut tenants, 0x0600, &WRITE);
     let write = write.ok().ok_or("a write")?;
     let number = write.number();
     assert!(rt; !tenants.answers_alien(owner, at_host(), &write));
-    let sent = tenants.alien(&rt, owner, at_host(), write);
+    let sent = alien(&rt, &mut tenants, owner, at_host(), write);
     assert!(rt; matches!(sent, Ok(None)));
 
-    let one = domain(&tenants, 1).ok_or("domain 1")?;
-    assert_eq!(rt; one.journal().len(), 1);
-    let page = one.frame(0).ok_or("its frame")?;
-    assert!(rt; page.starts_with(&[0x11, 0x22, 0x33, 0x44]));
-    let two = domain(&tenants, 2).ok_or("domain 2")?;
-    assert_eq!(rt; two.journal().len(), 1);
-    assert!(rt; two.bytes(number).is_some());
+    assert_eq!(rt; entries(&tenants, 1), Some(1));
+    let page = begins_with(&tenants, 1, &[0x11, 0x22, 0x33, 0x44]);
+    assert!(rt; page.ok_or("its frame")?);
+    assert_eq!(rt; entries(&tenants, 2), Some(1));
+    assert_eq!(rt; has_bytes(&tenants, 2, number), Some(true));
     Ok(())
 }
 
 #[test]
 fn a_read_taken_by_a_function_of_another_domain_is_answered(rt: HostRuntime) -> Result<(), Fail> {
-    let layout = Layout::read(rt.alloc(), OPEN).ok().ok_or("a layout")?;
-    let mut tenants = Tenants::new(rt.alloc(), &layout)?;
+    let mut tenants = start(rt.alloc(), OPEN)?;
     let place = Place::Ingress(Direction {
         lower: id(0x0300),
         way: Way::Down,
     });
 
     // Page 1 is no register page: the function answers that it knows no such address.
-    let request = tenants.submit(&rt, id(0x0600), &read(6, 5));
+    let request = submit(&rt, &mut tenants, 0x0600, &read(6, 5));
     let request = request.ok().ok_or("a read")?;
     let owner = DomainId::new(1).ok_or("a number")?;
     assert!(rt; tenants.answers_alien(owner, place, &request));
-    let sent = tenants.alien(&rt, owner, place, request);
+    let sent = alien(&rt, &mut tenants, owner, place, request);
     let answer = sent.ok().ok_or("a legal entry")?.ok_or("an answer")?;
     assert_eq!(rt; answer.domain(), owner);
 
     // In a guarded layout there is no such entry.
-    let layout = Layout::read(rt.alloc(), PLATFORM).ok().ok_or("a layout")?;
-    let mut tenants = Tenants::new(rt.alloc(), &layout)?;
-    let request = tenants.submit(&rt, id(0x0600), &read(6, 5));
+    let mut tenants = start(rt.alloc(), PLATFORM)?;
+    let request = submit(&rt, &mut tenants, 0x0600, &read(6, 5));
     let request = request.ok().ok_or("a read")?;
-    let sent = tenants.alien(&rt, owner, place, request);
+    let sent = alien(&rt, &mut tenants, owner, place, request);
     assert!(rt; matches!(sent, Err(FrameFault::Stray(_))));
     assert_eq!(rt; counts(&tenants, 2), Some((1, 0)));
     Ok(())

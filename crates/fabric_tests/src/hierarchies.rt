@@ -2,13 +2,14 @@ ghost use Rattle.std.specs.Prelude.{⊤};
 
 use fab_types::Class::Posted;
 use fab_types::{
-    AddressType, Bdf, Check, Cost, Direction, DomainId, Head, Header, Outcome, Parties, Place,
-    PortId, Violation, Way,
+    AddressType, Bdf, Check, Class, Cost, Direction, DomainId, Head, Header, Outcome, Parties,
+    Place, PortId, Violation, Way,
 };
 use frame_log::{Frame, FrameFault, Log};
-use hierarchy::Hierarchy;
+use hierarchy::{Hierarchy, Lost};
 use layout::Layout;
 use port::{Desk, Reports};
+use std::alloc::Global;
 use std::sync::Wait;
 use std::test::Fail;
 
@@ -58,46 +59,107 @@ fn from(lower: u16, way: Way) -> Direction {
     }
 }
 
-#[test]
-fn a_packet_of_a_function_is_sent_received_and_taken(rt: HostRuntime) -> Result<(), Fail> {
-    let log = Log::new(rt.alloc())?;
-    let layout = Layout::read(rt.alloc(), PLATFORM).map_err(|_| "a layout")?;
-    let mut hierarchy = Hierarchy::new(rt.alloc(), &layout)?;
-    let up = from(FUNCTION, Way::Up);
-    let Some(end) = hierarchy.sender(up) else {
+/// The hierarchy of a layout's text, and a log that is empty.
+fn start(alloc: Global, text: &str) -> Result<(Log, Hierarchy), Fail> {
+    let log = Log::new(alloc)?;
+    let layout = Layout::read(alloc, text).map_err(|_| "a layout")?;
+    Ok((log, Hierarchy::new(alloc, &layout)?))
+}
+
+/// Puts a packet where those of this direction are sent from.
+fn put(hierarchy: &mut Hierarchy, direction: Direction, frame: Frame) -> Result<(), Fail> {
+    let Some(end) = hierarchy.sender(direction) else {
         return Err("a sender")?;
     };
+    if hierarchy.is_full_at(end, frame.head().cost.class) {
+        return Err("a place")?;
+    }
+    hierarchy.put_at(end, frame);
+    Ok(())
+}
+
+/// The head of the eligible packet at the receiver of this direction.
+fn waiting(
+    hierarchy: &mut Hierarchy,
+    direction: Direction,
+    class: Class,
+) -> Result<Option<Head>, Fail> {
+    let Some(there) = hierarchy.sender(direction) else {
+        return Err("a sender")?;
+    };
+    Ok(hierarchy.head_at(there, class))
+}
+
+/// The number of the eligible packet at the receiver of this direction, which is taken.
+fn taken(
+    hierarchy: &mut Hierarchy,
+    direction: Direction,
+    class: Class,
+) -> Result<Option<u64>, Fail> {
+    let Some(end) = hierarchy.sender(direction) else {
+        return Err("a sender")?;
+    };
+    Ok(hierarchy.take_at(end, class).map(|frame| frame.number()))
+}
+
+/// Takes that packet, if there is one, and puts it back.
+fn is_put_back(
+    hierarchy: &mut Hierarchy,
+    direction: Direction,
+    class: Class,
+) -> Result<bool, Fail> {
+    let Some(end) = hierarchy.sender(direction) else {
+        return Err("a sender")?;
+    };
+    let Some(frame) = hierarchy.take_at(end, class) else {
+        return Ok(false);
+    };
+    hierarchy.put_back_at(end, frame);
+    Ok(true)
+}
+
+fn sends(hierarchy: &mut Hierarchy, direction: Direction, class: Class) -> bool {
+    hierarchy.send(direction, class)
+}
+
+fn receives(hierarchy: &mut Hierarchy, direction: Direction) -> bool {
+    hierarchy.receive(direction)
+}
+
+fn tells(hierarchy: &mut Hierarchy, direction: Direction) -> bool {
+    hierarchy.tell(direction)
+}
+
+fn has_sender(hierarchy: &Hierarchy, direction: Direction) -> bool {
+    hierarchy.sender(direction).is_some()
+}
+
+#[test]
+fn a_packet_of_a_function_is_sent_received_and_taken(rt: HostRuntime) -> Result<(), Fail> {
+    let (log, mut hierarchy) = start(rt.alloc(), PLATFORM)?;
+    let up = from(FUNCTION, Way::Up);
     let frame = frame(&rt, &log)?;
     let class = frame.head().cost.class;
-    assert!(rt; !hierarchy.is_full_at(end, class));
-    hierarchy.put_at(end, frame);
-    assert!(rt; hierarchy.head_at(end, class).is_none());
-    assert!(rt; hierarchy.send(up, class) && !hierarchy.send(up, class));
-    assert!(rt; hierarchy.receive(up) && !hierarchy.receive(up));
-    assert_eq!(rt; hierarchy.head_at(end, class), Some(head()));
-    assert!(rt; !hierarchy.tell(up));
-    match hierarchy.take_at(end, class) {
-        Some(frame) => hierarchy.put_back_at(end, frame),
-        None => assert!(rt; false),
-    }
-    assert!(rt; !hierarchy.tell(up));
-    assert_eq!(rt;
-        hierarchy.take_at(end, class).map(|frame| frame.number()),
-        Some(7)
-    );
-    assert!(rt; hierarchy.tell(up) && !hierarchy.tell(up));
+    put(&mut hierarchy, up, frame)?;
+    assert!(rt; waiting(&mut hierarchy, up, class)?.is_none());
+    assert!(rt; sends(&mut hierarchy, up, class) && !sends(&mut hierarchy, up, class));
+    assert!(rt; receives(&mut hierarchy, up) && !receives(&mut hierarchy, up));
+    assert_eq!(rt; waiting(&mut hierarchy, up, class)?, Some(head()));
+    assert!(rt; !tells(&mut hierarchy, up));
+    assert!(rt; is_put_back(&mut hierarchy, up, class)?);
+    assert!(rt; !tells(&mut hierarchy, up));
+    assert_eq!(rt; taken(&mut hierarchy, up, class)?, Some(7));
+    assert!(rt; tells(&mut hierarchy, up) && !tells(&mut hierarchy, up));
     Ok(())
 }
 
 #[test]
 fn below_an_empty_port_there_is_no_link(rt: HostRuntime) -> Result<(), Fail> {
-    let layout = Layout::read(rt.alloc(), PLATFORM).map_err(|_| "a layout")?;
-    let mut hierarchy = Hierarchy::new(rt.alloc(), &layout)?;
+    let (_, mut hierarchy) = start(rt.alloc(), PLATFORM)?;
     let nowhere = from(0x0700, Way::Down);
-    assert!(rt; hierarchy.sender(nowhere).is_none());
-    assert!(rt;
-        !hierarchy.send(nowhere, Posted) && !hierarchy.receive(nowhere) && !hierarchy.tell(nowhere)
-    );
+    assert!(rt; !has_sender(&hierarchy, nowhere));
+    assert!(rt; !sends(&mut hierarchy, nowhere, Posted));
+    assert!(rt; !receives(&mut hierarchy, nowhere) && !tells(&mut hierarchy, nowhere));
     Ok(())
 }
 
@@ -156,28 +218,21 @@ fn goes_up<W: Wait>(
     desk: &mut Nobody,
     reports: &mut Reports,
 ) -> bool {
-    let was_sent = hierarchy.send(from(lower, Way::Up), Posted);
+    let was_sent = sends(hierarchy, from(lower, Way::Up), Posted);
     let was_idle = is_idle(rt, hierarchy, above, desk, reports);
-    let arrived = hierarchy.receive(from(lower, Way::Up));
+    let arrived = receives(hierarchy, from(lower, Way::Up));
     was_sent && was_idle && arrived && !is_idle(rt, hierarchy, above, desk, reports)
 }
 
 #[test]
 fn a_packet_goes_up_through_two_switches(rt: HostRuntime) -> Result<(), Fail> {
-    let log = Log::new(rt.alloc())?;
-    let layout = Layout::read(rt.alloc(), PLATFORM).map_err(|_| "a layout")?;
-    let mut hierarchy = Hierarchy::new(rt.alloc(), &layout)?;
+    let (log, mut hierarchy) = start(rt.alloc(), PLATFORM)?;
     let mut reports = Reports::new(rt.alloc());
     let mut desk = Nobody { refused: 0 };
-    let Some(end) = hierarchy.sender(from(FUNCTION, Way::Up)) else {
-        return Err("a sender")?;
-    };
-    let frame = frame(&rt, &log)?;
-    assert!(rt; !hierarchy.is_full_at(end, frame.head().cost.class));
-    hierarchy.put_at(end, frame);
+    put(&mut hierarchy, from(FUNCTION, Way::Up), frame(&rt, &log)?)?;
     assert!(rt; goes_up(&rt, &mut hierarchy, 0x0600, 0x0500, &mut desk, &mut reports));
     assert!(rt; goes_up(&rt, &mut hierarchy, 0x0400, 0x0208, &mut desk, &mut reports));
-    assert!(rt; hierarchy.send(from(0x0100, Way::Up), Posted));
+    assert!(rt; sends(&mut hierarchy, from(0x0100, Way::Up), Posted));
     assert!(rt; is_idle(&rt, &mut hierarchy, 0x0508, &mut desk, &mut reports));
     assert!(rt; is_idle(&rt, &mut hierarchy, 0x0700, &mut desk, &mut reports));
     Ok(())
@@ -214,29 +269,26 @@ fn foreign_request_comes<W: Wait>(
     reports: &mut Reports,
 ) -> Result<bool, Fail> {
     let mut desk = Nobody { refused: 0 };
-    let Some(end) = hierarchy.sender(from(FUNCTION, Way::Up)) else {
-        return Err("a sender")?;
-    };
     let frame = frame_of(rt, log, 7, foreign_head())?;
-    if hierarchy.is_full_at(end, frame.head().cost.class) {
-        return Err("a place")?;
-    }
-    hierarchy.put_at(end, frame);
+    put(hierarchy, from(FUNCTION, Way::Up), frame)?;
     let up = from(0x0400, Way::Up);
     let went = goes_up(rt, hierarchy, FUNCTION, 0x0500, &mut desk, reports);
-    Ok(went && hierarchy.send(up, Posted) && hierarchy.receive(up))
+    Ok(went && sends(hierarchy, up, Posted) && receives(hierarchy, up))
+}
+
+/// What the port of this ID is about to lose.
+fn lost_at(hierarchy: &mut Hierarchy, id: u16) -> Option<Lost> {
+    hierarchy.lost_at(port(id), Posted)
 }
 
 #[test]
 fn a_foreign_request_is_lost_at_the_second_port(rt: HostRuntime) -> Result<(), Fail> {
-    let log = Log::new(rt.alloc())?;
-    let layout = Layout::read(rt.alloc(), UNGUARDED).map_err(|_| "a layout")?;
-    let mut hierarchy = Hierarchy::new(rt.alloc(), &layout)?;
+    let (log, mut hierarchy) = start(rt.alloc(), UNGUARDED)?;
     let mut reports = Reports::new(rt.alloc());
-    assert!(rt; hierarchy.lost_at(port(0x0208), Posted).is_none());
+    assert!(rt; lost_at(&mut hierarchy, 0x0208).is_none());
     assert!(rt; foreign_request_comes(&rt, &mut hierarchy, &log, &mut reports)?);
-    assert!(rt; hierarchy.lost_at(port(0x0500), Posted).is_none());
-    let Some(lost) = hierarchy.lost_at(port(0x0208), Posted) else {
+    assert!(rt; lost_at(&mut hierarchy, 0x0500).is_none());
+    let Some(lost) = lost_at(&mut hierarchy, 0x0208) else {
         return Err("a lost packet")?;
     };
     assert_eq!(rt; Some(lost.input), hierarchy.sender(from(0x0400, Way::Up)));
@@ -254,29 +306,42 @@ fn a_foreign_request_is_lost_at_the_second_port(rt: HostRuntime) -> Result<(), F
     Ok(())
 }
 
-#[test]
-#[tactic(auto, using(hierarchy::proofs::Room::full_left))]
-fn a_lost_packet_is_put_back_or_answered(rt: HostRuntime) -> Result<(), Fail> {
-    let log = Log::new(rt.alloc())?;
-    let layout = Layout::read(rt.alloc(), UNGUARDED).map_err(|_| "a layout")?;
-    let mut hierarchy = Hierarchy::new(rt.alloc(), &layout)?;
-    let mut reports = Reports::new(rt.alloc());
-    assert!(rt; foreign_request_comes(&rt, &mut hierarchy, &log, &mut reports)?);
-    let Some(lost) = hierarchy.lost_at(port(0x0208), Posted) else {
+/// What the port of this ID is about to lose, which is taken and put back.
+fn lost_put_back(hierarchy: &mut Hierarchy, id: u16) -> Result<Lost, Fail> {
+    let Some(lost) = hierarchy.lost_at(port(id), Posted) else {
         return Err("a lost packet")?;
     };
-    match hierarchy.take_at(lost.input, Posted) {
-        Some(frame) => hierarchy.put_back_at(lost.input, frame),
-        None => assert!(rt; false),
+    let Some(frame) = hierarchy.take_at(lost.input, Posted) else {
+        return Err("the lost packet")?;
+    };
+    hierarchy.put_back_at(lost.input, frame);
+    Ok(lost)
+}
+
+/// What the port of this ID is about to lose is taken, and its answer put where the port sends it from.
+#[tactic(auto, using(hierarchy::proofs::Room::full_left))]
+fn answer_lost(hierarchy: &mut Hierarchy, id: u16, answer: Frame) -> Result<(), Fail> {
+    let Some(lost) = hierarchy.lost_at(port(id), Posted) else {
+        return Err("a lost packet")?;
+    };
+    if hierarchy.is_full_at(lost.own, answer.head().cost.class) {
+        return Err("a place")?;
     }
-    assert_eq!(rt; hierarchy.lost_at(port(0x0208), Posted), Some(lost));
-    let answer = frame_of(&rt, &log, 8, head())?;
-    let class = answer.head().cost.class;
-    assert!(rt; !hierarchy.is_full_at(lost.own, class));
-    match hierarchy.take_at(lost.input, Posted) {
-        Some(_) => hierarchy.put_at(lost.own, answer),
-        None => assert!(rt; false),
-    }
-    assert!(rt; hierarchy.lost_at(port(0x0208), Posted).is_none());
+    let Some(_) = hierarchy.take_at(lost.input, Posted) else {
+        return Err("the lost packet")?;
+    };
+    hierarchy.put_at(lost.own, answer);
+    Ok(())
+}
+
+#[test]
+fn a_lost_packet_is_put_back_or_answered(rt: HostRuntime) -> Result<(), Fail> {
+    let (log, mut hierarchy) = start(rt.alloc(), UNGUARDED)?;
+    let mut reports = Reports::new(rt.alloc());
+    assert!(rt; foreign_request_comes(&rt, &mut hierarchy, &log, &mut reports)?);
+    let lost = lost_put_back(&mut hierarchy, 0x0208)?;
+    assert_eq!(rt; lost_at(&mut hierarchy, 0x0208), Some(lost));
+    answer_lost(&mut hierarchy, 0x0208, frame_of(&rt, &log, 8, head())?)?;
+    assert!(rt; lost_at(&mut hierarchy, 0x0208).is_none());
     Ok(())
 }

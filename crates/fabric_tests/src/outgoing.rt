@@ -1,5 +1,4 @@
 ghost use Rattle.std.specs.Prelude.{◌≡◌, IfOk};
-ghost use Rattle.fab_types.specs.declared.place.Origin.TheVariants.{Function};
 ghost use Rattle.port.specs.Lanes.{class_of};
 
 use fab_types::Class::{self, NonPosted, Posted};
@@ -7,6 +6,7 @@ use fab_types::{Bdf, Cost, DomainId, Head, Header, Origin, Parties};
 use frame_log::{Frame, Log};
 use layout::Layout;
 use outboxes::Outboxes;
+use std::alloc::Global;
 use std::sync::Wait;
 use std::test::Fail;
 
@@ -36,9 +36,7 @@ fn frame<R: Wait>(rt: &R, log: &Log, number: u64, class: Class) -> Result<Frame,
     Ok(frame)
 }
 
-fn function(bits: u16) -> Origin
-    ensures { result ≡ Function bits }
-{
+fn function(bits: u16) -> Origin {
     Origin::Function(Bdf::from_bits(bits))
 }
 
@@ -67,58 +65,83 @@ fn taken(outboxes: &mut Outboxes, origin: Origin, class: Class) -> Option<u64> {
     Some(outboxes.take(origin, class)?.number())
 }
 
+/// The empty boxes of the platform, and a log that is empty.
+fn boxes(alloc: Global) -> Result<(Log, Outboxes), Fail> {
+    let layout = Layout::read(alloc, PLATFORM).ok().ok_or("a layout")?;
+    let log = Log::new(alloc)?;
+    Ok((log, Outboxes::new(alloc, &layout)?))
+}
+
+fn has_place(outboxes: &Outboxes, origin: Origin, class: Class) -> bool {
+    outboxes.has_place(origin, class)
+}
+
+/// Is no packet of this origin and class eligible?
+fn has_none(outboxes: &Outboxes, origin: Origin, class: Class) -> bool {
+    outboxes.head(origin, class).is_none()
+}
+
+/// Takes so many packets more of each class from this origin.
+fn add_places(outboxes: &mut Outboxes, origin: Origin, places: usize) -> Result<(), Fail> {
+    outboxes.more(origin, places)?;
+    Ok(())
+}
+
+/// Takes the eligible packet, if there is one, and puts it back.
+fn is_put_back(outboxes: &mut Outboxes, origin: Origin, class: Class) -> bool {
+    let there = origin;
+    let Some(frame) = outboxes.take(there, class) else {
+        return false;
+    };
+    outboxes.put_back(origin, frame);
+    true
+}
+
 #[test]
 fn each_origin_takes_three_times_its_domains_budget(rt: HostRuntime) -> Result<(), Fail> {
-    let layout = Layout::read(rt.alloc(), PLATFORM).ok().ok_or("a layout")?;
-    let log = Log::new(rt.alloc())?;
-    let mut outboxes = Outboxes::new(rt.alloc(), &layout)?;
+    let (log, mut outboxes) = boxes(rt.alloc())?;
     for number in 0..6 {
         assert!(rt; put(&rt, &log, &mut outboxes, function(0x0300), number, Posted)?);
         assert!(rt; put(&rt, &log, &mut outboxes, host(1)?, number, Posted)?);
     }
-    assert!(rt; !outboxes.has_place(function(0x0300), Posted));
-    assert!(rt; !outboxes.has_place(host(1)?, Posted));
-    assert!(rt; outboxes.has_place(function(0x0300), NonPosted));
+    assert!(rt; !has_place(&outboxes, function(0x0300), Posted));
+    assert!(rt; !has_place(&outboxes, host(1)?, Posted));
+    assert!(rt; has_place(&outboxes, function(0x0300), NonPosted));
 
     // A packet that was taken leaves no place; one place is added.
     assert_eq!(rt; taken(&mut outboxes, function(0x0300), Posted), Some(0));
-    assert!(rt; !outboxes.has_place(function(0x0300), Posted));
-    outboxes.more(function(0x0300), 1)?;
+    assert!(rt; !has_place(&outboxes, function(0x0300), Posted));
+    add_places(&mut outboxes, function(0x0300), 1)?;
     assert!(rt; put(&rt, &log, &mut outboxes, function(0x0300), 6, Posted)?);
-    assert!(rt; !outboxes.has_place(function(0x0300), Posted));
+    assert!(rt; !has_place(&outboxes, function(0x0300), Posted));
 
     // Domain 2 has 256 begins without a line, domain 3 owns no port.
     for number in 0..768 {
         assert!(rt; put(&rt, &log, &mut outboxes, function(0x0400), number, Posted)?);
     }
-    assert!(rt; !outboxes.has_place(function(0x0400), Posted));
-    assert!(rt; outboxes.has_place(host(2)?, Posted));
-    assert!(rt; !outboxes.has_place(host(3)?, Posted));
-    outboxes.more(host(3)?, 5)?;
-    assert!(rt; !outboxes.has_place(host(3)?, Posted));
+    assert!(rt; !has_place(&outboxes, function(0x0400), Posted));
+    assert!(rt; has_place(&outboxes, host(2)?, Posted));
+    assert!(rt; !has_place(&outboxes, host(3)?, Posted));
+    add_places(&mut outboxes, host(3)?, 5)?;
+    assert!(rt; !has_place(&outboxes, host(3)?, Posted));
     Ok(())
 }
 
 #[test]
 fn a_read_waits_behind_the_write_of_its_own_origin_alone(rt: HostRuntime) -> Result<(), Fail> {
-    let layout = Layout::read(rt.alloc(), PLATFORM).ok().ok_or("a layout")?;
-    let log = Log::new(rt.alloc())?;
-    let mut outboxes = Outboxes::new(rt.alloc(), &layout)?;
+    let (log, mut outboxes) = boxes(rt.alloc())?;
     assert!(rt; put(&rt, &log, &mut outboxes, function(0x0300), 0, Posted)?);
     assert!(rt; put(&rt, &log, &mut outboxes, function(0x0300), 1, NonPosted)?);
     assert!(rt; put(&rt, &log, &mut outboxes, host(1)?, 2, NonPosted)?);
 
-    assert!(rt; outboxes.head(function(0x0300), NonPosted).is_none());
-    assert!(rt; outboxes.head(function(0x0400), NonPosted).is_none());
-    assert!(rt; outboxes.head(function(0x0500), NonPosted).is_none());
+    assert!(rt; has_none(&outboxes, function(0x0300), NonPosted));
+    assert!(rt; has_none(&outboxes, function(0x0400), NonPosted));
+    assert!(rt; has_none(&outboxes, function(0x0500), NonPosted));
     assert_eq!(rt; taken(&mut outboxes, host(1)?, NonPosted), Some(2));
 
     // The write is put back in front of the read.
-    match outboxes.take(function(0x0300), Posted) {
-        Some(write) => outboxes.put_back(function(0x0300), write),
-        None => return Err(Fail::from("no write")),
-    }
-    assert!(rt; outboxes.head(function(0x0300), NonPosted).is_none());
+    assert!(rt; is_put_back(&mut outboxes, function(0x0300), Posted));
+    assert!(rt; has_none(&outboxes, function(0x0300), NonPosted));
     assert_eq!(rt; taken(&mut outboxes, function(0x0300), Posted), Some(0));
     assert_eq!(rt; taken(&mut outboxes, function(0x0300), NonPosted), Some(1));
     Ok(())
