@@ -145,39 +145,48 @@ impl Scene {
     fn violations(&self) -> usize {
         self.fabric.violations().len()
     }
+
+    /// What came of each event of a run, unless memory was refused.
+    fn outcomes<R: Wait>(&mut self, rt: &R, alloc: Global, list: &[Event]) -> Option<Vec<Outcome>> {
+        self.fabric.run(rt, alloc, list).ok()
+    }
 }
+
+/// A read of 06:00.0 goes up to the host.
+const UP: [Move; 10] = [
+    Move::EnterOfFunction(FUNCTION_06, NonPosted),
+    Move::Send(FUNCTION_06, Way::Up, NonPosted),
+    Move::Take(FUNCTION_06, Way::Up),
+    Move::Pass(0x0500, NonPosted),
+    Move::Send(0x0400, Way::Up, NonPosted),
+    Move::Take(0x0400, Way::Up),
+    Move::Pass(0x0208, NonPosted),
+    Move::Send(0x0100, Way::Up, NonPosted),
+    Move::Take(0x0100, Way::Up),
+    Move::Root(NonPosted),
+];
+
+/// What the host sent on its link to 06:00.0 arrives there.
+const DOWN: [Move; 9] = [
+    Move::Send(0x0100, Way::Down, Completion),
+    Move::Take(0x0100, Way::Down),
+    Move::Pass(0x0100, Completion),
+    Move::Send(0x0400, Way::Down, Completion),
+    Move::Take(0x0400, Way::Down),
+    Move::Pass(0x0400, Completion),
+    Move::Send(FUNCTION_06, Way::Down, Completion),
+    Move::Take(FUNCTION_06, Way::Down),
+    Move::Arrive(FUNCTION_06, Completion),
+];
 
 #[test]
 fn a_read_goes_up_and_its_completion_down(rt: HostRuntime) -> Result<(), Fail> {
     let mut scene = Scene::new(rt.alloc())?;
     let host = DomainId::new(2).ok_or("a domain")?;
     assert!(rt; scene.submits(&rt, rt.alloc(), FUNCTION_06, &READ_BY_06));
-    let up = [
-        Move::EnterOfFunction(FUNCTION_06, NonPosted),
-        Move::Send(FUNCTION_06, Way::Up, NonPosted),
-        Move::Take(FUNCTION_06, Way::Up),
-        Move::Pass(0x0500, NonPosted),
-        Move::Send(0x0400, Way::Up, NonPosted),
-        Move::Take(0x0400, Way::Up),
-        Move::Pass(0x0208, NonPosted),
-        Move::Send(0x0100, Way::Up, NonPosted),
-        Move::Take(0x0100, Way::Up),
-        Move::Root(NonPosted),
-    ];
-    assert!(rt; scene.moves(&rt, &up));
-    let down = [
-        Move::EnterOfHost(host, Completion),
-        Move::Send(0x0100, Way::Down, Completion),
-        Move::Take(0x0100, Way::Down),
-        Move::Pass(0x0100, Completion),
-        Move::Send(0x0400, Way::Down, Completion),
-        Move::Take(0x0400, Way::Down),
-        Move::Pass(0x0400, Completion),
-        Move::Send(FUNCTION_06, Way::Down, Completion),
-        Move::Take(FUNCTION_06, Way::Down),
-        Move::Arrive(FUNCTION_06, Completion),
-    ];
-    assert!(rt; scene.moves(&rt, &down));
+    assert!(rt; scene.moves(&rt, &UP));
+    assert!(rt; scene.moves(&rt, &[Move::EnterOfHost(host, Completion)]));
+    assert!(rt; scene.moves(&rt, &DOWN));
     assert_eq!(rt; scene.violations(), 0);
     assert_eq!(rt; scene.records(2), 1);
     Ok(())
@@ -232,22 +241,26 @@ fn what_the_layout_has_not_is_idle(rt: HostRuntime) -> Result<(), Fail> {
     Ok(())
 }
 
+/// A read is sent, no credits are told, and nobody ticks.
+fn five_events(alloc: Global) -> Result<Vec<Event>, Fail> {
+    let read = PacketBytes::copy_of(alloc, &READ_BY_06)?;
+    let events = vec![in alloc;
+        Event::Submit(Bdf::from_bits(FUNCTION_06), read),
+        Move::EnterOfFunction(FUNCTION_06, NonPosted).event(),
+        Move::Send(FUNCTION_06, Way::Up, NonPosted).event(),
+        Move::Credit(FUNCTION_06, Way::Up).event(),
+        Event::Tick(Bdf::from_bits(NOBODY)),
+    ]?;
+    Ok(events)
+}
+
 #[test]
 fn a_run_has_an_outcome_of_each_event(rt: HostRuntime) -> Result<(), Fail> {
     let mut scene = Scene::new(rt.alloc())?;
     let up = direction(FUNCTION_06, Way::Up);
     let before = scene.headers_left(up);
-    let events = vec![in rt.alloc();
-        Event::Submit(
-            Bdf::from_bits(FUNCTION_06),
-            PacketBytes::copy_of(rt.alloc(), &READ_BY_06)?
-        ),
-        Move::EnterOfFunction(FUNCTION_06, NonPosted).event(),
-        Event::Send(up, NonPosted),
-        Event::Credit(up),
-        Event::Tick(Bdf::from_bits(NOBODY)),
-    ]?;
-    let outcomes = scene.fabric.run(&rt, rt.alloc(), &events)?;
+    let list = five_events(rt.alloc())?;
+    let outcomes = scene.outcomes(&rt, rt.alloc(), &list).ok_or("outcomes")?;
     assert!(rt; outcomes.len() == 5);
     assert!(rt; matches!(outcomes[2], Outcome::Moved) && matches!(outcomes[3], Outcome::Idle));
     assert!(rt; scene.headers_left(up) < before);
