@@ -102,3 +102,4 @@ pub mod Numbers
 pub mod Comparing
 pub mod Leaving
 pub mod FirstRuns
+pub mod QuietStations

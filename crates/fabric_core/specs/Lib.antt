@@ -7,6 +7,7 @@ pub mod Settling
 pub mod Losing
 pub mod Wanting
 pub mod Events
+pub mod Stations
 pub mod Isolation
 pub mod Runs
 pub mod Places

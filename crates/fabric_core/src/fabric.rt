@@ -1,9 +1,10 @@
 //! The fabric: what each event does, and runs over lists of events.
 
-ghost use Rattle.std.specs.Prelude.{◌≡◌, IfOk, OnErr, option_map, true};
+ghost use Rattle.std.specs.Prelude.{◌≡◌, All, IfOk, OnErr, option_map, true};
 ghost use Rattle.std.specs.List.{list_all};
 ghost use Rattle.std.specs.Option.{option_copied};
 ghost use Rattle.edge.specs.Edges.{AreReplayed};
+ghost use Rattle.fab_types.specs.declared.outcome.Outcome.TheVariants.{Idle};
 ghost use Rattle.layout.specs.Share.{is_guarded_port};
 ghost use Rattle.tenants.specs.Tenants.{domain_at, place_of};
 ghost use Rattle.fabric_core.specs.Credits.{HasCredits, channel_of};
@@ -13,11 +14,14 @@ ghost use Rattle.fabric_core.specs.Orderly.{IsOrderly};
 ghost use Rattle.fabric_core.specs.Orders.{AreInOrder};
 ghost use Rattle.fabric_core.specs.Places.{HaveOnePlace};
 ghost use Rattle.fabric_core.specs.Runs.{HaveBegun, Run};
+ghost use Rattle.fabric_core.specs.Stations.{events_at, is_quiet};
 ghost use Rattle.fabric_core.specs.TakenOut.{NoneCanTell};
 ghost use Rattle.fabric_core.specs.World.{is_guarded, world_of};
 
 use crate::event::Event;
 use crate::laws::{every_event_keeps_a_fabric, other_domains_can_be_taken_out};
+use crate::quiet::is_quiet;
+use crate::station::Station;
 use crate::step::step;
 use crate::whose::home;
 use credit::Limits;
@@ -121,6 +125,16 @@ impl Fabric {
         ensures { result ≡ home self.now event.now }
     {
         home(&self.hierarchy, &self.edge, event)
+    }
+
+    /// Can nothing move at this station, before something is put there? No packet may leave it, whatever its class, and
+    /// the sender of a direction knows the receiver's credits. Then each event of the station would answer `Idle`. A
+    /// station that the layout hasn't is quiet.
+    pub fn is_quiet(&self, station: Station) -> bool
+        ensures value { result ≡ is_quiet self.now station }
+        ensures idle { result ≡ true → All (λ event. StepsTo self.now event Idle self.now) (events_at station) }
+    {
+        is_quiet(&self.hierarchy, &self.edge, station)
     }
 
     /// Makes one event, and says what came of it. `Moved`: the fabric did what the event does. `Idle`: there was

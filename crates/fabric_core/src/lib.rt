@@ -11,7 +11,9 @@ mod laws;
 mod lose;
 mod pass;
 mod purge;
+mod quiet;
 mod receivers;
+mod station;
 mod step;
 mod whose;
 mod wires;
@@ -26,6 +28,7 @@ pub use laws::{
     packets_keep_their_order, posted_packets_keep_to_their_way, what_is_left_can_be_run,
 };
 pub use purge::purge_run;
+pub use station::Station;
 
 #[cfg(test)]
 mod checkers;

@@ -1,5 +1,6 @@
 pub mod Views
 pub mod Moves
+pub mod Quiet
 pub mod Starts
 pub mod Kept
 pub mod Passes

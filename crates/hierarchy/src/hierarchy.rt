@@ -17,12 +17,13 @@ ghost use Rattle.hierarchy.specs.Kept.{IsKept};
 ghost use Rattle.hierarchy.specs.Lost.{lost_at};
 ghost use Rattle.hierarchy.specs.Moves.{channel_at, left_at, on_channel, put_at};
 ghost use Rattle.hierarchy.specs.Passes.{Passes, index_of, input_of};
+ghost use Rattle.hierarchy.specs.Quiet.{is_quiet_at, none_received_at};
 ghost use Rattle.hierarchy.specs.Starts.{start_of};
 ghost use Rattle.hierarchy.specs.Views.{IsSameRest, channels, simplex_at};
 
 use crate::lanes::{
-    credits_at, head_at, home_received_at, home_sent_at, home_travelling_at, is_full_at, put_at,
-    put_back_at, receive_at, send_at, take_at, tell_at,
+    credits_at, has_none_received_at, head_at, home_received_at, home_sent_at, home_travelling_at,
+    is_full_at, is_quiet_at, put_at, put_back_at, receive_at, send_at, take_at, tell_at,
 };
 use crate::lost::{Lost, lost_by};
 use crate::node::Node;
@@ -137,6 +138,40 @@ impl Hierarchy {
             Some(end) => tell_at(&mut self.nodes, end),
             None => false,
         }
+    }
+
+    /// Can nothing happen on this direction, before a packet is put at its sender or taken at its receiver? No packet
+    /// may be sent, whatever its class, none travels, and the sender knows the receiver's present credits; or there is
+    /// no such link.
+    pub fn is_quiet(&self, direction: Direction) -> bool
+        ensures { result ≡ is_quiet_at (channels self.now) (sender_of (self.now.tree).links direction) }
+    {
+        match self.topology.sender(direction) {
+            Some(end) => is_quiet_at(&self.nodes, end),
+            None => true,
+        }
+    }
+
+    /// Did this direction bring nothing that may leave its receiver, whatever its class? So it is too where there is no
+    /// such link.
+    pub fn has_none_received(&self, direction: Direction) -> bool
+        ensures { result ≡ none_received_at (channels self.now) (sender_of (self.now.tree).links direction) }
+    {
+        match self.topology.sender(direction) {
+            Some(end) => has_none_received_at(&self.nodes, end),
+            None => true,
+        }
+    }
+
+    /// Did nothing come into the port of this ID that may leave its queue, whatever its class? So it is too where there
+    /// is no such port, and where nothing stands at the other end of its link.
+    pub fn has_none_passing(&self, id: PortId) -> bool
+        ensures { result ≡ none_received_at (channels self.now) (input_of (self.now.tree).places id) }
+    {
+        let Some(end) = self.input(id) else {
+            return true;
+        };
+        has_none_received_at(&self.nodes, end)
     }
 
     /// The credits that the sender at this end knows to be left (PCIe 4.0, 2.6.1). In every hierarchy they and

@@ -10,6 +10,7 @@ ghost use Rattle.link.specs.Simplexes.{simplex_restored};
 ghost use Rattle.port.specs.Lanes.{class_of, eligible};
 ghost use Rattle.topology.specs.Topologies.{IsEnd};
 ghost use Rattle.hierarchy.specs.Moves.{channel_at, left_at, on_channel, put_at};
+ghost use Rattle.hierarchy.specs.Quiet.{is_quiet_at, none_received_at};
 ghost use Rattle.hierarchy.specs.Views.{channels_of, simplex_at};
 
 use crate::node::Node;
@@ -87,6 +88,24 @@ pub(crate) fn home_received_at(nodes: &[Node], end: LinkEnd, class: Class) -> Op
 {
     let node = &nodes[end.node];
     node.lanes[end.lane].home_received(class)
+}
+
+/// May no packet leave the receiver of an end, whatever its class?
+pub(crate) fn has_none_received_at(nodes: &[Node], end: LinkEnd) -> bool
+    requires { IsEnd (map length nodes.now) end }
+    ensures { result ≡ none_received_at (channels_of nodes.now) (Some end) }
+{
+    let node = &nodes[end.node];
+    node.lanes[end.lane].has_none_received()
+}
+
+/// Can nothing happen on the direction of an end, before a packet is put at its sender or taken at its receiver?
+pub(crate) fn is_quiet_at(nodes: &[Node], end: LinkEnd) -> bool
+    requires { IsEnd (map length nodes.now) end }
+    ensures { result ≡ is_quiet_at (channels_of nodes.now) (Some end) }
+{
+    let node = &nodes[end.node];
+    node.lanes[end.lane].is_quiet()
 }
 
 pub(crate) fn head_at(nodes: &mut [Node], end: LinkEnd, class: Class) -> Option<Head>

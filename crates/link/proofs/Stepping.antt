@@ -1,6 +1,6 @@
 -- The steps of a link, from what each leaves of the parts to what it keeps and what happened.
 use Rattle.std.proofs.Common.{◌≡◌, ◌≢◌, ℕ, ◌+◌, ◌-◌, ◌≤◌, ◌<◌, Bool, true, false, cond, List, [], ◌∷◌, ◌++◌, Option, Some, None, refl, sym, ap, ◌∙◌, subst, arith}
-use Rattle.std.specs.Prelude.{MatchBool, MatchOption, IfSome, IsSome, slice_get}
+use Rattle.std.specs.Prelude.{MatchBool, MatchOption, IfSome, IsSome, is_none, slice_get}
 use Rattle.fab_types.specs.declared.head.Head.{Head}
 use Rattle.frame_log.specs.Descriptor.{Descriptor}
 use Rattle.credit.specs.Kinds.{Class, Cost, Kind, cost_of}
@@ -135,6 +135,13 @@ heard-kept true s s' limit told behind kept is new known =
     subst (λ (t : Ledger). IsCounted t limit behind) (sym ((new refl).0 ∙ ap (λ (l : Counters). record s { limit = l }) is)) (told-counted s limit behind kept)
 heard-kept false s s' limit told behind kept is new known =
     subst (λ (t : Ledger). IsCounted t limit behind) (sym (known refl).0) kept
+
+-- a sender that knows the limit is told nothing
+pub knows-told : (answer : Bool) (s : Ledger) (limit told : Counters) (egress wire ingress : List Descriptor) → IsCounted s limit (wire ++ ingress) → told ≡ limit
+    → MatchBool answer (told ≡ s.limit) (told ≢ s.limit) → answer ≡ is_none (tell (link_of s egress wire ingress))
+knows-told true s limit told egress wire ingress kept is known = ap is_none (sym (tell-none s limit egress wire ingress kept (sym is ∙ known)))
+knows-told false s limit told egress wire ingress kept is other =
+    ap is_none (sym (tell-some s (record s { limit = told }) told egress wire ingress (subst (λ (l : Counters). IsCounted s l (wire ++ ingress)) (sym is) kept) refl other))
 
 -- ---- what leaves, and comes back
 

@@ -1,3 +1,4 @@
 pub mod Channels
+pub mod Quiet
 pub mod Simplexes
 pub mod Steps

@@ -1,15 +1,16 @@
 //! One direction of a link.
 
-ghost use Rattle.std.specs.Prelude.{◌≡◌, ◌≤◌, ◌++◌, [], None, Some, MatchBool, option_map, slice_get};
+ghost use Rattle.std.specs.Prelude.{◌≡◌, ◌≤◌, ◌++◌, [], None, Some, MatchBool, is_none, option_map, slice_get};
 ghost use Rattle.fab_types.specs.declared.class.Class.{Class};
 ghost use Rattle.credit.specs.Kinds.{Kind};
 ghost use Rattle.credit.specs.Limits.{MayStart, at};
 ghost use Rattle.port.specs.Lanes.{eligible};
 ghost use Rattle.port.specs.Queues.{frames_of};
 ghost use Rattle.link.specs.Channels.{IsCovered, count_in, receive, send, tell};
+ghost use Rattle.link.specs.Quiet.{is_quiet, none_eligible};
 ghost use Rattle.link.specs.Simplexes.{channel};
 
-use crate::steps::{give_back, hand_over, hear, land, launch};
+use crate::steps::{give_back, hand_over, has_none_eligible, hear, knows, land, launch};
 use credit::{Limits, Receiver, Sender};
 use fab_types::{Class, DomainId, Head};
 use frame_log::Frame;
@@ -123,6 +124,29 @@ impl Simplex {
     {
         let limits = self.receiver.advert();
         hear(&mut self.sender, limits)
+    }
+
+    /// Does the sender know the receiver's present limits, so that `tell` changes nothing?
+    fn is_told(&self) -> bool
+        ensures { result ≡ is_none (tell (channel self.now)) }
+    {
+        knows(&self.sender, self.receiver.advert())
+    }
+
+    /// May no packet leave the receiver, whatever its class?
+    pub fn has_none_received(&self) -> bool
+        ensures { result ≡ none_eligible (channel self.now).ingress }
+    {
+        has_none_eligible(&self.ingress)
+    }
+
+    /// Can nothing happen on this direction, before a packet is put at its sender or taken at its receiver? No packet at
+    /// the sender is eligible, whatever its class, none is on the wire, and the sender knows the receiver's present
+    /// credits.
+    pub fn is_quiet(&self) -> bool
+        ensures { result ≡ is_quiet (channel self.now) }
+    {
+        has_none_eligible(&self.egress) && self.wire.front().is_none() && self.is_told()
     }
 }
 

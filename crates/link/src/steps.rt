@@ -1,6 +1,6 @@
 //! What happens on a link, each over the parts that it changes.
 
-ghost use Rattle.std.specs.Prelude.{◌≡◌, ◌≢◌, ◌<◌, ◌++◌, ◌∷◌, [], true, false, IsSome, IfSome, MatchOption, None, Some, length, slice_get};
+ghost use Rattle.std.specs.Prelude.{◌≡◌, ◌≢◌, ◌<◌, ◌++◌, ◌∷◌, [], true, false, IsSome, IfSome, MatchBool, MatchOption, None, Some, length, slice_get};
 ghost use Rattle.fab_types.specs.declared.cost.Cost.{Cost};
 ghost use Rattle.frame_log.specs.Descriptor.{Descriptor};
 ghost use Rattle.credit.specs.Kinds.{Kind};
@@ -8,6 +8,7 @@ ghost use Rattle.credit.specs.Limits.{HasRoom, IsUpdate, counted, uncounted};
 ghost use Rattle.port.specs.Lanes.{class_of, eligible};
 ghost use Rattle.port.specs.Queues.{frames_of, frames_restored};
 ghost use Rattle.link.specs.Channels.{total};
+ghost use Rattle.link.specs.Quiet.{none_eligible};
 ghost use Rattle.link.specs.Steps.{IsStuck, Lands, Launches};
 
 use credit::{Limits, Receiver, Sender};
@@ -67,6 +68,22 @@ pub(crate) fn land(wire: &mut Ring<Frame, 381>, ingress: &mut FrameQueue<127>) -
     };
     arrive(ingress, frame);
     true
+}
+
+/// May no packet of the queue leave, whatever its class?
+pub(crate) fn has_none_eligible<const CAP: usize>(queue: &FrameQueue<CAP>) -> bool
+    ensures { result ≡ none_eligible (frames_of queue.now.queue.waiting) }
+{
+    queue.home(Class::Posted).is_none()
+        && queue.home(Class::NonPosted).is_none()
+        && queue.home(Class::Completion).is_none()
+}
+
+/// Are these the limits that the sender was told last?
+pub(crate) fn knows(sender: &Sender, limits: Limits) -> bool
+    ensures { MatchBool result (limits ≡ sender.now.limit) (limits ≢ sender.now.limit) }
+{
+    limits == sender.limits()
 }
 
 /// Tells the sender these limits, if it doesn't know them.

@@ -1,0 +1,38 @@
+//! Where packets wait or travel in a fabric.
+
+ghost use Rattle.std.specs.Prelude.{◌≡◌};
+ghost use Rattle.fabric_core.specs.Stations.{taking};
+
+use crate::event::Event;
+use fab_types::{Bdf, Class, Direction, Origin, PortId};
+
+/// Where packets wait or travel in a fabric. The events there take a packet of each class in turn; on a direction of a
+/// link the oldest packet is then received, and the sender told of credits.
+#[derive(Clone, Copy, Debug, PartialEq, Eq)]
+pub enum Station {
+    /// The outbox of this origin, from which packets enter its link.
+    Outbox(Origin),
+    /// This port, by which the packets pass that came into it.
+    Port(PortId),
+    /// This direction of a link, on which packets are sent.
+    Link(Direction),
+    /// The host, which takes what came to it.
+    Host,
+    /// This function, which takes what came to it.
+    Function(Bdf),
+}
+
+impl Station {
+    /// The event by which a packet of this class is taken there.
+    pub fn taking(&self, class: Class) -> Event
+        ensures { result ≡ taking self.now class }
+    {
+        match self {
+            Station::Outbox(origin) => Event::Enter(*origin, class),
+            Station::Port(port) => Event::Pass(*port, class),
+            Station::Link(direction) => Event::Send(*direction, class),
+            Station::Host => Event::Root(class),
+            Station::Function(function) => Event::Arrive(*function, class),
+        }
+    }
+}
