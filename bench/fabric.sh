@@ -103,9 +103,9 @@ echo 'fabrics: fab_types frame_log layout script domain fabric_core commands' >>
 cat > "$work/crates/fabrics/src/main.rt" <<'PROGRAM'
 #![tactic(auto)]
 
-use commands::sweep_events;
-use fab_types::{NoMemory, Outcome};
-use fabric_core::{Event, Fabric};
+use commands::stations;
+use fab_types::{Class, NoMemory, Outcome};
+use fabric_core::{Event, Fabric, Station};
 use frame_log::PacketBytes;
 use layout::Layout;
 use script::{Command, Script};
@@ -134,18 +134,37 @@ fn step<R: Wait>(rt: &R, fabric: &mut Fabric, event: &Event, count: &mut Count) 
     count.add(matches!(outcome, Outcome::Moved));
 }
 
+/// Makes the events of a station. Where it is quiet they are counted alone, since none would move anything.
+fn visit<R: Wait>(rt: &R, fabric: &mut Fabric, station: &Station, count: &mut Count) {
+    let direction = match station {
+        Station::Link(direction) => Some(*direction),
+        _ => None,
+    };
+    if fabric.is_quiet(station) {
+        count.all = count.all.wrapping_add(if direction.is_some() { 5 } else { 3 });
+        return;
+    }
+    step(rt, fabric, &station.taking(Class::Posted), count);
+    step(rt, fabric, &station.taking(Class::NonPosted), count);
+    step(rt, fabric, &station.taking(Class::Completion), count);
+    if let Some(direction) = direction {
+        step(rt, fabric, &Event::Take(direction), count);
+        step(rt, fabric, &Event::Credit(direction), count);
+    }
+}
+
 /// Did anything move?
-fn sweep<R: Wait>(rt: &R, fabric: &mut Fabric, events: &[Event], count: &mut Count) -> bool {
+fn sweep<R: Wait>(rt: &R, fabric: &mut Fabric, stations: &[Station], count: &mut Count) -> bool {
     let before = count.moved;
-    for event in events {
-        step(rt, fabric, event, count);
+    for station in stations {
+        visit(rt, fabric, station, count);
     }
     count.moved != before
 }
 
-fn sweeps<R: Wait>(rt: &R, fabric: &mut Fabric, events: &[Event], most: u32, count: &mut Count) {
+fn sweeps<R: Wait>(rt: &R, fabric: &mut Fabric, stations: &[Station], most: u32, count: &mut Count) {
     for _ in 0..most {
-        if !sweep(rt, fabric, events, count) {
+        if !sweep(rt, fabric, stations, count) {
             return;
         }
     }
@@ -155,7 +174,7 @@ fn make<R: Wait>(
     rt: &R,
     alloc: Global,
     fabric: &mut Fabric,
-    events: &[Event],
+    stations: &[Station],
     command: &Command,
     count: &mut Count,
 ) -> Result<(), NoMemory> {
@@ -171,7 +190,7 @@ fn make<R: Wait>(
             let access = access.try_clone(alloc)?;
             step(rt, fabric, &Event::Mmio(*domain, access), count);
         }
-        Command::Sweep(most) => sweeps(rt, fabric, events, *most, count),
+        Command::Sweep(most) => sweeps(rt, fabric, stations, *most, count),
     }
     Ok(())
 }
@@ -180,12 +199,12 @@ fn run<R: Wait>(
     rt: &R,
     alloc: Global,
     fabric: &mut Fabric,
-    events: &[Event],
+    stations: &[Station],
     script: &Script,
 ) -> Result<Count, NoMemory> {
     let mut count = Count { moved: 0, all: 0 };
     for line in script.lines() {
-        make(rt, alloc, fabric, events, &line.command, &mut count)?;
+        make(rt, alloc, fabric, stations, &line.command, &mut count)?;
     }
     Ok(count)
 }
@@ -220,11 +239,11 @@ fn main(rt: HostRuntime) -> io::Result<()> {
     let Ok(mut fabric) = Fabric::new(alloc, &layout) else {
         return writeln!(out, "no memory");
     };
-    let Ok(events) = sweep_events(alloc, &layout, fabric.domains()) else {
+    let Ok(stations) = stations(alloc, &layout, fabric.domains()) else {
         return writeln!(out, "no memory");
     };
     let before = rt.process_cpu_time()?;
-    let Ok(count) = run(&rt, alloc, &mut fabric, &events, &script) else {
+    let Ok(count) = run(&rt, alloc, &mut fabric, &stations, &script) else {
         return writeln!(out, "no memory");
     };
     let time = rt.process_cpu_time()?.saturating_sub(before);

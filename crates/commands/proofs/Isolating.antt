@@ -14,13 +14,7 @@ use Rattle.fabric_core.specs.World.{World, is_guarded, world_of}
 use Rattle.commands.specs.Driving.{Begins, Does, Drives, IsDriven}
 use Rattle.commands.specs.Isolated.{AllMake, IsIsolated, Makes, repeated}
 use Rattle.commands.specs.Sweeps.{Sweeps, SweepsUpTo}
-
--- two runs, one after the other
-run_then : (w v u : World) (es fs : List Event) (os ps : List Outcome) → Run w es os v → Run v fs ps u → Run w (es ++ fs) (os ++ ps) u
-run_then w v u [] fs [] ps same rest = subst (λ (x : World). Run x fs ps u) same rest
-run_then w v u (e ∷ es) fs (o ∷ os) ps run rest = (run.0, run.1, run_then run.0 v u es fs os ps run.2 rest)
-run_then w v u [] fs (o ∷ os) ps run rest = absurd run
-run_then w v u (e ∷ es) fs [] ps run rest = absurd run
+use Rattle.commands.proofs.Running.{run_then}
 
 -- the events of a run that have outcomes
 abbrev Runs : World → List Event → World → Type 0

@@ -1,15 +1,19 @@
 -- Runs that go on: events of a sweep, sweeps, and lines of a script.
 use Rattle.std.proofs.Common.{◌≡◌, ℕ, zero, suc, ◌+◌, ◌-◌, ◌<◌, ◌≤◌, Bool, true, false, List, [], ◌∷◌, ◌++◌, length, take, refl, sym, ap, ap₂, ◌∙◌, subst, arith, append_assoc}
-use Rattle.std.specs.Prelude.{◌||◌, slice_index_or}
-use Rattle.std.specs.List.{list_any}
+use Rattle.std.specs.Prelude.{All, ◌||◌, slice_index_or}
+use Rattle.std.specs.List.{flat_map, list_any}
 use Rattle.std.proofs.lemmas.List.{append-nil, take_more}
+use Rattle.std.proofs.lemmas.List.Elements.{All-head, All-tail}
+use Rattle.std.proofs.lemmas.Grind.{flat_map-append}
 use Rattle.std.proofs.lemmas.List.Folds.{list_any-append}
 use Rattle.fab_types.specs.declared.outcome.Outcome.{Outcome}
 use Rattle.fab_types.specs.declared.outcome.Outcome.TheVariants.{Idle, Moved, Refused, NoMemory}
 use Rattle.script.specs.declared.lines.Line.{Line}
 use Rattle.fabric_core.specs.declared.event.Event.{Event}
+use Rattle.fabric_core.specs.declared.station.Station.{Station}
 use Rattle.fabric_core.specs.Events.{StepsTo}
 use Rattle.fabric_core.specs.Runs.{Run}
+use Rattle.fabric_core.specs.Stations.{events_at}
 use Rattle.fabric_core.specs.World.{World}
 use Rattle.commands.specs.Driving.{Does, Drives}
 use Rattle.commands.specs.Sweeps.{Sweeps, SweepsUpTo, is_moved, lacks_memory}
@@ -24,6 +28,13 @@ pub take_next : {X : Type 0} (xs : List X) (i : ℕ) (x : X) → i < length xs �
 take_next {X = X} xs i x lt is = take_more xs i x lt ∙ ap (λ (y : X). take i xs ++ y ∷ []) (sym is)
 
 -- ---- events of a sweep
+
+-- two runs, one after the other
+pub run_then : (w v u : World) (es fs : List Event) (os ps : List Outcome) → Run w es os v → Run v fs ps u → Run w (es ++ fs) (os ++ ps) u
+run_then w v u [] fs [] ps same rest = subst (λ (x : World). Run x fs ps u) same rest
+run_then w v u (e ∷ es) fs (o ∷ os) ps run rest = (run.0, run.1, run_then run.0 v u es fs os ps run.2 rest)
+run_then w v u [] fs (o ∷ os) ps run rest = absurd run
+run_then w v u (e ∷ es) fs [] ps run rest = absurd run
 
 run_more : (w v u : World) (es : List Event) (os : List Outcome) (e : Event) (o : Outcome) → Run w es os v → StepsTo v e o u → Run w (es ++ e ∷ []) (os ++ o ∷ []) u
 run_more w v u [] [] e o r s = (u, subst (λ (x : World). StepsTo x e o u) r s, refl)
@@ -66,6 +77,43 @@ sweep_next w v u es i e m n o lt is both enough s step =
 -- the sweep of all events, once the loop has gone through them
 pub sweep_whole : (w v : World) (es : List Event) (m : Bool) (i : ℕ) → length es ≤ i → Sweeps (take i es) w m v → Sweeps es w m v
 sweep_whole w v es m i le s = subst (λ (xs : List Event). Sweeps xs w m v) (take_all es i le) s
+
+-- ---- stations of a sweep
+
+pub sweep_then : (w v u : World) (es fs : List Event) (m n : Bool) → Sweeps es w m v → Sweeps fs v n u → Sweeps (es ++ fs) w (m || n) u
+sweep_then w v u es fs m n first second = record {
+  outcomes = first.outcomes ++ second.outcomes;
+  run = run_then w v u es fs first.outcomes second.outcomes first.run second.run;
+  memory = list_any-append lacks_memory first.outcomes second.outcomes ∙ ap₂ (λ (a b : Bool). a || b) first.memory second.memory;
+  moves = ap₂ (λ (a b : Bool). a || b) first.moves second.moves ∙ sym (list_any-append is_moved first.outcomes second.outcomes);
+}
+
+-- events that move nothing
+pub quiet_sweep : (w : World) (es : List Event) → All (λ e. StepsTo w e Idle w) es → Sweeps es w false w
+quiet_sweep w [] idle = record { outcomes = []; run = refl; memory = refl; moves = refl }
+quiet_sweep w (e ∷ es) idle =
+    let rest = quiet_sweep w es (All-tail (λ (x : Event). StepsTo w x Idle w) e es idle) in record {
+      outcomes = Idle ∷ rest.outcomes;
+      run = (w, All-head (λ (x : Event). StepsTo w x Idle w) e es idle, rest.run);
+      memory = rest.memory;
+      moves = rest.moves;
+    }
+
+pub stations_start : (w : World) (ss : List Station) → Sweeps (flat_map events_at (take 0 ss)) w false w
+stations_start w ss = record { outcomes = []; run = refl; memory = refl; moves = refl }
+
+-- one station more
+pub stations_next : (w v u : World) (ss : List Station) (i : ℕ) (s : Station) (m n b : Bool) → i < length ss → s ≡ slice_index_or ss i s → b ≡ (m || n)
+    → Sweeps (flat_map events_at (take i ss)) w m v → Sweeps (events_at s) v n u → Sweeps (flat_map events_at (take (i + 1) ss)) w b u
+stations_next w v u ss i s m n b lt is both so_far now =
+    let more : flat_map events_at (take (i + 1) ss) ≡ flat_map events_at (take i ss) ++ events_at s =
+    ap (flat_map events_at) (take_next ss i s lt is) ∙ (flat_map-append events_at (take i ss) (s ∷ []) ∙ ap (λ (es : List Event). flat_map events_at (take i ss) ++ es) (append-nil (events_at s))) in
+    subst (λ (es : List Event). Sweeps es w b u) (sym more)
+    (subst (λ (x : Bool). Sweeps (flat_map events_at (take i ss) ++ events_at s) w x u) (sym both) (sweep_then w v u (flat_map events_at (take i ss)) (events_at s) m n so_far now))
+
+-- the sweep of all stations, once the loop has gone through them
+pub stations_whole : (w v : World) (ss : List Station) (m : Bool) (i : ℕ) → length ss ≤ i → Sweeps (flat_map events_at (take i ss)) w m v → Sweeps (flat_map events_at ss) w m v
+stations_whole w v ss m i le s = subst (λ (xs : List Station). Sweeps (flat_map events_at xs) w m v) (take_all ss i le) s
 
 -- ---- sweeps
 

@@ -1,15 +1,17 @@
 //! A fabric that does what the lines of a script ask for.
 
 ghost use Rattle.std.specs.Prelude.{◌≡◌, IfErr, IfOk, OnOk};
+ghost use Rattle.std.specs.List.{flat_map};
+ghost use Rattle.fabric_core.specs.Stations.{events_at};
 ghost use Rattle.commands.specs.Driving.{Begins, Does, Drives, IsDriven, Wrote};
 ghost use Rattle.commands.specs.Endings.{IsRunFault};
 ghost use Rattle.commands.specs.Isolated.{IsIsolated};
 
 use crate::fault::Fault;
 use crate::report;
-use crate::sweep::{sweep_events, sweeps};
+use crate::sweep::{stations, sweeps};
 use fab_types::Outcome;
-use fabric_core::{Event, Fabric};
+use fabric_core::{Event, Fabric, Station};
 use frame_log::PacketBytes;
 use layout::Layout;
 use script::{Command, Line};
@@ -31,8 +33,8 @@ pub fn driven<'a, R: Wait, W: Write>(
     ensures fault { IfErr result (λ fault. IsRunFault fault) }
 {
     let mut fabric = Fabric::new(alloc, layout)?;
-    let events = sweep_events(alloc, layout, fabric.domains())?;
-    drive_all(rt, alloc, &mut fabric, &events, lines, out)?;
+    let stations = stations(alloc, layout, fabric.domains())?;
+    drive_all(rt, alloc, &mut fabric, &stations, lines, out)?;
     Ok(fabric)
 }
 
@@ -40,15 +42,15 @@ fn drive_all<'a, R: Wait, W: Write>(
     rt: &R,
     alloc: Global,
     fabric: &mut Fabric,
-    events: &[Event],
+    stations: &[Station],
     lines: &[Line],
     out: &mut W,
 ) -> Result<(), Fault<'a>>
-    ensures ok { OnOk result (Wrote (W.contents out.old) (W.contents out.new) (Drives events.now fabric.old lines.now fabric.new)) }
+    ensures ok { OnOk result (Wrote (W.contents out.old) (W.contents out.new) (Drives (flat_map events_at stations.now) fabric.old lines.now fabric.new)) }
     ensures fault { IfErr result (λ fault. IsRunFault fault) }
 {
     for line in lines {
-        drive(rt, alloc, fabric, events, line, out)?;
+        drive(rt, alloc, fabric, stations, line, out)?;
     }
     Ok(())
 }
@@ -57,11 +59,11 @@ fn drive<'a, R: Wait, W: Write>(
     rt: &R,
     alloc: Global,
     fabric: &mut Fabric,
-    events: &[Event],
+    stations: &[Station],
     line: &Line,
     out: &mut W,
 ) -> Result<(), Fault<'a>>
-    ensures ok { OnOk result (Wrote (W.contents out.old) (W.contents out.new) (Does events.now line.now.number fabric.old line.now.command fabric.new)) }
+    ensures ok { OnOk result (Wrote (W.contents out.old) (W.contents out.new) (Does (flat_map events_at stations.now) line.now.number fabric.old line.now.command fabric.new)) }
     ensures fault { IfErr result (λ fault. IsRunFault fault) }
 {
     let number = line.number;
@@ -75,7 +77,7 @@ fn drive<'a, R: Wait, W: Write>(
             let access = access.try_clone(alloc)?;
             begin(rt, fabric, number, &Event::Mmio(*domain, access), out)
         }
-        Command::Sweep(most) => Ok(sweeps(rt, fabric, events, *most)?),
+        Command::Sweep(most) => Ok(sweeps(rt, fabric, stations, *most)?),
     }
 }
 

@@ -16,4 +16,4 @@ mod sweep;
 pub use fault::{ExitStatus, Fault};
 pub use files::{FileFault, FileGiver};
 pub use program::{command, stopped};
-pub use sweep::sweep_events;
+pub use sweep::stations;

@@ -2,13 +2,14 @@
 
 ghost use Rattle.std.specs.Prelude.{◌≡◌, ◌++◌, IfOk, OnOk, false, map};
 ghost use Rattle.std.specs.List.{flat_map};
-ghost use Rattle.fab_types.specs.declared.place.Origin.TheVariants as origin;
+ghost use Rattle.fabric_core.specs.Stations.{classes, events_at, others_at, taking};
+ghost use Rattle.fabric_core.specs.declared.station.Station.TheVariants as station;
 ghost use Rattle.commands.specs.Rising.{IsRising};
-ghost use Rattle.commands.specs.Sweeps.{IsSweep, Sweeps, SweepsUpTo, arrivals, direction_events, enters, is_moved, lacks_memory, link_events, passes, roots};
+ghost use Rattle.commands.specs.Sweeps.{IsSweep, Sweeps, SweepsUpTo, both_ways, host_outbox, is_moved, lacks_memory};
 
 use domain::Domain;
-use fab_types::{Bdf, Class, Direction, NoMemory, Origin, Outcome, PortId, Way};
-use fabric_core::{Event, Fabric};
+use fab_types::{Bdf, Class, Direction, NoMemory, Outcome, PortId, Way};
+use fabric_core::{Event, Fabric, Station};
 use layout::Layout;
 use std::alloc::{AllocError, Global};
 use std::sync::Wait;
@@ -54,122 +55,76 @@ fn links_of(alloc: Global, layout: &Layout) -> Result<Vec<Bdf>, AllocError>
     rising(ids)
 }
 
-/// Each event of a layout's fabric that moves packets or credits, once, in the order of a sweep. The domains
-/// are those of the fabric, by rising number.
-pub fn sweep_events(
+/// Each place of a layout's fabric where packets wait or travel, once, in the order of a sweep. The domains are those of
+/// the fabric, by rising number.
+pub fn stations(
     alloc: Global,
     layout: &Layout,
     domains: &[Domain],
-) -> Result<Vec<Event>, NoMemory>
-    ensures { IfOk result (λ events. IsSweep layout.now domains.now events.items) }
+) -> Result<Vec<Station>, NoMemory>
+    ensures { IfOk result (λ stations. IsSweep layout.now domains.now (flat_map events_at stations.items)) }
 {
     let functions = functions_of(alloc, layout)?;
-    let mut events = Vec::new(alloc);
-    add_function_enters(&mut events, &functions)?;
-    add_host_enters(&mut events, domains)?;
-    add_passes(&mut events, &ports_of(alloc, layout)?)?;
-    add_links(&mut events, &links_of(alloc, layout)?)?;
-    add_roots(&mut events)?;
-    add_arrivals(&mut events, &functions)?;
-    Ok(events)
+    let mut stations = Vec::new(alloc);
+    add_outboxes(&mut stations, &functions)?;
+    add_hosts(&mut stations, domains)?;
+    add_ports(&mut stations, &ports_of(alloc, layout)?)?;
+    add_links(&mut stations, &links_of(alloc, layout)?)?;
+    stations.push(Station::Host)?;
+    add_functions(&mut stations, &functions)?;
+    Ok(stations)
 }
 
-fn add_enters(events: &mut Vec<Event>, origin: &Origin) -> Result<(), AllocError>
-    ensures { OnOk result (events.new.items ≡ events.old.items ++ enters origin.now) }
-{
-    events.push(Event::Enter(*origin, Class::Posted))?;
-    events.push(Event::Enter(*origin, Class::NonPosted))?;
-    events.push(Event::Enter(*origin, Class::Completion))?;
-    Ok(())
-}
-
-fn add_function_enters(events: &mut Vec<Event>, functions: &[Bdf]) -> Result<(), AllocError>
-    ensures { OnOk result (events.new.items ≡ events.old.items ++ flat_map (λ f. enters (origin.Function f)) functions.now) }
+fn add_outboxes(stations: &mut Vec<Station>, functions: &[Bdf]) -> Result<(), AllocError>
+    ensures { OnOk result (stations.new.items ≡ stations.old.items ++ map station.FunctionOutbox functions.now) }
 {
     for function in functions {
-        add_enters(events, &Origin::Function(*function))?;
+        stations.push(Station::FunctionOutbox(*function))?;
     }
     Ok(())
 }
 
-fn add_host_enters(events: &mut Vec<Event>, domains: &[Domain]) -> Result<(), AllocError>
-    ensures { OnOk result (events.new.items ≡ events.old.items ++ flat_map (λ d. enters (origin.Host d.share.domain)) domains.now) }
+fn add_hosts(stations: &mut Vec<Station>, domains: &[Domain]) -> Result<(), AllocError>
+    ensures { OnOk result (stations.new.items ≡ stations.old.items ++ map host_outbox domains.now) }
 {
     for domain in domains {
-        add_enters(events, &Origin::Host(domain.start().domain()))?;
+        stations.push(Station::HostOutbox(domain.start().domain()))?;
     }
     Ok(())
 }
 
-fn add_pass(events: &mut Vec<Event>, port: PortId) -> Result<(), AllocError>
-    ensures { OnOk result (events.new.items ≡ events.old.items ++ passes port) }
-{
-    events.push(Event::Pass(port, Class::Posted))?;
-    events.push(Event::Pass(port, Class::NonPosted))?;
-    events.push(Event::Pass(port, Class::Completion))?;
-    Ok(())
-}
-
-fn add_passes(events: &mut Vec<Event>, ports: &[Bdf]) -> Result<(), AllocError>
-    ensures { OnOk result (events.new.items ≡ events.old.items ++ flat_map passes ports.now) }
+fn add_ports(stations: &mut Vec<Station>, ports: &[Bdf]) -> Result<(), AllocError>
+    ensures { OnOk result (stations.new.items ≡ stations.old.items ++ map station.Port ports.now) }
 {
     for port in ports {
-        add_pass(events, PortId::new(*port))?;
+        stations.push(Station::Port(PortId::new(*port)))?;
     }
     Ok(())
 }
 
-fn add_direction(events: &mut Vec<Event>, direction: &Direction) -> Result<(), AllocError>
-    ensures { OnOk result (events.new.items ≡ events.old.items ++ direction_events direction.now) }
-{
-    events.push(Event::Send(*direction, Class::Posted))?;
-    events.push(Event::Send(*direction, Class::NonPosted))?;
-    events.push(Event::Send(*direction, Class::Completion))?;
-    events.push(Event::Take(*direction))?;
-    events.push(Event::Credit(*direction))?;
-    Ok(())
-}
-
-fn add_link(events: &mut Vec<Event>, lower: Bdf) -> Result<(), AllocError>
-    ensures { OnOk result (events.new.items ≡ events.old.items ++ link_events lower) }
+fn add_link(stations: &mut Vec<Station>, lower: Bdf) -> Result<(), AllocError>
+    ensures { OnOk result (stations.new.items ≡ stations.old.items ++ both_ways lower) }
 {
     let (up, down) = (Way::Up, Way::Down);
-    add_direction(events, &Direction { lower, way: up })?;
-    add_direction(events, &Direction { lower, way: down })
+    stations.push(Station::Link(Direction { lower, way: up }))?;
+    stations.push(Station::Link(Direction { lower, way: down }))?;
+    Ok(())
 }
 
-fn add_links(events: &mut Vec<Event>, lower_ends: &[Bdf]) -> Result<(), AllocError>
-    ensures { OnOk result (events.new.items ≡ events.old.items ++ flat_map link_events lower_ends.now) }
+fn add_links(stations: &mut Vec<Station>, lower_ends: &[Bdf]) -> Result<(), AllocError>
+    ensures { OnOk result (stations.new.items ≡ stations.old.items ++ flat_map both_ways lower_ends.now) }
 {
     for lower in lower_ends {
-        add_link(events, *lower)?;
+        add_link(stations, *lower)?;
     }
     Ok(())
 }
 
-fn add_roots(events: &mut Vec<Event>) -> Result<(), AllocError>
-    ensures { OnOk result (events.new.items ≡ events.old.items ++ roots) }
-{
-    events.push(Event::Root(Class::Posted))?;
-    events.push(Event::Root(Class::NonPosted))?;
-    events.push(Event::Root(Class::Completion))?;
-    Ok(())
-}
-
-fn add_arrival(events: &mut Vec<Event>, function: Bdf) -> Result<(), AllocError>
-    ensures { OnOk result (events.new.items ≡ events.old.items ++ arrivals function) }
-{
-    events.push(Event::Arrive(function, Class::Posted))?;
-    events.push(Event::Arrive(function, Class::NonPosted))?;
-    events.push(Event::Arrive(function, Class::Completion))?;
-    Ok(())
-}
-
-fn add_arrivals(events: &mut Vec<Event>, functions: &[Bdf]) -> Result<(), AllocError>
-    ensures { OnOk result (events.new.items ≡ events.old.items ++ flat_map arrivals functions.now) }
+fn add_functions(stations: &mut Vec<Station>, functions: &[Bdf]) -> Result<(), AllocError>
+    ensures { OnOk result (stations.new.items ≡ stations.old.items ++ map station.Function functions.now) }
 {
     for function in functions {
-        add_arrival(events, *function)?;
+        stations.push(Station::Function(*function))?;
     }
     Ok(())
 }
@@ -187,7 +142,7 @@ fn has_moved(outcome: Outcome) -> Result<bool, NoMemory>
 
 /// Makes the events in turn. Did any of them move something? It answers `NoMemory` at the first event
 /// that was refused memory.
-pub fn sweep<R: Wait>(rt: &R, fabric: &mut Fabric, events: &[Event]) -> Result<bool, NoMemory>
+fn make_all<R: Wait>(rt: &R, fabric: &mut Fabric, events: &[Event]) -> Result<bool, NoMemory>
     ensures { IfOk result (λ moved. Sweeps events.now fabric.old moved fabric.new) }
 {
     let mut moved = false;
@@ -199,17 +154,72 @@ pub fn sweep<R: Wait>(rt: &R, fabric: &mut Fabric, events: &[Event]) -> Result<b
     Ok(moved)
 }
 
+/// Makes the events by which a packet of each class is taken at a station, whatever waits there.
+fn make_taking<R: Wait>(rt: &R, fabric: &mut Fabric, station: &Station) -> Result<bool, NoMemory>
+    ensures { IfOk result (λ moved. Sweeps (map (taking station.now) classes) fabric.old moved fabric.new) }
+{
+    let events = [
+        station.taking(Class::Posted),
+        station.taking(Class::NonPosted),
+        station.taking(Class::Completion),
+    ];
+    make_all(rt, fabric, &events)
+}
+
+/// Makes the other events of a station: on a direction of a link a packet is received, and credits are told.
+fn make_others<R: Wait>(rt: &R, fabric: &mut Fabric, station: &Station) -> Result<bool, NoMemory>
+    ensures { IfOk result (λ moved. Sweeps (others_at station.now) fabric.old moved fabric.new) }
+{
+    match station {
+        Station::Link(direction) => {
+            let events = [Event::Take(*direction), Event::Credit(*direction)];
+            make_all(rt, fabric, &events)
+        }
+        Station::FunctionOutbox(_)
+        | Station::HostOutbox(_)
+        | Station::Port(_)
+        | Station::Host
+        | Station::Function(_) => Ok(false),
+    }
+}
+
+/// Makes the events of a station in turn. Did any of them move something? Where the station is quiet none would, and none
+/// is tried.
+fn visit<R: Wait>(rt: &R, fabric: &mut Fabric, station: &Station) -> Result<bool, NoMemory>
+    ensures { IfOk result (λ moved. Sweeps (events_at station.now) fabric.old moved fabric.new) }
+{
+    if fabric.is_quiet(station) {
+        return Ok(false);
+    }
+    let taken = make_taking(rt, fabric, station)?;
+    let others = make_others(rt, fabric, station)?;
+    Ok(taken | others)
+}
+
+/// Makes the events of these stations in turn. Did any of them move something? It answers `NoMemory` at the first event
+/// that was refused memory.
+pub fn sweep<R: Wait>(rt: &R, fabric: &mut Fabric, stations: &[Station]) -> Result<bool, NoMemory>
+    ensures { IfOk result (λ moved. Sweeps (flat_map events_at stations.now) fabric.old moved fabric.new) }
+{
+    let mut moved = false;
+    for station in stations {
+        let moves = visit(rt, fabric, station)?;
+        moved = moved || moves;
+    }
+    Ok(moved)
+}
+
 /// Makes so many sweeps, or fewer: the last one is the first in which nothing moves.
 pub fn sweeps<R: Wait>(
     rt: &R,
     fabric: &mut Fabric,
-    events: &[Event],
+    stations: &[Station],
     most: u32,
 ) -> Result<(), NoMemory>
-    ensures { OnOk result (SweepsUpTo events.now most fabric.old fabric.new) }
+    ensures { OnOk result (SweepsUpTo (flat_map events_at stations.now) most fabric.old fabric.new) }
 {
     for _ in 0..most {
-        let moved = sweep(rt, fabric, events)?;
+        let moved = sweep(rt, fabric, stations)?;
         if !moved {
             return Ok(());
         }

@@ -8,6 +8,7 @@ use Rattle.fab_types.specs.declared.class.Class.TheVariants.{Posted, NonPosted, 
 use Rattle.fab_types.specs.declared.outcome.Outcome.TheVariants.{Idle}
 use Rattle.fab_types.specs.declared.place.Direction.{Direction}
 use Rattle.fab_types.specs.declared.place.Origin.{Origin}
+use Rattle.fab_types.specs.declared.place.Origin.TheVariants as origin
 use Rattle.frame_log.specs.Descriptor.{Descriptor}
 use Rattle.bridge.specs.Bridges.{Tree as Routes}
 use Rattle.edge.specs.Edges.{waiting_of}
@@ -148,7 +149,8 @@ for_each w event still =
     (All-cons P (event NonPosted) (event Completion ∷ []) (idle w (event NonPosted) (still NonPosted)) (All-cons P (event Completion) [] (idle w (event Completion) (still Completion)) (All-nil P)))
 
 pub quiet_idle : (w : World) (s : Station) → is_quiet w s ≡ true → All (λ event. StepsTo w event Idle w) (events_at s)
-quiet_idle w (station.Outbox origin) h = for_each w (Event.Enter origin) (still_enter w origin h)
+quiet_idle w (station.FunctionOutbox function) h = for_each w (Event.Enter (origin.Function function)) (still_enter w (origin.Function function) h)
+quiet_idle w (station.HostOutbox domain) h = for_each w (Event.Enter (origin.Host domain)) (still_enter w (origin.Host domain) h)
 quiet_idle w (station.Port port) h = for_each w (Event.Pass port) (still_pass w port h)
 quiet_idle w (station.Link direction) h =
     let sent : (class : Class) → IsStill w (Event.Send direction class) = λ class. (still_link w direction h (send class) (λ c still. still.send class), refl) in

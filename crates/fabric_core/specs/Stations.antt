@@ -2,6 +2,7 @@
 use Rattle.std.specs.Prelude.{Bool, List, [], ◌∷◌, ◌++◌, map}
 use Rattle.fab_types.specs.declared.class.Class.{Class}
 use Rattle.fab_types.specs.declared.class.Class.TheVariants.{Posted, NonPosted, Completion}
+use Rattle.fab_types.specs.declared.place.Origin.TheVariants as origin
 use Rattle.edge.specs.Edges.{waiting_of}
 use Rattle.hierarchy.specs.Passes.{input_of}
 use Rattle.hierarchy.specs.Quiet.{is_quiet_at, none_received_at}
@@ -19,7 +20,8 @@ classes = Posted ∷ NonPosted ∷ Completion ∷ []
 
 -- the event that takes a packet of a class there
 abbrev pub taking : Station → Class → Event
-taking (station.Outbox origin) class = Enter origin class
+taking (station.FunctionOutbox function) class = Enter (origin.Function function) class
+taking (station.HostOutbox domain) class = Enter (origin.Host domain) class
 taking (station.Port port) class = Pass port class
 taking (station.Link direction) class = Send direction class
 taking station.Host class = Root class
@@ -35,7 +37,8 @@ events_at s = map (taking s) classes ++ others_at s
 
 -- no packet may leave there, and no credits are to be told
 abbrev pub is_quiet : World → Station → Bool
-is_quiet w (station.Outbox origin) = none_eligible (waiting_of w.edge.outboxes origin)
+is_quiet w (station.FunctionOutbox function) = none_eligible (waiting_of w.edge.outboxes (origin.Function function))
+is_quiet w (station.HostOutbox domain) = none_eligible (waiting_of w.edge.outboxes (origin.Host domain))
 is_quiet w (station.Port port) = none_received_at w.channels (input_of w.tree.places port)
 is_quiet w (station.Link direction) = is_quiet_at w.channels (sender_of w.tree.links direction)
 is_quiet w station.Host = none_received_at w.channels (sender_of w.tree.links to_host)

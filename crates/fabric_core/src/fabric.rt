@@ -130,9 +130,9 @@ impl Fabric {
     /// Can nothing move at this station, before something is put there? No packet may leave it, whatever its class, and
     /// the sender of a direction knows the receiver's credits. Then each event of the station would answer `Idle`. A
     /// station that the layout hasn't is quiet.
-    pub fn is_quiet(&self, station: Station) -> bool
-        ensures value { result ≡ is_quiet self.now station }
-        ensures idle { result ≡ true → All (λ event. StepsTo self.now event Idle self.now) (events_at station) }
+    pub fn is_quiet(&self, station: &Station) -> bool
+        ensures value { result ≡ is_quiet self.now station.now }
+        ensures idle { result ≡ true → All (λ event. StepsTo self.now event Idle self.now) (events_at station.now) }
     {
         is_quiet(&self.hierarchy, &self.edge, station)
     }

@@ -30,16 +30,19 @@ fn has_none_emitted(edge: &Edge, origin: &Origin) -> bool
         && has_none_of(edge, origin, Class::Completion)
 }
 
-pub(crate) fn is_quiet(hierarchy: &Hierarchy, edge: &Edge, station: Station) -> bool
-    ensures { (violations : List Violation) (strays : List Descriptor) → result ≡ is_quiet (world_over hierarchy.now edge.now violations strays) station }
+pub(crate) fn is_quiet(hierarchy: &Hierarchy, edge: &Edge, station: &Station) -> bool
+    ensures { (violations : List Violation) (strays : List Descriptor) → result ≡ is_quiet (world_over hierarchy.now edge.now violations strays) station.now }
 {
     match station {
-        Station::Outbox(origin) => has_none_emitted(edge, &origin),
-        Station::Port(port) => hierarchy.has_none_passing(port),
-        Station::Link(direction) => hierarchy.is_quiet(direction),
+        Station::FunctionOutbox(function) => {
+            has_none_emitted(edge, &Origin::Function(*function))
+        }
+        Station::HostOutbox(domain) => has_none_emitted(edge, &Origin::Host(*domain)),
+        Station::Port(port) => hierarchy.has_none_passing(*port),
+        Station::Link(direction) => hierarchy.is_quiet(*direction),
         Station::Host => hierarchy.has_none_received(top_link(Way::Up)),
         Station::Function(function) => hierarchy.has_none_received(Direction {
-            lower: function,
+            lower: *function,
             way: Way::Down,
         }),
     }

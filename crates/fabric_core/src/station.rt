@@ -4,14 +4,16 @@ ghost use Rattle.std.specs.Prelude.{◌≡◌};
 ghost use Rattle.fabric_core.specs.Stations.{taking};
 
 use crate::event::Event;
-use fab_types::{Bdf, Class, Direction, Origin, PortId};
+use fab_types::{Bdf, Class, Direction, DomainId, Origin, PortId};
 
 /// Where packets wait or travel in a fabric. The events there take a packet of each class in turn; on a direction of a
 /// link the oldest packet is then received, and the sender told of credits.
 #[derive(Clone, Copy, Debug, PartialEq, Eq)]
 pub enum Station {
-    /// The outbox of this origin, from which packets enter its link.
-    Outbox(Origin),
+    /// The outbox of this function, from which packets enter its link.
+    FunctionOutbox(Bdf),
+    /// The outbox of the host of this domain, from which packets enter the link to the top switch.
+    HostOutbox(DomainId),
     /// This port, by which the packets pass that came into it.
     Port(PortId),
     /// This direction of a link, on which packets are sent.
@@ -28,7 +30,8 @@ impl Station {
         ensures { result ≡ taking self.now class }
     {
         match self {
-            Station::Outbox(origin) => Event::Enter(*origin, class),
+            Station::FunctionOutbox(function) => Event::Enter(Origin::Function(*function), class),
+            Station::HostOutbox(domain) => Event::Enter(Origin::Host(*domain), class),
             Station::Port(port) => Event::Pass(*port, class),
             Station::Link(direction) => Event::Send(*direction, class),
             Station::Host => Event::Root(class),

@@ -10,6 +10,8 @@ mod host;
 #[cfg(test)]
 mod host_requests;
 #[cfg(test)]
+mod moves;
+#[cfg(test)]
 mod programs;
 #[cfg(test)]
 mod random;

@@ -1,8 +1,8 @@
 //! Random lists of single events over random guarded layouts: without the events of other domains a domain has what it
 //! has of the whole list.
 
+use crate::moves::moves_of;
 use crate::random::{Dice, Function, NOBODY, OFFSETS, packet_word, program_line, random_plan};
-use commands::sweep_events;
 use domain::{Domain, HostAccess, Operation};
 use fab_types::{Bdf, CompareFault, DomainId, Violation};
 use fabric_core::{Event, Fabric, purge_run};
@@ -108,13 +108,6 @@ impl Scene<'_> {
         }
         Ok(())
     }
-}
-
-/// The events of a sweep of this layout.
-fn moves_of(alloc: Global, layout: &Layout) -> Result<Vec<Event>, Fail> {
-    let fabric = Fabric::new(alloc, layout)?;
-    let moves = sweep_events(alloc, layout, fabric.domains())?;
-    Ok(moves)
 }
 
 fn empty_scene<'a>(

@@ -1,7 +1,7 @@
 //! Runs without the events of other domains: what a domain has of them, beside what it has of the whole run.
 
+use crate::moves::moves_of;
 use crate::texts::PLATFORM;
-use commands::sweep_events;
 use fab_types::Class::Posted;
 use fab_types::{Bdf, CompareFault, Direction, DomainId, Origin, PortId, Way};
 use fabric_core::{Comparison, Event, Fabric, compare_runs, purge_run};
@@ -91,8 +91,7 @@ impl Script {
 
     /// Each event of the layout once.
     fn every_event(&self) -> Option<Vec<Event>> {
-        let fabric = Fabric::new(self.alloc, &self.layout).ok()?;
-        sweep_events(self.alloc, &self.layout, fabric.domains()).ok()
+        moves_of(self.alloc, &self.layout).ok()
     }
 
     fn sweep(&mut self) -> Option<()> {

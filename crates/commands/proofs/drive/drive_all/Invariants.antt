@@ -1,7 +1,9 @@
 use Rattle.std.proofs.Common.{take}
+use Rattle.std.specs.List.{flat_map}
+use Rattle.fabric_core.specs.Stations.{events_at}
 use Rattle.commands.specs.Driving.{Drives, Wrote}
 use Rattle.commands.proofs.drive.drive_all.Given as goal
 
 -- the lines so far were done
 abbrev pub invariant-loop-line : goal.invariant-loop-line
-invariant-loop-line g l = Wrote (g.W.Write.contents l.initial.out) (g.W.Write.contents l.out) (Drives l.events l.initial.fabric (take l.line-index l.lines) l.fabric)
+invariant-loop-line g l = Wrote (g.W.Write.contents l.initial.out) (g.W.Write.contents l.out) (Drives (flat_map events_at l.stations) l.initial.fabric (take l.line-index l.lines) l.fabric)

@@ -1,7 +1,9 @@
 use Rattle.std.proofs.Common.{◌≡◌, ◌∙◌, List, ap, subst, sym}
 use Rattle.std.specs.Prelude.{true}
+use Rattle.std.specs.List.{flat_map}
 use Rattle.domain.specs.Domains.{DomainView}
-use Rattle.fabric_core.specs.declared.event.Event.{Event}
+use Rattle.fabric_core.specs.declared.station.Station.{Station}
+use Rattle.fabric_core.specs.Stations.{events_at}
 use Rattle.fabric_core.specs.TakenOut.{NoneCanTell}
 use Rattle.fabric_core.specs.World.{World, is_guarded, world_of}
 use Rattle.commands.specs.Driving.{Drives}
@@ -16,11 +18,11 @@ returns-clause-ok g c =
     let domains : c.domains.result.now ≡ (world_of platform).edge.domains = c.domains.ensures ∙ ap (λ (w : World). w.edge.domains) c.in_ok-fabric.ensures.start in (
       written.0,
       record {
-        events = c.deref.result.now;
+        events = flat_map events_at c.deref.result.now;
         sweep =
-            subst (λ (es : List Event). IsSweep platform (world_of platform).edge.domains es) (sym c.deref.ensures.value)
-            (subst (λ (ds : List DomainView). IsSweep platform ds c.in_ok-events.events.items) domains c.in_ok-events.ensures);
-        drives = subst (λ (w : World). Drives c.deref.result.now w c.args.lines.now c.drive_all.new.fabric written.0) c.in_ok-fabric.ensures.start written.1;
+            subst (λ (ss : List Station). IsSweep platform (world_of platform).edge.domains (flat_map events_at ss)) (sym c.deref.ensures.value)
+            (subst (λ (ds : List DomainView). IsSweep platform ds (flat_map events_at c.in_ok-stations.stations.items)) domains c.in_ok-stations.ensures);
+        drives = subst (λ (w : World). Drives (flat_map events_at c.deref.result.now) w c.args.lines.now c.drive_all.new.fabric written.0) c.in_ok-fabric.ensures.start written.1;
       },
       written.2,
     )

@@ -6,4 +6,4 @@ use Rattle.fabric_core.proofs.fabric.Fabric.is_quiet.Goals as goal
 pub returns-clause-idle : goal.returns-clause-idle
 returns-clause-idle c = λ quiet.
     let w = world_in c.self.inside in
-    rw (← c.self.view_is) (quiet_idle w c.args.station (sym (c.is_quiet.ensures w.violations w.strays) ∙ quiet))
+    rw (← c.self.view_is) (quiet_idle w c.args.station.now (sym (c.is_quiet.ensures w.violations w.strays) ∙ quiet))
