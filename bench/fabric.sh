@@ -98,17 +98,17 @@ cut -d: -f1 "$work/crates.txt" | while read -r crate; do
     rm -rf "$work/crates/$crate/must-fail"
 done
 cp "$here/HANDLES" "$work"
-echo 'fabrics: fab_types frame_log layout script domain fabric_core commands' >> "$work/crates.txt"
+echo 'fabrics: fab_types frame_log layout script domain fabric_core sweeps' >> "$work/crates.txt"
 
 cat > "$work/crates/fabrics/src/main.rt" <<'PROGRAM'
 #![tactic(auto)]
 
-use commands::stations;
 use fab_types::{Class, NoMemory, Outcome};
 use fabric_core::{Event, Fabric, Station};
 use frame_log::PacketBytes;
 use layout::Layout;
 use script::{Command, Script};
+use sweeps::stations;
 use std::alloc::Global;
 use std::io::Write;
 use std::sync::Wait;
@@ -162,7 +162,7 @@ fn sweep<R: Wait>(rt: &R, fabric: &mut Fabric, stations: &[Station], count: &mut
     count.moved != before
 }
 
-fn sweeps<R: Wait>(rt: &R, fabric: &mut Fabric, stations: &[Station], most: u32, count: &mut Count) {
+fn sweep_up_to<R: Wait>(rt: &R, fabric: &mut Fabric, stations: &[Station], most: u32, count: &mut Count) {
     for _ in 0..most {
         if !sweep(rt, fabric, stations, count) {
             return;
@@ -190,7 +190,7 @@ fn make<R: Wait>(
             let access = access.try_clone(alloc)?;
             step(rt, fabric, &Event::Mmio(*domain, access), count);
         }
-        Command::Sweep(most) => sweeps(rt, fabric, stations, *most, count),
+        Command::Sweep(most) => sweep_up_to(rt, fabric, stations, *most, count),
     }
     Ok(())
 }

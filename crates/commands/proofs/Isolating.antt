@@ -1,5 +1,5 @@
 -- The events of a script's lines, as one run.
-use Rattle.std.proofs.Common.{◌≡◌, ℕ, zero, suc, ◌≤◌, Bool, true, false, List, [], ◌∷◌, ◌++◌, refl, subst, arith}
+use Rattle.std.proofs.Common.{◌≡◌, ℕ, zero, suc, ◌≤◌, Bool, true, false, List, [], ◌∷◌, ◌++◌, refl, arith}
 use Rattle.std.specs.Prelude.{MatchBool}
 use Rattle.fab_types.specs.declared.outcome.Outcome.{Outcome}
 use Rattle.layout.specs.Platform.{Platform}
@@ -13,8 +13,8 @@ use Rattle.fabric_core.specs.TakenOut.{NoneCanTell}
 use Rattle.fabric_core.specs.World.{World, is_guarded, world_of}
 use Rattle.commands.specs.Driving.{Begins, Does, Drives, IsDriven}
 use Rattle.commands.specs.Isolated.{AllMake, IsIsolated, Makes, repeated}
-use Rattle.commands.specs.Sweeps.{Sweeps, SweepsUpTo}
-use Rattle.commands.proofs.Running.{run_then}
+use Rattle.sweeps.specs.Sweeps.{Sweeps, SweepsUpTo}
+use Rattle.sweeps.proofs.Running.{run_then}
 
 -- the events of a run that have outcomes
 abbrev Runs : World → List Event → World → Type 0

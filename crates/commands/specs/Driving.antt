@@ -1,6 +1,5 @@
 -- A fabric that is driven by the lines of a script.
-use Rattle.std.specs.Prelude.{◌≡◌, ℕ, false, List, [], ◌∷◌, ◌++◌, Option}
-use Rattle.std.specs.Io.KnownBytes.{Appends}
+use Rattle.std.specs.Prelude.{◌≡◌, ℕ, false, List, [], ◌∷◌, ◌++◌}
 use Rattle.fab_types.specs.declared.outcome.Outcome.{Outcome}
 use Rattle.fab_types.specs.declared.outcome.Outcome.TheVariants.{Refused}
 use Rattle.layout.specs.Platform.{Platform}
@@ -11,12 +10,8 @@ use Rattle.fabric_core.specs.declared.event.Event.{Event}
 use Rattle.fabric_core.specs.declared.event.Event.TheVariants.{Submit, Tick, Mmio}
 use Rattle.fabric_core.specs.Events.{StepsTo}
 use Rattle.fabric_core.specs.World.{World, world_of}
-use Rattle.commands.specs.Report.{refusal_line}
-use Rattle.commands.specs.Sweeps.{IsSweep, SweepsUpTo, lacks_memory}
-
--- a writer whose bytes are known grew by a text of which this holds
-abbrev pub Wrote : Option (List ℕ) → Option (List ℕ) → (List ℕ → Type 0) → Type 0
-Wrote old new says = (text : List ℕ) × says text × Appends old new text
+use Rattle.reports.specs.Report.{refusal_line}
+use Rattle.sweeps.specs.Sweeps.{IsSweep, SweepsUpTo, lacks_memory}
 
 -- what is written of a begin by what came of it: a line where it was refused
 abbrev pub refused_text : ℕ → Outcome → List ℕ

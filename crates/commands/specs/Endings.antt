@@ -3,10 +3,17 @@ use Rattle.std.specs.Prelude.{◌≡◌, ◌≢◌, ◌⊎◌, ℕ, ⊤}
 use Rattle.std.specs.IoError.{error_kind}
 use Rattle.std.specs.declared.io.Error.{Error}
 use Rattle.std.specs.declared.io.ErrorKind.TheVariants as error_kinds
+use Rattle.command_line.specs.declared.request.WordsFault.{WordsFault}
+use Rattle.command_line.specs.declared.request.WordsFault.TheVariants as words
 use Rattle.commands.specs.declared.fault.ExitStatus.{ExitStatus}
 use Rattle.commands.specs.declared.fault.ExitStatus.TheVariants as exit_status
 use Rattle.commands.specs.declared.fault.Fault.{Fault}
 use Rattle.commands.specs.declared.fault.Fault.TheVariants as fault
+
+-- what a fault of the words comes to
+abbrev pub fault_of_words : WordsFault → Fault
+fault_of_words words.Usage = fault.Usage
+fault_of_words words.NoMemory = fault.NoMemory
 
 -- the number that the host sees
 abbrev pub exit_code : ExitStatus → ℕ

@@ -8,7 +8,7 @@ use Rattle.script.specs.declared.lines.Command.TheVariants.{Submit, Sweep}
 use Rattle.script.specs.declared.lines.Line.{Line}
 use Rattle.fabric_core.specs.World.{World}
 use Rattle.commands.specs.Driving.{IsDriven}
-use Rattle.commands.specs.Report.{memory_lines}
+use Rattle.reports.specs.Report.{memory_lines}
 
 -- one switch, and below it one function, whose page 1 is mapped to frame 0
 abbrev pub first_text : List ℕ

@@ -10,7 +10,7 @@ use Rattle.fabric_core.specs.declared.event.Event.TheVariants.{Submit, Tick, Mmi
 use Rattle.fabric_core.specs.Runs.{Run}
 use Rattle.fabric_core.specs.TakenOut.{CannotTell}
 use Rattle.fabric_core.specs.World.{World, is_guarded, world_of}
-use Rattle.commands.specs.Sweeps.{IsSweep}
+use Rattle.sweeps.specs.Sweeps.{IsSweep}
 
 -- these events so many times
 abbrev pub repeated : ℕ → List Event → List Event

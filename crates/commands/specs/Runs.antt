@@ -12,8 +12,9 @@ use Rattle.tenants.specs.Tenants.{domain_at, place_of}
 use Rattle.fabric_core.specs.World.{World}
 use Rattle.commands.specs.Driving.{IsDriven}
 use Rattle.commands.specs.Isolated.{IsIsolated}
-use Rattle.commands.specs.Report.{IsPart, IsReport}
-use Rattle.commands.specs.CommandLine.{Asked, First, Run, Alone}
+use Rattle.commands.specs.Report.{IsReport}
+use Rattle.reports.specs.Report.{IsPart}
+use Rattle.command_line.specs.CommandLine.{Asked, First, Run, Alone}
 use Rattle.commands.specs.First.{Prints}
 
 -- the files of these names have the texts of a platform and of a script

@@ -3,21 +3,22 @@
 ghost use Rattle.std.specs.Prelude.{◌≡◌, IfErr, IfOk, OnOk};
 ghost use Rattle.std.specs.List.{flat_map};
 ghost use Rattle.fabric_core.specs.Stations.{events_at};
-ghost use Rattle.commands.specs.Driving.{Begins, Does, Drives, IsDriven, Wrote};
+ghost use Rattle.commands.specs.Driving.{Begins, Does, Drives, IsDriven};
 ghost use Rattle.commands.specs.Endings.{IsRunFault};
 ghost use Rattle.commands.specs.Isolated.{IsIsolated};
+ghost use Rattle.reports.specs.Writing.{Wrote};
 
 use crate::fault::Fault;
-use crate::report;
-use crate::sweep::{stations, sweeps};
 use fab_types::Outcome;
 use fabric_core::{Event, Fabric, Station};
 use frame_log::PacketBytes;
 use layout::Layout;
+use reports::write_refusal;
 use script::{Command, Line};
 use std::alloc::Global;
 use std::io::Write;
 use std::sync::Wait;
+use sweeps::{stations, sweeps};
 
 /// Runs the fabric of a layout by these lines, from its start. For each begin that is refused, a line is
 /// written at once.
@@ -93,7 +94,7 @@ fn begin<'a, R: Wait, W: Write>(
 {
     match fabric.step(rt, event) {
         Outcome::Moved | Outcome::Idle => Ok(()),
-        Outcome::Refused(fault) => Ok(report::write_refusal(out, line, fault)?),
+        Outcome::Refused(fault) => Ok(write_refusal(out, line, fault)?),
         Outcome::NoMemory => Err(Fault::NoMemory),
     }
 }

@@ -3,6 +3,7 @@
 ghost use Rattle.std.specs.Prelude.{◌≡◌, ◌≢◌};
 ghost use Rattle.commands.specs.Endings.{exit_code, status_of};
 
+use command_line::WordsFault;
 use fab_types::{LayoutCause, LayoutFault, NoMemory, ReplayFault, ScriptCause};
 use std::alloc::AllocError;
 use std::io;
@@ -121,6 +122,19 @@ impl From<NoMemory> for Fault<'_> {
 
     fn from(_error: NoMemory) -> Self {
         Fault::NoMemory
+    }
+}
+
+impl From<WordsFault> for Fault<'_> {
+    ghost use Rattle.commands.specs.Endings.{fault_of_words};
+
+    ghost from_gives = { λ words f. f ≡ fault_of_words words };
+
+    fn from(fault: WordsFault) -> Self {
+        match fault {
+            WordsFault::Usage => Fault::Usage,
+            WordsFault::NoMemory => Fault::NoMemory,
+        }
     }
 }
 

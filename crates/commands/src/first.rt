@@ -4,16 +4,16 @@ ghost use Rattle.std.specs.Prelude.{◌≡◌, ◌↔◌, IsErrOf, OnOk};
 ghost use Rattle.std.specs.List.{flat_map};
 ghost use Rattle.std.specs.Io.KnownBytes.{Appends};
 ghost use Rattle.script.specs.PacketWord.{IsPacketWord};
-ghost use Rattle.commands.specs.Driving.{Wrote};
+ghost use Rattle.reports.specs.Writing.{Wrote};
 ghost use Rattle.commands.specs.First.{Prints};
-ghost use Rattle.commands.specs.Report.{memory_lines};
+ghost use Rattle.reports.specs.Report.{memory_lines};
 
 use crate::drive::driven;
 use crate::fault::Fault;
-use crate::report;
 use domain::Domain;
 use fab_types::Bdf;
 use layout::Layout;
+use reports::write_frames;
 use script::{Command, Line, packet_bytes};
 use std::alloc::Global;
 use std::io;
@@ -73,7 +73,7 @@ fn write_memory<W: Write>(out: &mut W, domains: &[Domain]) -> io::Result<()>
     ensures { OnOk result (Appends (W.contents out.old) (W.contents out.new) (flat_map memory_lines domains.now)) }
 {
     for domain in domains {
-        report::write_frames(out, domain)?;
+        write_frames(out, domain)?;
     }
     Ok(())
 }

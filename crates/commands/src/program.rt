@@ -1,17 +1,16 @@
 //! The program over given words, files and outputs.
 
 ghost use Rattle.std.specs.Prelude.{◌≡◌, OnOk, map};
-ghost use Rattle.commands.specs.CommandLine.{Ask, Asked, IsAsked};
-ghost use Rattle.commands.specs.Driving.{Wrote};
+ghost use Rattle.command_line.specs.CommandLine.{Ask, Asked, IsAsked};
+ghost use Rattle.reports.specs.Writing.{Wrote};
 ghost use Rattle.commands.specs.Endings.{status_of};
 ghost use Rattle.commands.specs.Runs.{AskedPrints};
 
-use crate::command_line;
-use crate::command_line::Request;
 use crate::fault::{ExitStatus, Fault};
 use crate::files::FileGiver;
 use crate::first::first;
 use crate::run::{alone, run};
+use command_line::Request;
 use std::alloc::Global;
 use std::convert::AsStr;
 use std::io::Write;
@@ -63,7 +62,7 @@ fn perform<'a, R: Wait, F: FileGiver, O: Write>(
 {
     match request {
         Request::Help(help) => {
-            write!(out, "{help}")?;
+            out.write_all(help.as_bytes())?;
             Ok(())
         }
         Request::First { packet } => first(rt, alloc, packet, out),

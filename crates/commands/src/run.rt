@@ -2,18 +2,19 @@
 
 ghost use Rattle.std.specs.Prelude.{◌≡◌, IfOk, IfSome, OnOk, Some};
 ghost use Rattle.layout.specs.Views.{share_of_owner};
-ghost use Rattle.commands.specs.Driving.{Wrote};
+ghost use Rattle.reports.specs.Writing.{Wrote};
 ghost use Rattle.commands.specs.Runs.{AlonePrints, IsReplayed, RunPrints};
 
-use crate::command_line::Files;
 use crate::drive::driven;
 use crate::fault::Fault;
 use crate::files::FileGiver;
 use crate::inputs::{layout_of, script_of};
-use crate::report;
+use crate::report::write_report;
+use command_line::Files;
 use domain::Domain;
 use fab_types::{DomainId, NoMemory};
 use layout::{Layout, Start};
+use reports::write_domain;
 use script::Line;
 use std::alloc::Global;
 use std::io;
@@ -34,7 +35,7 @@ pub fn run<'a, R: Wait, F: FileGiver, W: Write>(
     let layout = layout_of(alloc, files, names.layout)?;
     let script = script_of(alloc, files, names.script)?;
     let fabric = driven(rt, alloc, &layout, script.lines(), out)?;
-    report::write_report(alloc, out, &fabric)?;
+    write_report(alloc, out, &fabric)?;
     Ok(())
 }
 
@@ -55,7 +56,7 @@ pub fn alone<'a, R: Wait, F: FileGiver, W: Write>(
         return Err(Fault::NoDomain { number });
     };
     let domain = replayed(rt, alloc, &layout, script.lines(), &start)?;
-    report::write_domain(alloc, out, &domain)?;
+    write_domain(alloc, out, &domain)?;
     Ok(())
 }
 

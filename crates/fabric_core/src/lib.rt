@@ -29,12 +29,3 @@ pub use laws::{
 };
 pub use purge::purge_run;
 pub use station::Station;
-
-#[cfg(test)]
-mod checkers;
-#[cfg(test)]
-mod rows;
-#[cfg(test)]
-mod tests;
-#[cfg(test)]
-mod walks;

@@ -1,13 +1,7 @@
-//! Tests of links, ports and domains by their public calls.
+//! Tests of ports and of domains by their public calls: what no text of a run shows.
 #![tactic(auto)]
 
 #[cfg(test)]
-mod credits_and_wires;
-#[cfg(test)]
 mod domains;
 #[cfg(test)]
-mod edges;
-#[cfg(test)]
-mod hierarchies;
-#[cfg(test)]
-mod outgoing;
+mod turns;

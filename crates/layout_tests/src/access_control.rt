@@ -1,4 +1,4 @@
-use acs::{AcsBlock, Verdict, guarded_completions_go_up, guarded_requests_go_up, redirect, vet};
+use acs::{AcsBlock, Verdict, redirect, vet};
 use bridge::Route;
 use fab_types::{AcsControl, AddressType, Bdf, Check, Header, PortId};
 use layout::{Layout, PortLine};
@@ -93,7 +93,5 @@ fn a_guarded_port_sends_all_up_but_relaxed_completions(rt: HostRuntime) -> Resul
         redirect(&port, Route::OwnEgress, &request(0x0600)),
         Route::Up
     );
-    guarded_requests_go_up();
-    guarded_completions_go_up();
     Ok(())
 }

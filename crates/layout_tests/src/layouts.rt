@@ -1,8 +1,140 @@
-mod calls;
-mod texts;
+//! What a platform that was read gives.
 
-use layout::Start;
+use fab_types::{Bdf, DomainId};
+use layout::{Layout, MapTarget, Start};
 use std::test::Fail;
+
+/// A tree of two switches: two domains, four functions.
+const EXAMPLE: &str = "pciefab 1
+frames 4
+switch 01:00.0 root
+port 02:00.0 03 03 90000000 900fffff 1f 1
+port 02:01.0 04 07 90100000 902fffff 1f 2
+port 02:02.0 08 09 90300000 903fffff 1f 1
+switch 04:00.0 02:01.0
+port 05:00.0 06 06 90100000 901fffff 1f 2
+port 05:01.0 07 07 90200000 902fffff 1f 2
+function 03:00.0 90000000
+function 06:00.0 90100000
+function 07:00.0 90200000
+function 08:00.0 90300000
+map 03:00.0 1 frame 0 rw
+map 03:00.0 2 peer 08:00.0 rw
+budget 1 1000
+budget 2 6000
+";
+
+fn read(rt: &HostRuntime, text: &str) -> Result<Layout, Fail> {
+    Ok(Layout::read(rt.alloc(), text)?)
+}
+
+#[test]
+fn the_example_is_two_switches_five_ports_and_four_functions(rt: HostRuntime) -> Result<(), Fail> {
+    let layout = read(&rt, EXAMPLE)?;
+    assert!(rt; layout.is_guarded());
+    assert_eq!(rt; layout.switches().len(), 2);
+    assert_eq!(rt; layout.ports().len(), 5);
+    assert_eq!(rt; layout.functions().len(), 4);
+    Ok(())
+}
+
+#[test]
+fn one_control_missing_on_one_port_leaves_a_layout_unguarded(rt: HostRuntime) -> Result<(), Fail> {
+    let text = "pciefab 1
+switch 01:00.0 root
+port 02:00.0 03 03 90000000 900fffff 1f 1
+port 02:01.0 04 04 90100000 901fffff 17 1
+";
+    assert!(rt; !read(&rt, text)?.is_guarded());
+    Ok(())
+}
+
+#[test]
+fn an_id_is_owned_by_its_bus_or_as_a_host(rt: HostRuntime) -> Result<(), Fail> {
+    let layout = read(&rt, EXAMPLE)?;
+    let owner = |id: Bdf| layout.owner(id).map(|domain| domain.get());
+    assert_eq!(rt; owner(Bdf::from_bits(0x0300)), Some(1));
+    assert_eq!(rt; owner(Bdf::from_bits(0x0328)), Some(1));
+    assert_eq!(rt; owner(Bdf::from_bits(0x0500)), Some(2));
+    assert_eq!(rt; owner(Bdf::from_bits(0x0918)), Some(1));
+    assert_eq!(rt; owner(Bdf::from_bits(0x0a00)), None);
+    assert_eq!(rt; owner(Bdf::from_bits(0x0010)), Some(2));
+    assert_eq!(rt; owner(Bdf::from_bits(0x0018)), None);
+    Ok(())
+}
+
+#[test]
+fn a_link_has_usual_credits_or_those_of_its_line(rt: HostRuntime) -> Result<(), Fail> {
+    let mut text = String::from_str(rt.alloc(), EXAMPLE)?;
+    text.push_str("credit 04:00.0 1 16 2 17 3 18\n")?;
+    let layout = read(&rt, text.as_str())?;
+    let headers = |id: Bdf| {
+        layout.credits(id).map(|limits| (
+            limits.posted_headers,
+            limits.non_posted_headers,
+            limits.completion_headers,
+        ))
+    };
+    let payload = |id: Bdf| {
+        layout.credits(id).map(|limits| (
+            limits.posted_data,
+            limits.non_posted_data,
+            limits.completion_data,
+        ))
+    };
+    assert_eq!(rt; headers(Bdf::from_bits(0x0300)), Some((16, 16, 16)));
+    assert_eq!(rt; payload(Bdf::from_bits(0x0300)), Some((64, 16, 64)));
+    assert_eq!(rt; headers(Bdf::from_bits(0x0400)), Some((1, 2, 3)));
+    assert_eq!(rt; payload(Bdf::from_bits(0x0400)), Some((16, 17, 18)));
+    assert_eq!(rt; headers(Bdf::from_bits(0x0100)), Some((16, 16, 16)));
+    assert_eq!(rt; headers(Bdf::from_bits(0x0200)), None);
+    Ok(())
+}
+
+#[test]
+fn a_domain_starts_from_its_own_share(rt: HostRuntime) -> Result<(), Fail> {
+    let mut text = String::from_str(rt.alloc(), EXAMPLE)?;
+    text.push_str("map 08:00.0 5 frame 3 r\nmap 03:00.0 9 frame 3 w\nmap 06:00.0 1 frame 2 w\n")?;
+    let layout = read(&rt, text.as_str())?;
+    let one = DomainId::new(1).ok_or("no domain")?;
+    let start = layout.start(rt.alloc(), one)?.ok_or("no start")?;
+    assert_eq!(rt; start.domain().get(), 1);
+    assert_eq!(rt; start.budget(), 1000);
+    assert_eq!(rt; start.frames(), [0, 3].as_slice());
+    assert_eq!(rt; start.maps().len(), 4);
+    assert!(rt;
+        start
+            .maps()
+            .iter()
+            .all(|map| map.target != MapTarget::Frame(2))
+    );
+    assert_eq!(rt;
+        (
+            start.switches().len(),
+            start.ports().len(),
+            start.functions().len()
+        ),
+        (2, 5, 4)
+    );
+    assert!(rt; start.is_guarded());
+    let three = DomainId::new(3).ok_or("no domain")?;
+    assert!(rt; layout.start(rt.alloc(), three)?.is_none());
+    Ok(())
+}
+
+#[test]
+fn a_domain_without_a_budget_line_may_make_256_begins(rt: HostRuntime) -> Result<(), Fail> {
+    let text = "pciefab 1
+switch 01:00.0 root
+port 02:00.0 03 03 90000000 900fffff 1f 7
+";
+    let seven = DomainId::new(7).ok_or("no domain")?;
+    let start = read(&rt, text)?
+        .start(rt.alloc(), seven)?
+        .ok_or("no start")?;
+    assert_eq!(rt; start.budget(), 256);
+    Ok(())
+}
 
 #[test]
 fn the_smallest_platform_has_one_of_each(rt: HostRuntime) -> Result<(), Fail> {

@@ -6,18 +6,8 @@ mod access_control;
 #[cfg(test)]
 mod layouts;
 #[cfg(test)]
-mod links;
-#[cfg(test)]
 mod memory;
 #[cfg(test)]
 mod routes;
 #[cfg(test)]
 mod scripts;
-#[cfg(test)]
-mod statements;
-#[cfg(test)]
-mod tables;
-#[cfg(test)]
-mod texts;
-#[cfg(test)]
-mod violations;

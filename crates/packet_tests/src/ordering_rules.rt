@@ -1,5 +1,5 @@
 use fab_types::Class::{self, Completion, NonPosted, Posted};
-use ordering::{eligible, may_pass, takes_the_eligible};
+use ordering::{eligible, may_pass};
 
 #[test]
 fn a_packet_is_eligible_where_it_may_pass_every_older_one(rt: HostRuntime) {
@@ -21,7 +21,6 @@ fn a_packet_is_eligible_where_it_may_pass_every_older_one(rt: HostRuntime) {
 
 #[test]
 fn only_a_posted_packet_stops_the_other_classes(rt: HostRuntime) {
-    takes_the_eligible::<Class>();
     for class in [Posted, NonPosted, Completion] {
         assert!(rt; !may_pass(class, class), "{class:?}");
         assert!(rt; !may_pass(class, Posted), "{class:?}");

@@ -2,31 +2,7 @@
 //! domains (the tenants) then holds.
 #![tactic(auto)]
 
-#[cfg(test)]
-mod aliens;
-#[cfg(test)]
-mod cleared;
 mod host;
-#[cfg(test)]
-mod host_requests;
-#[cfg(test)]
-mod moves;
-#[cfg(test)]
-mod programs;
-#[cfg(test)]
-mod random;
-#[cfg(test)]
-mod random_events;
-#[cfg(test)]
-mod runs;
-#[cfg(test)]
-mod taken_out;
-#[cfg(test)]
-mod tests;
-#[cfg(test)]
-mod texts;
-#[cfg(test)]
-mod turns;
 
 use commands::{command, stopped};
 use host::HostFiles;

@@ -2,7 +2,7 @@ use Rattle.std.proofs.Common.{[], ◌++◌}
 use Rattle.std.specs.List.{flat_map}
 use Rattle.fabric_core.specs.Stations.{events_at}
 use Rattle.commands.proofs.Running.{drive_next, drive_start, drive_whole}
-use Rattle.commands.proofs.Writing.{joined, nothing}
+use Rattle.reports.proofs.Writing.{joined, nothing}
 use Rattle.commands.proofs.drive.drive_all.Goals as goal
 
 pub loop-line-init : goal.loop-line-init

@@ -1,7 +1,8 @@
 use Rattle.std.proofs.Common.{take}
 use Rattle.std.specs.List.{flat_map}
 use Rattle.fabric_core.specs.Stations.{events_at}
-use Rattle.commands.specs.Driving.{Drives, Wrote}
+use Rattle.commands.specs.Driving.{Drives}
+use Rattle.reports.specs.Writing.{Wrote}
 use Rattle.commands.proofs.drive.drive_all.Given as goal
 
 -- the lines so far were done

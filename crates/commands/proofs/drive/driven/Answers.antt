@@ -7,7 +7,7 @@ use Rattle.fabric_core.specs.Stations.{events_at}
 use Rattle.fabric_core.specs.TakenOut.{NoneCanTell}
 use Rattle.fabric_core.specs.World.{World, is_guarded, world_of}
 use Rattle.commands.specs.Driving.{Drives}
-use Rattle.commands.specs.Sweeps.{IsSweep}
+use Rattle.sweeps.specs.Sweeps.{IsSweep}
 use Rattle.commands.proofs.Isolating.{isolated_by}
 use Rattle.commands.proofs.drive.driven.Goals as goal
 

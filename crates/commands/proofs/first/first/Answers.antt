@@ -1,7 +1,7 @@
 use Rattle.std.proofs.Common.{◌++◌, refl}
 use Rattle.std.specs.List.{flat_map}
-use Rattle.commands.specs.Report.{memory_lines}
-use Rattle.commands.proofs.Writing.{joined}
+use Rattle.reports.specs.Report.{memory_lines}
+use Rattle.reports.proofs.Writing.{joined}
 use Rattle.commands.proofs.first.first.Goals as goal
 
 -- the refusal, if any, and then the memory

@@ -1,7 +1,7 @@
 use Rattle.std.proofs.Common.{take}
 use Rattle.std.specs.Io.KnownBytes.{Appends}
 use Rattle.std.specs.List.{flat_map}
-use Rattle.commands.specs.Report.{memory_lines}
+use Rattle.reports.specs.Report.{memory_lines}
 use Rattle.commands.proofs.first.write_memory.Given as goal
 
 -- the domains so far are written

@@ -1,4 +1,4 @@
-use Rattle.commands.proofs.Writing.{kept_after}
+use Rattle.reports.proofs.Writing.{kept_after}
 use Rattle.commands.proofs.program.carried_out.Goals as goal
 
 pub returns : goal.returns

@@ -1,7 +1,7 @@
 use Rattle.std.specs.Prelude.{OnOk}
-use Rattle.commands.specs.Driving.{Wrote}
+use Rattle.reports.specs.Writing.{Wrote}
 use Rattle.commands.specs.Runs.{AskedPrints}
-use Rattle.commands.proofs.Asking.{alone_asked, first_asked, run_asked}
+use Rattle.command_line.proofs.Asking.{alone_asked, first_asked, run_asked}
 use Rattle.commands.proofs.program.perform.Goals as goal
 
 pub returns-in-First : goal.returns-in-First

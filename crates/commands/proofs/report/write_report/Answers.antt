@@ -1,6 +1,6 @@
 use Rattle.std.proofs.Common.{◌++◌, refl}
-use Rattle.commands.specs.Report.{violation_lines}
-use Rattle.commands.proofs.Writing.{joined}
+use Rattle.reports.specs.Report.{violation_lines}
+use Rattle.reports.proofs.Writing.{joined}
 use Rattle.commands.proofs.report.write_report.Goals as goal
 
 pub returns : goal.returns

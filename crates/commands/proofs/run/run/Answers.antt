@@ -1,5 +1,5 @@
 use Rattle.std.proofs.Common.{◌++◌, refl}
-use Rattle.commands.proofs.Writing.{joined}
+use Rattle.reports.proofs.Writing.{joined}
 use Rattle.commands.proofs.run.run.Goals as goal
 
 pub returns : goal.returns

@@ -1,0 +1,102 @@
+//! The description of the program's commands, from which `clap` reads words and makes help.
+
+ghost use Rattle.std.specs.Prelude.{◌≡◌, IfOk};
+ghost use Rattle.clap.specs.Words.{App, app_of, new_app, with_rule};
+ghost use Rattle.command_line.specs.CommandLine.{IsDefined, alone_command, commands, files_command, first_command, word_rule};
+
+use clap::{Arg, ArgAction, Command};
+use std::alloc::{AllocError, Global};
+
+const ABOUT: &str =
+    "Runs a fabric of PCI Express switches whose domains (tenants) are kept apart by Access Control Services";
+
+const FIRST_ABOUT: &str =
+    "Submits one packet at the only function of the smallest fabric, and prints the memory that it changed";
+
+const RUN_ABOUT: &str =
+    "Runs the fabric of a layout by the lines of a script, and prints what each domain then holds";
+
+const ALONE_ABOUT: &str = "Runs the same, and prints one domain as its journal alone leaves it";
+
+const PACKET_HELP: &str = "The bytes of the packet in lower-case hexadecimal, or - for no bytes";
+
+const LAYOUT_HELP: &str =
+    "The file of the layout: switches, ports, functions and what each domain may reach";
+
+const SCRIPT_HELP: &str =
+    "The file of the script: what functions and hosts begin, and when packets move";
+
+const DOMAIN_HELP: &str = "The number of the domain, 1 to 31";
+
+const EXAMPLE: &str = "\
+Example: a posted write of the bytes 11 22 33 44 to address 0x1000, which is mapped to frame 0
+
+  $ pciefab first 400000010300000f0000100011223344
+  frame 0 000 11223344000000000000000000000000
+
+The text of a layout is described in docs/LAYOUT.md, that of a script and what is printed in docs/FORMATS.md.
+The exit status is 0, 2 where memory is refused, or 1 for any other fault.";
+
+/// A subcommand without words.
+fn subcommand<'a>(alloc: Global, name: &'a str, about: &'a str) -> Command<'a>
+    ensures { IsDefined result (new_app name.entry.now) }
+{
+    Command::new(alloc, name).about(about).after_help(EXAMPLE)
+}
+
+/// The command with one word more, which has to be there.
+fn with_word<'a>(
+    alloc: Global,
+    command: Command<'a>,
+    name: &'a str,
+    help: &'a str,
+) -> Result<Command<'a>, AllocError>
+    ensures { (app : App) → IsDefined command.entry app → IfOk result (λ more. IsDefined more (with_rule app (word_rule name.entry.now))) }
+{
+    let word = Arg::new(alloc, name)
+        .required(true)
+        .action(ArgAction::Set)
+        .help(help);
+    command.arg(word)
+}
+
+/// A subcommand with the names of two files.
+fn with_files<'a>(alloc: Global, name: &'a str, about: &'a str) -> Result<Command<'a>, AllocError>
+    ensures { IfOk result (λ command. IsDefined command (files_command name.entry.now)) }
+{
+    let plain = subcommand(alloc, name, about);
+    let with_layout = with_word(alloc, plain, "LAYOUT", LAYOUT_HELP)?;
+    with_word(alloc, with_layout, "SCRIPT", SCRIPT_HELP)
+}
+
+fn first_definition<'a>(alloc: Global) -> Result<Command<'a>, AllocError>
+    ensures { IfOk result (λ command. IsDefined command first_command) }
+{
+    let plain = subcommand(alloc, "first", FIRST_ABOUT);
+    with_word(alloc, plain, "HEX", PACKET_HELP)
+}
+
+fn alone_definition<'a>(alloc: Global) -> Result<Command<'a>, AllocError>
+    ensures { IfOk result (λ command. IsDefined command alone_command) }
+{
+    let with_files = with_files(alloc, "alone", ALONE_ABOUT)?;
+    with_word(alloc, with_files, "DOMAIN", DOMAIN_HELP)
+}
+
+/// The program with its commands.
+pub fn definition<'a>(alloc: Global) -> Result<Command<'a>, AllocError>
+    ensures { IfOk result (λ command. app_of command ≡ commands) }
+{
+    let program = Command::new(alloc, "pciefab")
+        .no_binary_name(true)
+        .bin_name("pciefab")?
+        .about(ABOUT)
+        .after_help(EXAMPLE)
+        .subcommand_required(true);
+    let first = first_definition(alloc)?;
+    let run = with_files(alloc, "run", RUN_ABOUT)?;
+    let alone = alone_definition(alloc)?;
+    let with_first = program.subcommand(first)?;
+    let with_run = with_first.subcommand(run)?;
+    with_run.subcommand(alone)
+}

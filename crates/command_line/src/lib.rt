@@ -1,0 +1,7 @@
+//! The words of the program's command line: what they ask for.
+#![tactic(auto)]
+
+mod description;
+mod request;
+
+pub use request::{Files, Request, WordsFault, read_request};

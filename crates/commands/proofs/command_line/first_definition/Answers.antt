@@ -1,6 +1,0 @@
-use Rattle.clap.specs.Words.{new_app}
-use Rattle.std.specs.Prelude.{codes}
-use Rattle.commands.proofs.command_line.first_definition.Goals as goal
-
-pub returns : goal.returns
-returns c = c.with_word.ensures (new_app (codes "first")) c.subcommand-plain.ensures

@@ -1,7 +1,0 @@
-use Rattle.commands.specs.Report.{violation_row}
-use Rattle.commands.proofs.Writing.{lines_next}
-use Rattle.commands.proofs.report.write_violations.Goals as goal
-
-pub loop-violation-preserved : goal.loop-violation-preserved
-loop-violation-preserved g c =
-    lines_next violation_row c.args.violations.now c.loop-violation.violation-index c.violation-item.result _ _ _ c.loop-violation-test.true c.violation-item.is c.loop-violation.invariant c.in_ok-write_violation.ensures

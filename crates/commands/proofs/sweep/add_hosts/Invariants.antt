@@ -1,6 +1,0 @@
-use Rattle.std.proofs.Common.{◌≡◌, ◌++◌, map, take}
-use Rattle.commands.specs.Sweeps.{host_outbox}
-use Rattle.commands.proofs.sweep.add_hosts.Given as goal
-
-abbrev pub invariant-loop-domain : goal.invariant-loop-domain
-invariant-loop-domain l = l.stations.items ≡ l.initial.stations.items ++ map host_outbox (take l.domain-index l.domains)

@@ -1,7 +1,0 @@
-use Rattle.std.proofs.Common.{◌≡◌, ◌++◌, take}
-use Rattle.std.specs.List.{flat_map}
-use Rattle.commands.specs.Sweeps.{both_ways}
-use Rattle.commands.proofs.sweep.add_links.Given as goal
-
-abbrev pub invariant-loop-lower : goal.invariant-loop-lower
-invariant-loop-lower l = l.stations.items ≡ l.initial.stations.items ++ flat_map both_ways (take l.lower-index l.lower_ends)

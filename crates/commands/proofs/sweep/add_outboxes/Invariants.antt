@@ -1,6 +1,0 @@
-use Rattle.std.proofs.Common.{◌≡◌, ◌++◌, map, take}
-use Rattle.fabric_core.specs.declared.station.Station.TheVariants as station
-use Rattle.commands.proofs.sweep.add_outboxes.Given as goal
-
-abbrev pub invariant-loop-function : goal.invariant-loop-function
-invariant-loop-function l = l.stations.items ≡ l.initial.stations.items ++ map station.FunctionOutbox (take l.function-index l.functions)

@@ -1,9 +1,0 @@
-use Rattle.std.proofs.Common.{◌-◌}
-use Rattle.std.specs.List.{flat_map}
-use Rattle.fabric_core.specs.Stations.{events_at}
-use Rattle.commands.proofs.Running.{Leads}
-use Rattle.commands.proofs.sweep.sweeps.Given as goal
-
--- what is left gives the whole
-abbrev pub invariant-loop : goal.invariant-loop
-invariant-loop g l = Leads (flat_map events_at l.stations) l.most l.initial.fabric (l.most - l.counter) l.fabric

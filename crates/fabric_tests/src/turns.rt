@@ -1,0 +1,355 @@
+//! Turns of ports over queues in memory, with one domain at the desk.
+
+ghost use Rattle.std.specs.Prelude.{⊤, ℕ, true, false};
+ghost use Rattle.domain.specs.Domains.{DomainView};
+ghost use Rattle.port.specs.Queues.{frames_of};
+
+use crate::domains::domain_of;
+use bridge::Bridge;
+use domain::Domain;
+use fab_types::Class::{Completion, NonPosted, Posted};
+use fab_types::{Bdf, Class, NoMemory, Outcome, PortId, Violation};
+use frame_log::{Frame, FrameFault};
+use layout::Layout;
+use port::{Desk, FrameQueue, LaneIn, LaneOut, Lanes, Port, Reporter, Reports};
+use std::alloc::Global;
+use std::sync::Wait;
+
+/// Two domains below two switches.
+const PLATFORM: &str = "pciefab 1
+frames 4
+switch 01:00.0 root
+port 02:00.0 03 03 90000000 900fffff 1f 1
+port 02:01.0 04 07 90100000 902fffff 1f 2
+port 02:02.0 08 09 90300000 903fffff 1f 1
+switch 04:00.0 02:01.0
+port 05:00.0 06 06 90100000 901fffff 1f 2
+port 05:01.0 07 07 90200000 902fffff 1f 2
+function 03:00.0 90000000
+function 06:00.0 90100000
+function 07:00.0 90200000
+function 08:00.0 90300000
+map 03:00.0 1 frame 0 rw
+map 03:00.0 2 peer 08:00.0 rw
+";
+
+/// A desk with one domain.
+#[derive(Drop)]
+struct OneDomain {
+    domain: Domain,
+}
+
+impl Desk for OneDomain {
+    ghost Known = { DomainView };
+
+    ghost known = { λ d. d.domain };
+
+    ghost refuses = { λ known frame port answer after. ⊤ };
+
+    ghost unknown = { λ known frame port. ⊤ };
+
+    ghost wants = { λ known frame port. ⊤ };
+
+    fn refuse<W: Wait>(
+        &mut self,
+        rt: &W,
+        frame: Frame,
+        port: PortId,
+    ) -> Result<Option<Frame>, FrameFault> {
+        self.domain.refuse(rt, frame, port)
+    }
+}
+
+/// A lane that takes this many packets, and gives all others back without having said that it is full.
+#[derive(Drop)]
+struct Giving {
+    queue: FrameQueue<16>,
+    left: u64,
+    refused: u64,
+}
+
+impl LaneOut for Giving {
+    ghost Lane = { ℕ };
+
+    ghost lane = { λ _. 0 };
+
+    ghost sent = { λ l. frames_of l.queue.queue.waiting };
+
+    ghost refusals = { λ l. l.refused };
+
+    ghost may_refuse = { λ lane class. true };
+
+    ghost is_sure = { false };
+
+    fn is_full(&mut self, _class: Class) -> bool {
+        false
+    }
+
+    fn push(&mut self, frame: Frame) -> Result<(), Frame> {
+        if self.left == 0 {
+            self.refused = self.refused.wrapping_add(1);
+            return Err(frame);
+        }
+        match self.queue.push(frame) {
+            Ok(()) => {
+                self.left -= 1;
+                Ok(())
+            }
+            Err(frame) => {
+                self.refused = self.refused.wrapping_add(1);
+                Err(frame)
+            }
+        }
+    }
+}
+
+/// A reporter that has a place, or has none.
+#[derive(Drop)]
+struct Place {
+    reports: Reports,
+    is_free: bool,
+    refused: u64,
+}
+
+impl Reporter for Place {
+    ghost reported = { λ p. p.reports.violations };
+
+    ghost refusals = { λ p. p.refused };
+
+    ghost has_room = { λ place. false };
+
+    ghost is_sure = { false };
+
+    fn prepare_report(&mut self) -> Result<(), NoMemory> {
+        self.reports.prepare_report()
+    }
+
+    fn report(&mut self, violation: Violation) -> Result<(), Violation> {
+        if !self.is_free {
+            self.refused = self.refused.wrapping_add(1);
+            return Err(violation);
+        }
+        match self.reports.report(violation) {
+            Ok(()) => Ok(()),
+            Err(violation) => {
+                self.refused = self.refused.wrapping_add(1);
+                Err(violation)
+            }
+        }
+    }
+}
+
+fn port_id(id: u16) -> PortId {
+    PortId::new(Bdf::from_bits(id))
+}
+
+/// A port and its surroundings: the packets that came into it, its switch's lanes, a domain, the reports.
+#[derive(Drop)]
+struct Scene {
+    alloc: Global,
+    bridge: Bridge,
+    port: Port,
+    input: FrameQueue<127>,
+    outs: Vec<Giving>,
+    desk: OneDomain,
+    place: Place,
+}
+
+/// The lanes of a port's switch. Each takes this many packets.
+fn lanes_of(alloc: Global, port: &Port, left: u64) -> Option<Vec<Giving>> {
+    let mut outs = Vec::new(alloc);
+    for _ in 0..port.lanes() {
+        let lane = Giving {
+            queue: FrameQueue::new(),
+            left,
+            refused: 0,
+        };
+        outs.push(lane).ok()?;
+    }
+    Some(outs)
+}
+
+/// The port of this ID, whose lanes each take this many packets, with the domain of this number.
+fn port_with(alloc: Global, id: u16, number: u8, left: u64) -> Option<Scene> {
+    let layout = Layout::read(alloc, PLATFORM).ok()?;
+    let bridge = Bridge::new(alloc, &layout).ok()?;
+    let port = Port::new(alloc, &layout, port_id(id)).ok()??;
+    let outs = lanes_of(alloc, &port, left)?;
+    let domain = domain_of(alloc, &layout, number)?;
+    let place = Place {
+        reports: Reports::new(alloc),
+        is_free: true,
+        refused: 0,
+    };
+    Some(Scene {
+        alloc,
+        bridge,
+        port,
+        input: FrameQueue::new(),
+        outs,
+        desk: OneDomain { domain },
+        place,
+    })
+}
+
+impl Scene {
+    /// A function submits the packet of these bytes, which comes into the port.
+    fn submit<R: Wait>(&mut self, rt: &R, function: u16, word: &str) -> bool {
+        match self.submitted(rt, function, word) {
+            Some(frame) => self.input.push(frame).is_ok(),
+            None => false,
+        }
+    }
+
+    fn submitted<R: Wait>(&mut self, rt: &R, function: u16, word: &str) -> Option<Frame> {
+        let bytes = hex::decode(self.alloc, word).ok()?;
+        self.desk
+            .domain
+            .submit(rt, Bdf::from_bits(function), &bytes)
+            .ok()
+    }
+
+    /// A turn of the port, which has a lane for each way out of its switch.
+    fn turn<R: Wait>(&mut self, rt: &R, class: Class) -> Option<Outcome> {
+        if self.outs.len() != self.port.lanes() {
+            return None;
+        }
+        let mut lanes = Lanes {
+            bridge: &self.bridge,
+            input: &mut self.input,
+            outs: self.outs.as_mut_slice(),
+            desk: &mut self.desk,
+            reporter: &mut self.place,
+        };
+        Some(self.port.turn(rt, class, &mut lanes))
+    }
+
+    /// Does a packet of the class wait in this lane?
+    fn has_sent(&mut self, lane: usize, class: Class) -> bool {
+        match self.outs.get_mut(lane) {
+            Some(out) => out.queue.head(class).is_some(),
+            None => false,
+        }
+    }
+
+    /// Lets a lane take one packet.
+    fn permit(&mut self, lane: usize) -> bool {
+        match self.outs.get_mut(lane) {
+            Some(out) => {
+                out.left = 1;
+                true
+            }
+            None => false,
+        }
+    }
+
+    /// Does the step go as it says?
+    fn does<R: Wait>(&mut self, rt: &R, step: Step) -> bool {
+        match step {
+            Step::Submits(word) => self.submit(rt, SENDER, word),
+            Step::Moves(class) => self.turn(rt, class) == Some(Outcome::Moved),
+            Step::Rests(class) => self.turn(rt, class) == Some(Outcome::Idle),
+            Step::Keeps(class) => self.input.head(class).is_some(),
+            Step::Permits(lane) => self.permit(lane),
+            Step::Sent(lane, class) => self.has_sent(lane, class),
+            Step::SentNothing(lane, class) => !self.has_sent(lane, class),
+            Step::FreesPlace(is_free) => {
+                self.place.is_free = is_free;
+                true
+            }
+            Step::HoldsReport => self.port.held_report().is_some(),
+            Step::Reported(count) => self.place.reports.violations().len() == count,
+        }
+    }
+}
+
+/// A step of a test, and what is to come of it.
+#[derive(Clone, Copy)]
+enum Step {
+    /// The function below the port submits a packet, which comes into the port.
+    Submits(&'static str),
+    /// A turn moves a packet of the class, or none.
+    Moves(Class),
+    Rests(Class),
+    /// A packet of the class still waits before the port.
+    Keeps(Class),
+    /// A lane takes one packet from now on.
+    Permits(usize),
+    /// A packet of the class waits in a lane, or none.
+    Sent(usize, Class),
+    SentNothing(usize, Class),
+    /// From now on there is a place for a report, or there is none.
+    FreesPlace(bool),
+    HoldsReport,
+    /// So many violations were reported.
+    Reported(usize),
+}
+
+/// How many of these steps go as they say, at the port above 06:00.0 of domain 2, whose lanes each take this many
+/// packets.
+fn steps_done<R: Wait>(rt: &R, alloc: Global, left: u64, steps: &[Step]) -> Option<usize> {
+    let mut scene = port_with(alloc, PORT, 2, left)?;
+    let mut done = 0_usize;
+    for step in steps {
+        if !scene.does(rt, *step) {
+            return Some(done);
+        }
+        done = done.wrapping_add(1);
+    }
+    Some(done)
+}
+
+const SENDER: u16 = 0x0600;
+
+const PORT: u16 = 0x0500;
+
+const SPOOFED_WRITE: &str = "400000010300000f00001000deadbeef";
+
+const SPOOFED_READ: &str = "000000010300200f00001000";
+
+const WRITE_TO_A_PEER: &str = "400000010600000f9000000000000001";
+
+#[test]
+fn a_packet_that_the_lane_gives_back_stays_where_it_was(rt: HostRuntime) {
+    let steps = [
+        Step::Submits(WRITE_TO_A_PEER),
+        Step::Rests(Posted),
+        Step::Keeps(Posted),
+        Step::Permits(0),
+        Step::Moves(Posted),
+        Step::Sent(0, Posted),
+    ];
+    assert_eq!(rt; steps_done(&rt, rt.alloc(), 0, &steps), Some(steps.len()));
+}
+
+#[test]
+fn an_answer_that_the_lane_gives_back_is_put_later(rt: HostRuntime) {
+    let steps = [
+        Step::Submits(SPOOFED_READ),
+        Step::Moves(NonPosted),
+        Step::SentNothing(1, Completion),
+        Step::Permits(1),
+        Step::Rests(NonPosted),
+        Step::Sent(1, Completion),
+    ];
+    assert_eq!(rt; steps_done(&rt, rt.alloc(), 0, &steps), Some(steps.len()));
+}
+
+#[test]
+fn nothing_goes_on_while_a_report_is_held(rt: HostRuntime) {
+    let steps = [
+        Step::FreesPlace(false),
+        Step::Submits(SPOOFED_WRITE),
+        Step::Submits(WRITE_TO_A_PEER),
+        Step::Moves(Posted),
+        Step::HoldsReport,
+        Step::Rests(Posted),
+        Step::FreesPlace(true),
+        Step::Moves(Posted),
+        Step::Reported(1),
+        Step::SentNothing(0, Posted),
+        Step::Moves(Posted),
+        Step::Sent(0, Posted),
+    ];
+    assert_eq!(rt; steps_done(&rt, rt.alloc(), 16, &steps), Some(steps.len()));
+}

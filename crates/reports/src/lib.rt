@@ -1,0 +1,9 @@
+//! What is printed of a fabric: refused begins, violations, and what each domain holds.
+#![tactic(auto)]
+
+mod ids;
+mod report;
+mod rows;
+
+pub use ids::rising;
+pub use report::{write_domain, write_domains, write_frames, write_refusal, write_violations};

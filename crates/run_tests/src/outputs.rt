@@ -1,0 +1,79 @@
+//! Outputs that fail: what the commands answer then.
+
+use commands::{ExitStatus, FileFault, FileGiver, command};
+use std::alloc::Global;
+use std::io;
+use std::io::Write;
+use std::sync::Wait;
+use std::test::Fail;
+
+/// No file can be read.
+#[derive(Drop)]
+struct NoFiles;
+
+impl FileGiver for NoFiles {
+    ghost holds = { λ files name bytes. ⊥ };
+
+    fn bytes_of(&self, _name: &str) -> Result<Vec<u8>, FileFault> {
+        Err(FileFault::Unreadable)
+    }
+}
+
+/// A writer that fails so.
+#[derive(Drop)]
+struct Failing(io::ErrorKind);
+
+impl Write for Failing {
+    fn write(&mut self, _bytes: &[u8]) -> io::Result<usize> {
+        Err(io::Error::from(self.0))
+    }
+
+    fn flush(&mut self) -> io::Result<()> {
+        Ok(())
+    }
+}
+
+const FIRST: [&str; 2] = ["first", "400000010300000f0000100011223344"];
+
+const HELP: [&str; 1] = ["help"];
+
+/// The status and the line on standard error of a command whose standard output fails so.
+fn ended<R: Wait>(
+    rt: &R,
+    alloc: Global,
+    words: &[&str],
+    kind: io::ErrorKind,
+) -> Result<(u8, String), Fail> {
+    let mut out = Failing(kind);
+    let mut err = Vec::new(alloc);
+    let end = command(rt, alloc, words, &NoFiles, &mut out, &mut err);
+    Ok((end.code(), String::from_utf8(err)?))
+}
+
+#[test]
+fn an_output_that_fails_is_a_fault(rt: HostRuntime) -> Result<(), Fail> {
+    let cases = [
+        (io::ErrorKind::BrokenPipe, 1, "output: unwritable\n"),
+        (io::ErrorKind::OutOfMemory, 2, "out of memory\n"),
+    ];
+    for words in [FIRST.as_slice(), HELP.as_slice()] {
+        for (kind, status, line) in cases {
+            let (code, told) = ended(&rt, rt.alloc(), words, kind)?;
+            assert_eq!(rt; (code, told.as_str()), (status, line), "{words:?}");
+        }
+    }
+    Ok(())
+}
+
+/// The status of a command without its packet, and whether it printed anything, where standard error takes nothing.
+fn ended_unheard<R: Wait>(rt: &R, alloc: Global) -> (ExitStatus, bool) {
+    let mut out = Vec::new(alloc);
+    let mut err = Failing(io::ErrorKind::BrokenPipe);
+    let end = command(rt, alloc, &["first"], &NoFiles, &mut out, &mut err);
+    (end, out.is_empty())
+}
+
+#[test]
+fn a_standard_error_that_fails_leaves_the_status(rt: HostRuntime) {
+    assert_eq!(rt; ended_unheard(&rt, rt.alloc()), (ExitStatus::Stopped, true));
+}
