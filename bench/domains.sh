@@ -9,24 +9,24 @@ set -euo pipefail
 here=$(cd "$(dirname "$0")/.." && pwd)
 work=$(mktemp -d)
 trap 'rm -rf "$work"' EXIT
-mkdir -p "$work/crates/domains/src" "$work/texts"
-for crate in fab_types tlp_view function frame_log text statement layout host_memory host_table domain; do
+mkdir -p "$work/crates/begins/src" "$work/texts"
+for crate in fab_types tlp_view function frame_log text layout_line layout host_memory host_table request_handling domain; do
     cp -r "$here/crates/$crate" "$work/crates/$crate"
     rm -rf "$work/crates/$crate/must-fail"
 done
 cp "$here/HANDLES" "$work"
 {
-    grep -E '^(fab_types|tlp_view|function|frame_log|text|statement|layout|host_memory|host_table|domain):' "$here/crates.txt"
-    echo 'domains: fab_types frame_log layout domain'
+    grep -E '^(fab_types|tlp_view|function|frame_log|text|layout_line|layout|host_memory|host_table|request_handling|domain):' "$here/crates.txt"
+    echo 'begins: fab_types frame_log layout domain'
 } > "$work/crates.txt"
 
 # No function has a clause, so that each is proved at once.
-cat > "$work/crates/domains/src/main.rt" <<'PROGRAM'
+cat > "$work/crates/begins/src/main.rt" <<'PROGRAM'
 #![tactic(auto)]
 
-use domain::{Domain, HostAccess, Operation};
-use fab_types::{Bdf, DomainId, PortId};
-use frame_log::{Frame, Log, PacketBytes};
+use domain::Domain;
+use fab_types::{Bdf, DomainId, HostAccess, Operation, PacketBytes, PortId};
+use frame_log::{Frame, Log};
 use layout::{Layout, Start};
 use std::alloc::{AllocError, Global};
 use std::io::Write;
@@ -357,7 +357,7 @@ fn main(rt: HostRuntime) -> io::Result<()> {
 }
 PROGRAM
 # Not by rt try, whose build tests each access and is far slower.
-( cd "$work/crates/domains" && rt run > "$work/domains.log" 2>&1 ) || { tail -20 "$work/domains.log"; exit 1; }
+( cd "$work/crates/begins" && rt run > "$work/domains.log" 2>&1 ) || { tail -20 "$work/domains.log"; exit 1; }
 
 cat > "$work/texts/one function" <<'TEXT'
 pciefab 1
@@ -376,7 +376,7 @@ mv "$work/largest/one domain, frames in turn, map lines: 64" "$work/texts/57 fun
 rates() {
     local text
     for text in 'one function' '57 functions'; do
-        "$work/crates/domains/out/domains" "$work/texts/$text" "$1" "$2" > "$work/rounds"
+        "$work/crates/begins/out/begins" "$work/texts/$text" "$1" "$2" > "$work/rounds"
         awk -v name="$text, $3" '
             { begins = $1 / $2 * 1e3; entries = $3 / $4 * 1e3 }
             NR == 1 || begins < slow { slow = begins }

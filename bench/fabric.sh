@@ -98,14 +98,13 @@ cut -d: -f1 "$work/crates.txt" | while read -r crate; do
     rm -rf "$work/crates/$crate/must-fail"
 done
 cp "$here/HANDLES" "$work"
-echo 'fabrics: fab_types frame_log layout script domain fabric_core sweeps' >> "$work/crates.txt"
+echo 'fabrics: fab_types layout script domain fabric_core sweeps' >> "$work/crates.txt"
 
 cat > "$work/crates/fabrics/src/main.rt" <<'PROGRAM'
 #![tactic(auto)]
 
-use fab_types::{Class, NoMemory, Outcome};
+use fab_types::{Class, NoMemory, Outcome, PacketBytes};
 use fabric_core::{Event, Fabric, Station};
-use frame_log::PacketBytes;
 use layout::Layout;
 use script::{Command, Script};
 use sweeps::stations;

@@ -8,8 +8,8 @@ use Rattle.fab_types.specs.declared.head.AddressType.TheVariants.{Untranslated, 
 use Rattle.fab_types.specs.declared.head.Header.{Header}
 use Rattle.fab_types.specs.declared.head.Header.TheVariants as header
 use Rattle.fab_types.specs.declared.violation.Check.TheVariants.{SourceValidation, TranslationBlocking}
-use Rattle.layout.specs.declared.lines.PortLine.{PortLine}
-use Rattle.layout.specs.Owners.{holds_bus}
+use Rattle.platform.specs.declared.parts.DownstreamPort.{DownstreamPort}
+use Rattle.platform.specs.Owners.{holds_bus}
 use Rattle.acs.specs.declared.vetting.Verdict.{Verdict}
 use Rattle.acs.specs.declared.vetting.Verdict.TheVariants.{Pass, Violation}
 
@@ -24,7 +24,7 @@ abbrev pub is_request : Header → Bool
 is_request header = is_some (requester_of header)
 
 -- is its bus not among those below the port?
-abbrev pub is_outside : PortLine → Option ℕ → Bool
+abbrev pub is_outside : DownstreamPort → Option ℕ → Bool
 is_outside port None = false
 is_outside port (Some requester) = not (holds_bus port (bus_of requester))
 
@@ -43,15 +43,15 @@ claims_translation (header.OtherRequest requester) = false
 claims_translation (header.Completion target relaxed_ordering) = false
 
 -- ACS Source Validation
-abbrev pub fails_source : PortLine → Header → Bool
+abbrev pub fails_source : DownstreamPort → Header → Bool
 fails_source port header = validates_source port.controls && is_outside port (requester_of header)
 
 -- ACS Translation Blocking
-abbrev pub fails_translation : PortLine → Header → Bool
+abbrev pub fails_translation : DownstreamPort → Header → Bool
 fails_translation port header = blocks_translated port.controls && claims_translation header
 
 -- the first test that the packet fails
-abbrev pub verdict_of : PortLine → Header → Verdict
+abbrev pub verdict_of : DownstreamPort → Header → Verdict
 verdict_of port header =
     if fails_source port header then Violation SourceValidation
     else (if fails_translation port header then Violation TranslationBlocking

@@ -3,10 +3,10 @@
 ghost use Rattle.std.specs.Prelude.{◌≡◌, ◌≢◌, ◌⊎◌, ℕ, List, Bool, true, Some};
 ghost use Rattle.fab_types.specs.declared.head.Header.{Header};
 ghost use Rattle.fab_types.specs.declared.head.Header.TheVariants as header;
-ghost use Rattle.layout.specs.declared.lines.PortLine.{PortLine};
-ghost use Rattle.layout.specs.declared.lines.SwitchLine.{SwitchLine};
-ghost use Rattle.layout.specs.Share.{is_guarded_port};
-ghost use Rattle.layout.specs.Tree.{port_at};
+ghost use Rattle.platform.specs.declared.parts.DownstreamPort.{DownstreamPort};
+ghost use Rattle.platform.specs.declared.parts.Switch.{Switch};
+ghost use Rattle.platform.specs.Share.{is_guarded_port};
+ghost use Rattle.platform.specs.Tree.{port_at};
 ghost use Rattle.bridge.specs.declared.route.Route.{Route};
 ghost use Rattle.bridge.specs.declared.route.Route.TheVariants as to;
 ghost use Rattle.bridge.specs.Routes.{route_of};
@@ -16,9 +16,9 @@ ghost use Rattle.acs.specs.Redirection.{redirected};
 /// A port with all five controls set lets a request go up or to nobody, whatever its route was; and
 /// by the route that it has from that port, up.
 pub fn guarded_requests_go_up()
-    ensures anywhere { (port : PortLine) (route : Route) (header : Header) → is_guarded_port port ≡ true → is_request header ≡ true
+    ensures anywhere { (port : DownstreamPort) (route : Route) (header : Header) → is_guarded_port port ≡ true → is_request header ≡ true
         → (redirected port route header ≡ to.Up) ⊎ (redirected port route header ≡ to.Nobody) }
-    ensures routed { (switches : List SwitchLine) (ports : List PortLine) (ingress : ℕ) (port : PortLine) (header : Header)
+    ensures routed { (switches : List Switch) (ports : List DownstreamPort) (ingress : ℕ) (port : DownstreamPort) (header : Header)
         → port_at ports ingress ≡ Some port → is_guarded_port port ≡ true → is_request header ≡ true
         → redirected port (route_of switches ports ingress header) header ≡ to.Up }
 {}
@@ -26,7 +26,7 @@ pub fn guarded_requests_go_up()
 /// A port with all five controls set lets a completion go to another port only with Relaxed Ordering
 /// set, and then to the port of its route; and lets no packet go back.
 pub fn guarded_completions_go_up()
-    ensures relaxed { (port : PortLine) (route : Route) (target : ℕ) (relaxed_ordering : Bool) (other : ℕ) → is_guarded_port port ≡ true
+    ensures relaxed { (port : DownstreamPort) (route : Route) (target : ℕ) (relaxed_ordering : Bool) (other : ℕ) → is_guarded_port port ≡ true
         → redirected port route (header.Completion target relaxed_ordering) ≡ to.Port other → (relaxed_ordering ≡ true) × (route ≡ to.Port other) }
-    ensures back { (port : PortLine) (route : Route) (header : Header) → is_guarded_port port ≡ true → redirected port route header ≢ to.OwnEgress }
+    ensures back { (port : DownstreamPort) (route : Route) (header : Header) → is_guarded_port port ≡ true → redirected port route header ≢ to.OwnEgress }
 {}

@@ -7,7 +7,7 @@ ghost use Rattle.acs.specs.Redirection.{is_to_port, is_to_own_egress, is_strict_
 use crate::vetting::requester_of;
 use bridge::Route;
 use fab_types::Header;
-use layout::PortLine;
+use platform::DownstreamPort;
 
 fn is_to_port(route: &Route) -> bool
     ensures { result ≡ is_to_port route.now }
@@ -52,26 +52,26 @@ fn is_strict_completion(header: &Header) -> bool
     }
 }
 
-fn request_goes_up(port: &PortLine, route: &Route, header: &Header) -> bool
+fn request_goes_up(port: &DownstreamPort, route: &Route, header: &Header) -> bool
     ensures { result ≡ request_goes_up port.now route.now header.now }
 {
     port.controls.redirects_requests() && is_to_port(route) && is_request(header)
 }
 
-fn completion_goes_up(port: &PortLine, route: &Route, header: &Header) -> bool
+fn completion_goes_up(port: &DownstreamPort, route: &Route, header: &Header) -> bool
     ensures { result ≡ completion_goes_up port.now route.now header.now }
 {
     port.controls.redirects_completions() && is_to_port(route) && is_strict_completion(header)
 }
 
-fn own_goes_up(port: &PortLine, route: &Route) -> bool
+fn own_goes_up(port: &DownstreamPort, route: &Route) -> bool
     ensures { result ≡ own_goes_up port.now route.now }
 {
     port.controls.forwards_upstream() && is_to_own_egress(route)
 }
 
 /// Do the port's controls send the packet up in place of this route?
-fn goes_up(port: &PortLine, route: &Route, header: &Header) -> bool
+fn goes_up(port: &DownstreamPort, route: &Route, header: &Header) -> bool
     ensures { result ≡ goes_up port.now route.now header.now }
 {
     request_goes_up(port, route, header)
@@ -83,7 +83,7 @@ fn goes_up(port: &PortLine, route: &Route, header: &Header) -> bool
 /// the controls that are set there. P2P Request Redirect sends a request up that is for another port
 /// of the switch, P2P Completion Redirect such a completion with Relaxed Ordering clear, and Upstream
 /// Forwarding every packet that is for the port's own egress.
-pub fn redirect(port: &PortLine, route: Route, header: &Header) -> Route
+pub fn redirect(port: &DownstreamPort, route: Route, header: &Header) -> Route
     ensures { result ≡ redirected port.now route header.now }
 {
     if goes_up(port, &route, header) {

@@ -4,7 +4,7 @@ ghost use Rattle.std.specs.Prelude.{◌≡◌};
 ghost use Rattle.acs.specs.Vetting.{requester_of, is_outside, is_translated, claims_translation, fails_source, fails_translation, verdict_of};
 
 use fab_types::{AddressType, Bdf, Check, Header};
-use layout::PortLine;
+use platform::DownstreamPort;
 
 /// What a downstream port says of a packet that comes up.
 #[derive(Clone, Copy, Debug, PartialEq, Eq)]
@@ -27,7 +27,7 @@ pub fn requester_of(header: &Header) -> Option<Bdf>
     }
 }
 
-fn is_outside(port: &PortLine, requester: Option<Bdf>) -> bool
+fn is_outside(port: &DownstreamPort, requester: Option<Bdf>) -> bool
     ensures { result ≡ is_outside port.now requester }
 {
     match requester {
@@ -58,13 +58,13 @@ fn claims_translation(header: &Header) -> bool
     }
 }
 
-fn fails_source(port: &PortLine, header: &Header) -> bool
+fn fails_source(port: &DownstreamPort, header: &Header) -> bool
     ensures { result ≡ fails_source port.now header.now }
 {
     port.controls.validates_source() && is_outside(port, requester_of(header))
 }
 
-fn fails_translation(port: &PortLine, header: &Header) -> bool
+fn fails_translation(port: &DownstreamPort, header: &Header) -> bool
     ensures { result ≡ fails_translation port.now header.now }
 {
     port.controls.blocks_translated() && claims_translation(header)
@@ -74,7 +74,7 @@ fn fails_translation(port: &PortLine, header: &Header) -> bool
 /// set there: first Source Validation, of each request, then Translation Blocking, of memory reads
 /// and writes alone, which is this project's own. Completions pass. Malformed packets pass too: they
 /// are discarded before this test.
-pub fn vet(port: &PortLine, header: &Header) -> Verdict
+pub fn vet(port: &DownstreamPort, header: &Header) -> Verdict
     ensures { result ≡ verdict_of port.now header.now }
 {
     if fails_source(port, header) {

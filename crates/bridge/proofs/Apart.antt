@@ -5,11 +5,11 @@ use Rattle.std.specs.List.{list_all, find}
 use Rattle.std.proofs.lemmas.List.Sums.{sum_by-cons, AllPass-from_list_all}
 use Rattle.std.proofs.lemmas.Bool.{eqb-true, eq-eqb, leb-true, le-leb, and_parts, cond-true, false≢true}
 use Rattle.fab_types.specs.Id.{bus_of}
-use Rattle.layout.specs.declared.lines.PortLine.{PortLine}
+use Rattle.platform.specs.declared.parts.DownstreamPort.{DownstreamPort}
 use Rattle.layout.specs.Laws.{each_pair, are_apart}
-use Rattle.layout.specs.Owners.{holds_bus, holds_address}
-use Rattle.layout.specs.Rules.{is_on_bus}
-use Rattle.layout.specs.Tree.{port_at}
+use Rattle.platform.specs.Owners.{holds_bus, holds_address}
+use Rattle.platform.specs.Tree.{is_on_bus}
+use Rattle.platform.specs.Tree.{port_at}
 use Rattle.bridge.specs.declared.target.Target.{Target}
 use Rattle.bridge.specs.declared.target.Target.TheVariants.{Bus, Address}
 use Rattle.bridge.specs.Routes.{is_holder, holder_on}
@@ -39,7 +39,7 @@ meeting one other bus low high low' high' n apart here there p q =
     (le-leb low high' (omega arith)) (le-leb low' high (omega arith))
 
 -- two ports that are apart don't both have the target below
-holder-clash : (bus : ℕ) (target : Option Target) (one other : PortLine) → are_apart one other ≡ true → is_holder bus target one ≡ true → is_holder bus target other ≡ true → ⊥
+holder-clash : (bus : ℕ) (target : Option Target) (one other : DownstreamPort) → are_apart one other ≡ true → is_holder bus target one ≡ true → is_holder bus target other ≡ true → ⊥
 holder-clash bus None one other apart p q = false≢true (and_parts _ false p).1
 holder-clash bus (Some (Bus n)) one other apart p q =
     let apart' = and_parts _ _ (and_parts _ _ apart).0 in
@@ -78,7 +78,7 @@ one-at-most r p (x ∷ xs) clash apart =
     rw (sum_by-cons (λ z. cond (p z) 1 0) x xs) (one-first (p x) (count_by p xs) (one-at-most r p xs clash apart'.1) (λ here. none-beside r p x xs clash here apart'.0))
 
 -- a target is below one port of a switch at most
-pub holders-once : (ports : List PortLine) (bus : ℕ) (target : Option Target) → each_pair are_apart ports ≡ true → count_by (is_holder bus target) ports ≤ 1
+pub holders-once : (ports : List DownstreamPort) (bus : ℕ) (target : Option Target) → each_pair are_apart ports ≡ true → count_by (is_holder bus target) ports ≤ 1
 holders-once ports bus target apart = one-at-most are_apart (is_holder bus target) ports (holder-clash bus target) apart
 
 found-first : {X : Type 0} (b : Bool) (x y : X) (further : Option X) → (b ≡ true → ⊥) → further ≡ Some y → cond b (Some x) further ≡ Some y
@@ -105,11 +105,11 @@ id-clash id one other apart p q =
     not-both (one.id == other.id) apart'.0 same
 
 -- the port that has the target below is the one that is found
-pub holder-found : (ports : List PortLine) (bus : ℕ) (target : Option Target) → each_pair are_apart ports ≡ true
-    → (k : ℕ) (d : PortLine) → k < length ports → is_holder bus target (slice_index_or ports k d) ≡ true → holder_on ports bus target ≡ Some (slice_index_or ports k d)
+pub holder-found : (ports : List DownstreamPort) (bus : ℕ) (target : Option Target) → each_pair are_apart ports ≡ true
+    → (k : ℕ) (d : DownstreamPort) → k < length ports → is_holder bus target (slice_index_or ports k d) ≡ true → holder_on ports bus target ≡ Some (slice_index_or ports k d)
 holder-found ports bus target apart k d within holder = found-alone are_apart (is_holder bus target) ports (holder-clash bus target) apart k d within holder
 
 -- a port is found by its ID
-pub port-found : (ports : List PortLine) (id : ℕ) → each_pair are_apart ports ≡ true
-    → (k : ℕ) (d : PortLine) → k < length ports → ((slice_index_or ports k d).id == id) ≡ true → port_at ports id ≡ Some (slice_index_or ports k d)
+pub port-found : (ports : List DownstreamPort) (id : ℕ) → each_pair are_apart ports ≡ true
+    → (k : ℕ) (d : DownstreamPort) → k < length ports → ((slice_index_or ports k d).id == id) ≡ true → port_at ports id ≡ Some (slice_index_or ports k d)
 port-found ports id apart k d within is = found-alone are_apart (λ port. port.id == id) ports (id-clash id) apart k d within is

@@ -4,11 +4,11 @@ use Rattle.std.specs.Prelude.{◌==◌, ◌&&◌, option_map}
 use Rattle.std.specs.List.{find, filter, list_all}
 use Rattle.std.proofs.lemmas.Bool.{eqb-true, eq-eqb, false≢true}
 use Rattle.fab_types.specs.Id.{bus_of}
-use Rattle.layout.specs.declared.lines.PortLine.{PortLine}
-use Rattle.layout.specs.declared.lines.SwitchLine.{SwitchLine}
+use Rattle.platform.specs.declared.parts.DownstreamPort.{DownstreamPort}
+use Rattle.platform.specs.declared.parts.Switch.{Switch}
 use Rattle.layout.specs.Laws.{is_nested, is_nested_on}
-use Rattle.layout.specs.Rules.{is_on_bus}
-use Rattle.layout.specs.Tree.{port_at, internal_bus, switch_on}
+use Rattle.platform.specs.Tree.{is_on_bus}
+use Rattle.platform.specs.Tree.{port_at, internal_bus, switch_on}
 use Rattle.layout.proofs.Bools.{all-found}
 use Rattle.bridge.specs.declared.route.Route.TheVariants.{Up, OwnEgress, Nobody}
 use Rattle.bridge.specs.declared.target.Target.{Target}
@@ -55,65 +55,65 @@ find-passes p [] y e = absurd cc
 find-passes p (x ∷ xs) y e = passes-first p (p x) x y (find p xs) refl (find-passes p xs y) e
 
 -- the ports of a switch, and among them a port by its ID
-own-among : (ports : List PortLine) (line : SwitchLine) (ingress : ℕ) → (internal_bus line == bus_of ingress) ≡ true
+own-among : (ports : List DownstreamPort) (line : Switch) (ingress : ℕ) → (internal_bus line == bus_of ingress) ≡ true
     → port_at (group_of ports line).ports ingress ≡ port_at ports ingress
 own-among ports line ingress on =
-    find-filter (λ (port : PortLine). port.id == ingress) (is_on_bus (internal_bus line)) ports
-    ∙ find-both (λ (port : PortLine). port.id == ingress) (is_on_bus (internal_bus line)) ports
+    find-filter (λ (port : DownstreamPort). port.id == ingress) (is_on_bus (internal_bus line)) ports
+    ∙ find-both (λ (port : DownstreamPort). port.id == ingress) (is_on_bus (internal_bus line)) ports
     (λ port is. eq-eqb (bus_of port.id) (internal_bus line) (ap bus_of (eqb-true port.id ingress is) ∙ sym (eqb-true (internal_bus line) (bus_of ingress) on)))
 
 -- and the one that has the target below
-holder-among : (ports : List PortLine) (line : SwitchLine) (target : Option Target) → holder_of (group_of ports line) target ≡ holder_on ports (internal_bus line) target
-holder-among ports line target = find-filter (λ (port : PortLine). holds port target) (is_on_bus (internal_bus line)) ports
+holder-among : (ports : List DownstreamPort) (line : Switch) (target : Option Target) → holder_of (group_of ports line) target ≡ holder_on ports (internal_bus line) target
+holder-among ports line target = find-filter (λ (port : DownstreamPort). holds port target) (is_on_bus (internal_bus line)) ports
 
-into-same : (ports : List PortLine) (line : Option SwitchLine) (target : Option Target) → route_into (option_map (group_of ports) line) target ≡ route_below ports line target
+into-same : (ports : List DownstreamPort) (line : Option Switch) (target : Option Target) → route_into (option_map (group_of ports) line) target ≡ route_below ports line target
 into-same ports None target = refl
 into-same ports (Some line) target = ap (to_holder Nobody) (holder-among ports line target)
 
-below-same : (switches : List SwitchLine) (ports : List PortLine) (ingress : ℕ) (target : Option Target)
+below-same : (switches : List Switch) (ports : List DownstreamPort) (ingress : ℕ) (target : Option Target)
     → route_into (group_at (groups_of switches ports) ingress) target ≡ route_below ports (switch_at switches ingress) target
 below-same switches ports ingress target =
     ap (λ o. route_into o target) (find-map (λ (group : Group). group.line.id == ingress) (group_of ports) switches)
     ∙ into-same ports (switch_at switches ingress) target
 
-across-same : (ports : List PortLine) (line : SwitchLine) (own : PortLine) (target : Option Target) → internal_bus line ≡ bus_of own.id
+across-same : (ports : List DownstreamPort) (line : Switch) (own : DownstreamPort) (target : Option Target) → internal_bus line ≡ bus_of own.id
     → to_holder Up (holder_of (group_of ports line) target) ≡ to_holder Up (holder_on ports (bus_of own.id) target)
 across-same ports line own target same = ap (to_holder Up) (holder-among ports line target ∙ ap (λ (bus : ℕ). holder_on ports bus target) same)
 
-own-same : (switches : List SwitchLine) (ports : List PortLine) (ingress : ℕ) (target : Option Target) (line : SwitchLine) (own : Option PortLine)
+own-same : (switches : List Switch) (ports : List DownstreamPort) (ingress : ℕ) (target : Option Target) (line : Switch) (own : Option DownstreamPort)
     → (internal_bus line == bus_of ingress) ≡ true → port_at ports ingress ≡ own
     → route_unless_own (groups_of switches ports) ingress target (group_of ports line) own ≡ route_from switches ports ingress target own
 own-same switches ports ingress target line None on at = below-same switches ports ingress target
 own-same switches ports ingress target line (Some own) on at =
-    let is : own.id ≡ ingress = eqb-true own.id ingress (find-passes (λ (port : PortLine). port.id == ingress) ports own at) in
+    let is : own.id ≡ ingress = eqb-true own.id ingress (find-passes (λ (port : DownstreamPort). port.id == ingress) ports own at) in
     let same : internal_bus line ≡ bus_of own.id = eqb-true (internal_bus line) (bus_of ingress) on ∙ ap bus_of (sym is) in
     ap (λ r. cond (holds own target) OwnEgress r) (across-same ports line own target same)
 
-nested-some : (ports : List PortLine) (line : Option SwitchLine) (port : PortLine) → is_nested_on ports line port ≡ true → line ≡ None → ⊥
+nested-some : (ports : List DownstreamPort) (line : Option Switch) (port : DownstreamPort) → is_nested_on ports line port ≡ true → line ≡ None → ⊥
 nested-some ports None port h e = false≢true h
 nested-some ports (Some line) port h e = cc
 
 -- each port is one of a switch
-no-port : (switches : List SwitchLine) (ports : List PortLine) (ingress : ℕ) (own : Option PortLine) → list_all (is_nested switches ports) ports ≡ true
+no-port : (switches : List Switch) (ports : List DownstreamPort) (ingress : ℕ) (own : Option DownstreamPort) → list_all (is_nested switches ports) ports ≡ true
     → switch_on switches (bus_of ingress) ≡ None → port_at ports ingress ≡ own → own ≡ None
 no-port switches ports ingress None nested none at = refl
 no-port switches ports ingress (Some own) nested none at =
-    let is : own.id ≡ ingress = eqb-true own.id ingress (find-passes (λ (port : PortLine). port.id == ingress) ports own at) in
-    let there : is_nested switches ports own ≡ true = all-found (λ (port : PortLine). port.id == ingress) (is_nested switches ports) ports own at nested in
+    let is : own.id ≡ ingress = eqb-true own.id ingress (find-passes (λ (port : DownstreamPort). port.id == ingress) ports own at) in
+    let there : is_nested switches ports own ≡ true = all-found (λ (port : DownstreamPort). port.id == ingress) (is_nested switches ports) ports own at nested in
     absurd (nested-some ports (switch_on switches (bus_of own.id)) own there (ap (λ (id : ℕ). switch_on switches (bus_of id)) is ∙ none))
 
-on-same : (switches : List SwitchLine) (ports : List PortLine) (ingress : ℕ) (target : Option Target) (line : Option SwitchLine) → list_all (is_nested switches ports) ports ≡ true
+on-same : (switches : List Switch) (ports : List DownstreamPort) (ingress : ℕ) (target : Option Target) (line : Option Switch) → list_all (is_nested switches ports) ports ≡ true
     → switch_on switches (bus_of ingress) ≡ line
     → route_unless_on (groups_of switches ports) ingress target (option_map (group_of ports) line) ≡ route_from switches ports ingress target (port_at ports ingress)
 on-same switches ports ingress target None nested on =
     below-same switches ports ingress target
     ∙ ap (route_from switches ports ingress target) (sym (no-port switches ports ingress (port_at ports ingress) nested on refl))
 on-same switches ports ingress target (Some line) nested on =
-    let there : (internal_bus line == bus_of ingress) ≡ true = find-passes (λ (s : SwitchLine). internal_bus s == bus_of ingress) switches line on in
+    let there : (internal_bus line == bus_of ingress) ≡ true = find-passes (λ (s : Switch). internal_bus s == bus_of ingress) switches line on in
     ap (route_unless_own (groups_of switches ports) ingress target (group_of ports line)) (own-among ports line ingress there)
     ∙ own-same switches ports ingress target line (port_at ports ingress) there refl
 
-pub grouped : (switches : List SwitchLine) (ports : List PortLine) (ingress : ℕ) (target : Option Target) → list_all (is_nested switches ports) ports ≡ true
+pub grouped : (switches : List Switch) (ports : List DownstreamPort) (ingress : ℕ) (target : Option Target) → list_all (is_nested switches ports) ports ≡ true
     → route_among (groups_of switches ports) ingress target ≡ route_from switches ports ingress target (port_at ports ingress)
 grouped switches ports ingress target nested =
     ap (route_unless_on (groups_of switches ports) ingress target) (find-map (λ (group : Group). internal_bus group.line == bus_of ingress) (group_of ports) switches)

@@ -2,10 +2,10 @@
 use Rattle.std.specs.Prelude.{ℕ, ◌==◌, List, map, Option, Some, None, if◌then◌else◌}
 use Rattle.std.specs.List.{find, filter}
 use Rattle.fab_types.specs.Id.{bus_of}
-use Rattle.layout.specs.declared.lines.PortLine.{PortLine}
-use Rattle.layout.specs.declared.lines.SwitchLine.{SwitchLine}
-use Rattle.layout.specs.Rules.{is_on_bus}
-use Rattle.layout.specs.Tree.{port_at, internal_bus}
+use Rattle.platform.specs.declared.parts.DownstreamPort.{DownstreamPort}
+use Rattle.platform.specs.declared.parts.Switch.{Switch}
+use Rattle.platform.specs.Tree.{is_on_bus}
+use Rattle.platform.specs.Tree.{port_at, internal_bus}
 use Rattle.bridge.specs.declared.route.Route.{Route}
 use Rattle.bridge.specs.declared.route.Route.TheVariants.{Up, OwnEgress, Nobody}
 use Rattle.bridge.specs.declared.target.Target.{Target}
@@ -13,20 +13,20 @@ use Rattle.bridge.specs.Routes.{holds, to_holder}
 
 -- a switch and its ports
 pub record Group : Type 0 where
-  pub line : SwitchLine
-  pub ports : List PortLine
+  pub line : Switch
+  pub ports : List DownstreamPort
 
 -- those of a switch are those on its internal bus
-abbrev pub group_of : List PortLine → SwitchLine → Group
+abbrev pub group_of : List DownstreamPort → Switch → Group
 group_of ports line = record { line = line; ports = filter (is_on_bus (internal_bus line)) ports }
 
-abbrev pub groups_of : List SwitchLine → List PortLine → List Group
+abbrev pub groups_of : List Switch → List DownstreamPort → List Group
 groups_of switches ports = map (group_of ports) switches
 
-abbrev pub holder_of : Group → Option Target → Option PortLine
+abbrev pub holder_of : Group → Option Target → Option DownstreamPort
 holder_of group target = find (λ port. holds port target) group.ports
 
-abbrev pub route_across : Group → PortLine → Option Target → Route
+abbrev pub route_across : Group → DownstreamPort → Option Target → Route
 route_across group own target = if holds own target then OwnEgress else to_holder Up (holder_of group target)
 
 abbrev pub group_on : List Group → ℕ → Option Group
@@ -39,7 +39,7 @@ abbrev pub route_into : Option Group → Option Target → Route
 route_into None target = Nobody
 route_into (Some group) target = to_holder Nobody (holder_of group target)
 
-abbrev pub route_unless_own : List Group → ℕ → Option Target → Group → Option PortLine → Route
+abbrev pub route_unless_own : List Group → ℕ → Option Target → Group → Option DownstreamPort → Route
 route_unless_own groups ingress target group None = route_into (group_at groups ingress) target
 route_unless_own groups ingress target group (Some own) = route_across group own target
 

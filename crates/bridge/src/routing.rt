@@ -4,17 +4,18 @@ ghost use Rattle.std.specs.Prelude.{◌≡◌, ◌==◌, ℕ, ◌≤◌, count_b
 ghost use Rattle.std.specs.List.{list_all};
 ghost use Rattle.std.specs.Option.{option_copied};
 ghost use Rattle.fab_types.specs.Id.{bus_of};
-ghost use Rattle.layout.specs.declared.lines.PortLine.{PortLine};
-ghost use Rattle.layout.specs.Owners.{owner_of};
-ghost use Rattle.layout.specs.Share.{is_guarded_port};
+ghost use Rattle.platform.specs.declared.parts.DownstreamPort.{DownstreamPort};
+ghost use Rattle.platform.specs.Owners.{owner_of};
+ghost use Rattle.platform.specs.Share.{is_guarded_port};
 ghost use Rattle.bridge.specs.Groups.{groups_of, group_on, group_at, route_across, route_into, route_among};
 ghost use Rattle.bridge.specs.Routes.{is_holder, route_of, switch_bus, exit_at, target_of, holds};
 
 use crate::route::Route;
-use crate::switch::Switch;
+use crate::switch::SwitchRoutes;
 use crate::target::{Target, holds};
 use fab_types::{Bdf, DomainId, Header, NoMemory, PortId};
-use layout::{Layout, PortLine, SwitchLine, owner_of};
+use layout::Layout;
+use platform::{DownstreamPort, Switch, owner_of};
 use std::alloc::Global;
 use std::marker::Model;
 
@@ -22,51 +23,51 @@ use std::marker::Model;
 #[derive(Debug, Drop)]
 pub struct Bridge {
     // the lines, in the order of the layout: what a contract sees
-    lines: Vec<SwitchLine>,
-    ports: Vec<PortLine>,
+    lines: Vec<Switch>,
+    ports: Vec<DownstreamPort>,
     // each switch with its own ports, among which a route is found
-    switches: Vec<Switch>,
+    switches: Vec<SwitchRoutes>,
     // are all five controls set on each port?
     is_guarded: bool,
 }
 
 impl Model for Bridge {
-    ghost use Rattle.bridge.specs.Bridges.{Tree, tree_of, IsKept};
+    ghost use Rattle.bridge.specs.Bridges.{Routes, routes_of, IsBridge};
 
-    ghost Value = { Tree };
+    ghost Value = { Routes };
 
-    ghost view = { tree_of };
+    ghost view = { routes_of };
 
-    ghost invariant = { IsKept };
+    ghost invariant = { IsBridge };
 }
 
 fn switches_of(
     alloc: Global,
-    lines: &[SwitchLine],
-    ports: &[PortLine],
-) -> Result<Vec<Switch>, NoMemory>
+    lines: &[Switch],
+    ports: &[DownstreamPort],
+) -> Result<Vec<SwitchRoutes>, NoMemory>
     ensures { IfOk result (λ switches. switches.items ≡ groups_of lines.now ports.now) }
 {
     let mut switches = Vec::new(alloc);
     for line in lines {
-        switches.push(Switch::new(alloc, *line, ports)?)?;
+        switches.push(SwitchRoutes::new(alloc, *line, ports)?)?;
     }
     Ok(switches)
 }
 
-fn find_on_bus(switches: &[Switch], bus: u8) -> Option<&Switch>
+fn find_on_bus(switches: &[SwitchRoutes], bus: u8) -> Option<&SwitchRoutes>
     ensures { option_copied result ≡ group_on switches.now bus }
 {
     switches.iter().find(|switch| switch.has_bus(bus))
 }
 
-fn find_switch(switches: &[Switch], id: PortId) -> Option<&Switch>
+fn find_switch(switches: &[SwitchRoutes], id: PortId) -> Option<&SwitchRoutes>
     ensures { option_copied result ≡ group_at switches.now id }
 {
     switches.iter().find(|switch| switch.has_upstream_port(id))
 }
 
-fn route_across(switch: &Switch, own: &PortLine, target: Option<Target>) -> Route
+fn route_across(switch: &SwitchRoutes, own: &DownstreamPort, target: Option<Target>) -> Route
     ensures { result ≡ route_across switch.now own.now target }
 {
     if holds(own, target) {
@@ -75,7 +76,7 @@ fn route_across(switch: &Switch, own: &PortLine, target: Option<Target>) -> Rout
     switch.route(Route::Up, target)
 }
 
-fn route_into(switch: Option<&Switch>, target: Option<Target>) -> Route
+fn route_into(switch: Option<&SwitchRoutes>, target: Option<Target>) -> Route
     ensures { result ≡ route_into (option_copied switch.entry) target }
 {
     match switch {
@@ -84,7 +85,7 @@ fn route_into(switch: Option<&Switch>, target: Option<Target>) -> Route
     }
 }
 
-fn route_among(switches: &[Switch], ingress: PortId, target: Option<Target>) -> Route
+fn route_among(switches: &[SwitchRoutes], ingress: PortId, target: Option<Target>) -> Route
     ensures { result ≡ route_among switches.now ingress target }
 {
     if let Some(switch) = find_on_bus(switches, ingress.id().bus()) {

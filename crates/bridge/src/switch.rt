@@ -3,56 +3,44 @@
 ghost use Rattle.std.specs.Prelude.{◌≡◌, ◌==◌, IfOk};
 ghost use Rattle.std.specs.List.{find};
 ghost use Rattle.std.specs.Option.{option_copied};
-ghost use Rattle.layout.specs.Rules.{is_on_bus};
-ghost use Rattle.layout.specs.Tree.{port_at, internal_bus};
+ghost use Rattle.platform.specs.Tree.{is_on_bus};
+ghost use Rattle.platform.specs.Tree.{port_at, internal_bus};
 ghost use Rattle.bridge.specs.Routes.{holds, to_holder};
 ghost use Rattle.bridge.specs.Groups.{Group, group_of, holder_of};
 
 use crate::route::Route;
 use crate::target::{Target, holds};
 use fab_types::{NoMemory, PortId};
-use layout::{PortLine, SwitchLine};
+use platform::{DownstreamPort, Switch, internal_bus, is_on_bus};
 use std::alloc::Global;
 use std::marker::Model;
 
 /// A switch and the ports on its internal bus. A contract sees their lines.
 #[derive(Debug, Drop)]
-pub(crate) struct Switch {
-    line: SwitchLine,
-    ports: Vec<PortLine>,
+pub(crate) struct SwitchRoutes {
+    line: Switch,
+    ports: Vec<DownstreamPort>,
 }
 
-impl Model for Switch {
+impl Model for SwitchRoutes {
     ghost Value = { Group };
 
     ghost view = { λ s. record { line = s.line; ports = s.ports.items } };
 }
 
-fn is_on_bus(bus: u16, port: &PortLine) -> bool
-    ensures { result ≡ is_on_bus bus port.now }
-{
-    u16::from(port.id.id().bus()) == bus
-}
-
-fn internal_bus(switch: &SwitchLine) -> u16
-    ensures { result ≡ internal_bus switch.now }
-{
-    u16::from(switch.id.bus()) + 1
-}
-
-fn find_port(ports: &[PortLine], id: PortId) -> Option<&PortLine>
+fn find_port(ports: &[DownstreamPort], id: PortId) -> Option<&DownstreamPort>
     ensures { option_copied result ≡ port_at ports.now id }
 {
     ports.iter().find(|port| port.id == id)
 }
 
-fn find_holder(ports: &[PortLine], target: Option<Target>) -> Option<&PortLine>
+fn find_holder(ports: &[DownstreamPort], target: Option<Target>) -> Option<&DownstreamPort>
     ensures { option_copied result ≡ find (λ port. holds port target) ports.now }
 {
     ports.iter().find(|port| holds(port, target))
 }
 
-fn to_holder(otherwise: Route, holder: Option<&PortLine>) -> Route
+fn to_holder(otherwise: Route, holder: Option<&DownstreamPort>) -> Route
     ensures { result ≡ to_holder otherwise (option_copied holder.entry) }
 {
     match holder {
@@ -61,13 +49,13 @@ fn to_holder(otherwise: Route, holder: Option<&PortLine>) -> Route
     }
 }
 
-impl Switch {
+impl SwitchRoutes {
     /// The switch of this line, with its ports among these.
     pub(crate) fn new(
         alloc: Global,
-        line: SwitchLine,
-        ports: &[PortLine],
-    ) -> Result<Switch, NoMemory>
+        line: Switch,
+        ports: &[DownstreamPort],
+    ) -> Result<SwitchRoutes, NoMemory>
         ensures { IfOk result (λ switch. switch ≡ group_of ports.now line) }
     {
         let bus = internal_bus(&line);
@@ -76,7 +64,7 @@ impl Switch {
             .copied()
             .filter(|port| is_on_bus(bus, port))
             .collect(alloc)?;
-        Ok(Switch { line, ports })
+        Ok(SwitchRoutes { line, ports })
     }
 
     /// Is its upstream port this one?
@@ -94,7 +82,7 @@ impl Switch {
     }
 
     /// Its port of this ID.
-    pub(crate) fn port_at(&self, id: PortId) -> Option<PortLine>
+    pub(crate) fn port_at(&self, id: PortId) -> Option<DownstreamPort>
         ensures { result ≡ port_at self.now.ports id }
     {
         find_port(&self.ports, id).copied()

@@ -4,7 +4,7 @@ ghost use Rattle.std.specs.Prelude.{◌≡◌};
 ghost use Rattle.bridge.specs.Routes.{target_of, holds, holds_target};
 
 use fab_types::Header;
-use layout::PortLine;
+use platform::DownstreamPort;
 
 /// What decides where a packet goes.
 #[derive(Clone, Copy, Debug, PartialEq, Eq)]
@@ -30,7 +30,7 @@ impl Target {
     }
 
     /// Is it below this port: a bus among the port's buses, or an address in its window?
-    pub fn is_below(self, port: &PortLine) -> bool
+    pub fn is_below(self, port: &DownstreamPort) -> bool
         ensures { result ≡ holds_target port.now self }
     {
         match self {
@@ -41,7 +41,7 @@ impl Target {
 }
 
 /// Is the target below this port? A packet without a target is below no port.
-pub(crate) fn holds(port: &PortLine, target: Option<Target>) -> bool
+pub(crate) fn holds(port: &DownstreamPort, target: Option<Target>) -> bool
     ensures { result ≡ holds port.now target }
 {
     match target {

@@ -2,7 +2,7 @@
 use Rattle.std.specs.Prelude.{◌≡◌, ℕ, false, List, [], ◌∷◌, ◌++◌}
 use Rattle.fab_types.specs.declared.outcome.Outcome.{Outcome}
 use Rattle.fab_types.specs.declared.outcome.Outcome.TheVariants.{Refused}
-use Rattle.layout.specs.Platform.{Platform}
+use Rattle.platform.specs.Platform.{Platform}
 use Rattle.script.specs.declared.lines.Command.{Command}
 use Rattle.script.specs.declared.lines.Command.TheVariants as command
 use Rattle.script.specs.declared.lines.Line.{Line}
@@ -41,5 +41,5 @@ Drives sweep old (line ∷ lines) new text =
 -- the fabric of a platform is driven by these lines from its start, and this was written of its begins
 pub record IsDriven (platform : Platform) (lines : List Line) (new : World) (text : List ℕ) : Type 0 where
   pub events : List Event
-  pub sweep : IsSweep platform (world_of platform).edge.domains events
+  pub sweep : IsSweep platform (world_of platform).agents.domains events
   pub drives : Drives events (world_of platform) lines new text

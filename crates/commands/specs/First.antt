@@ -1,7 +1,7 @@
 -- What the command `first` prints.
 use Rattle.std.specs.Prelude.{◌≡◌, ℕ, List, [], ◌∷◌, ◌++◌, Ok, codes}
 use Rattle.std.specs.List.{flat_map}
-use Rattle.layout.specs.Platform.{Platform}
+use Rattle.platform.specs.Platform.{Platform}
 use Rattle.layout.specs.Reading.{reading}
 use Rattle.script.specs.PacketWord.{StandsFor}
 use Rattle.script.specs.declared.lines.Command.TheVariants.{Submit, Sweep}
@@ -28,4 +28,4 @@ pub record Prints (word text : List ℕ) : Type 0 where
   pub world : World
   pub refused : List ℕ
   pub driven : IsDriven platform (first_lines bytes) world refused
-  pub lines : text ≡ refused ++ flat_map memory_lines world.edge.domains
+  pub lines : text ≡ refused ++ flat_map memory_lines world.agents.domains

@@ -1,7 +1,7 @@
 -- What a domain has of a fabric that a script drove, whatever the other domains do (PCIe 4.0, 6.12).
 use Rattle.std.specs.Prelude.{◌≡◌, ℕ, true, zero, suc, ◌≤◌, List, [], ◌∷◌, ◌++◌}
 use Rattle.fab_types.specs.declared.outcome.Outcome.{Outcome}
-use Rattle.layout.specs.Platform.{Platform}
+use Rattle.platform.specs.Platform.{Platform}
 use Rattle.script.specs.declared.lines.Command.{Command}
 use Rattle.script.specs.declared.lines.Command.TheVariants as command
 use Rattle.script.specs.declared.lines.Line.{Line}
@@ -33,7 +33,7 @@ AllMake sweep (line ∷ lines) events = (first rest : List Event) × Makes sweep
 -- run from the one that is left when all other domains' events are taken out
 pub record IsIsolated (platform : Platform) (lines : List Line) (w : World) : Type 0 where
   pub sweep : List Event
-  pub is_sweep : IsSweep platform (world_of platform).edge.domains sweep
+  pub is_sweep : IsSweep platform (world_of platform).agents.domains sweep
   pub events : List Event
   pub made : AllMake sweep lines events
   pub outcomes : List Outcome

@@ -1,14 +1,14 @@
 -- What the commands `run` and `alone` print.
 use Rattle.std.specs.Prelude.{◌≡◌, ℕ, List, ◌++◌, Ok, Some}
-use Rattle.layout.specs.Platform.{Platform}
+use Rattle.platform.specs.Platform.{Platform}
 use Rattle.layout.specs.Reading.{reading}
-use Rattle.layout.specs.Share.{Share}
+use Rattle.platform.specs.Share.{Share}
 use Rattle.layout.specs.Views.{share_of_owner}
 use Rattle.script.specs.Reading as script
 use Rattle.script.specs.declared.lines.Line.{Line}
 use Rattle.domain.specs.Domains.{DomainView}
 use Rattle.domain.specs.Machine.{replay}
-use Rattle.tenants.specs.Tenants.{domain_at, place_of}
+use Rattle.domains.specs.Domains.{domain_at, place_of}
 use Rattle.fabric_core.specs.World.{World}
 use Rattle.commands.specs.Driving.{IsDriven}
 use Rattle.commands.specs.Isolated.{IsIsolated}
@@ -49,7 +49,7 @@ pub record IsReplayed (platform : Platform) (lines : List Line) (share : Share) 
   pub driven : IsDriven platform lines world refused
   pub isolated : IsIsolated platform lines world
   pub ran : DomainView
-  pub there : domain_at world.edge.domains (place_of world.edge.domains share.domain) ≡ Some ran
+  pub there : domain_at world.agents.domains (place_of world.agents.domains share.domain) ≡ Some ran
   pub share_is : domain.share ≡ share
   pub journal : domain.journal ≡ ran.journal
   pub replays : replay share ran.journal ≡ Some domain.state

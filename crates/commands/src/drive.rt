@@ -9,9 +9,8 @@ ghost use Rattle.commands.specs.Isolated.{IsIsolated};
 ghost use Rattle.reports.specs.Writing.{Wrote};
 
 use crate::fault::Fault;
-use fab_types::Outcome;
+use fab_types::{Outcome, PacketBytes};
 use fabric_core::{Event, Fabric, Station};
-use frame_log::PacketBytes;
 use layout::Layout;
 use reports::write_refusal;
 use script::{Command, Line};

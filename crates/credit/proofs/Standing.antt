@@ -28,19 +28,19 @@ left-totals sent limit s range stands k =
     let start = (range k).start in
     let halves = half k in
     let high : limit k < sent k + size_of k = omega arith in
-    ap (λ m. distance (size_of k) m (at s.limit k)) counts
+    ap (λ m. distance (size_of k) m (at s.credit_limit k)) counts
     ∙ (ap (λ m. distance (size_of k) (sent k % size_of k) m) limits ∙ distance-totals (size_of k) (sent k) (limit k) between.0 high)
 
 pub through : {P Q R : Type 0} → P ↔ Q → Q ↔ R → P ↔ R
 through pq qr = (λ p. qr.0 (pq.0 p), λ r. pq.1 (qr.1 r))
 
 -- a test of the two counters of the packet's class is one of all six
-pub room-exact : (s : Ledger) (cost : Cost) (answer : Bool) (sent limit : Credits) → sent ≡ credits_at s.sent cost.class → limit ≡ credits_at s.limit cost.class
+pub room-exact : (s : Ledger) (cost : Cost) (answer : Bool) (sent limit : Credits) → sent ≡ credits_at s.credits_consumed cost.class → limit ≡ credits_at s.credit_limit cost.class
     → IsTrue answer ↔ (1 ≤ distance 256 sent.headers limit.headers) × (cost.data ≤ distance 4096 sent.payload limit.payload)
     → IsTrue answer ↔ HasRoom s cost
 room-exact s cost answer sent limit sent_is limit_is covers =
     let P : Credits → Type 0 = λ x. IsTrue answer ↔ (1 ≤ distance 256 x.headers limit.headers) × (cost.data ≤ distance 4096 x.payload limit.payload) in
-    let Q : Credits → Type 0 = λ x. IsTrue answer ↔ (1 ≤ distance 256 (credits_at s.sent cost.class).headers x.headers) × (cost.data ≤ distance 4096 (credits_at s.sent cost.class).payload x.payload) in
+    let Q : Credits → Type 0 = λ x. IsTrue answer ↔ (1 ≤ distance 256 (credits_at s.credits_consumed cost.class).headers x.headers) × (cost.data ≤ distance 4096 (credits_at s.credits_consumed cost.class).payload x.payload) in
     through (subst Q limit_is (subst P sent_is covers)) (covers-all cost.class cost.data (left_of s))
 
 pub room-allowed : (sent limit : Kind → ℕ) (s : Ledger) (cost : Cost) → IsInRange s → StandsFor sent limit s → HasRoom s cost ↔ IsAllowed sent limit cost
@@ -68,7 +68,7 @@ gate_tells n half d c g halves small low room short = (
 
 -- the standard's test at one kind
 gate_at : (sent limit : Kind → ℕ) (s : Ledger) → IsInRange s → StandsFor sent limit s → (k : Kind) (c : ℕ) → c < size_of k / 2
-    → (distance (size_of k) ((at s.sent k + c) % size_of k) (at s.limit k) ≤ size_of k / 2) ↔ (c ≤ left_of s k)
+    → (distance (size_of k) ((at s.credits_consumed k + c) % size_of k) (at s.credit_limit k) ≤ size_of k / 2) ↔ (c ≤ left_of s k)
 gate_at sent limit s range stands k c small =
     let left = left-totals sent limit s range stands k in
     let between = stands.in_range k in
@@ -79,11 +79,11 @@ gate_at sent limit s range stands k c small =
     let left_small : (limit k - sent k) + (limit k - sent k) < size_of k = omega arith in
     let total : sent k + (limit k - sent k) ≡ limit k = omega arith in
     let gates = distance-gate (size_of k) (sent k) (limit k - sent k) c cost_small left_small in
-    let is : distance (size_of k) ((at s.sent k + c) % size_of k) (at s.limit k) ≡ distance (size_of k) ((sent k + c) % size_of k) ((sent k + (limit k - sent k)) % size_of k) =
-    ap (λ m. distance (size_of k) ((m + c) % size_of k) (at s.limit k)) (stands.sent_counted k)
-    ∙ (ap (λ m. distance (size_of k) m (at s.limit k)) (mod-add-mod (sent k) (size_of k) c)
+    let is : distance (size_of k) ((at s.credits_consumed k + c) % size_of k) (at s.credit_limit k) ≡ distance (size_of k) ((sent k + c) % size_of k) ((sent k + (limit k - sent k)) % size_of k) =
+    ap (λ m. distance (size_of k) ((m + c) % size_of k) (at s.credit_limit k)) (stands.sent_counted k)
+    ∙ (ap (λ m. distance (size_of k) m (at s.credit_limit k)) (mod-add-mod (sent k) (size_of k) c)
     ∙ ap (λ m. distance (size_of k) ((sent k + c) % size_of k) m) (stands.limit_counted k ∙ ap (λ m. m % size_of k) (sym total))) in
-    let P : ℕ → Type 0 = λ d. (distance (size_of k) ((at s.sent k + c) % size_of k) (at s.limit k) ≤ size_of k / 2) ↔ (c ≤ d) in
+    let P : ℕ → Type 0 = λ d. (distance (size_of k) ((at s.credits_consumed k + c) % size_of k) (at s.credit_limit k) ≤ size_of k / 2) ↔ (c ≤ d) in
     subst P (sym left) (gate_tells (size_of k) (size_of k / 2) (limit k - sent k) c _ halves small left_low (λ room. is ∙ gates.0 room) (λ short. is ∙ gates.1 short))
 
 below_half : (class : Class) (n : ℕ) → n < 2048 → (k : Kind) → amount_of class n k < size_of k / 2
@@ -100,18 +100,18 @@ room-gate sent limit s cost range stands small = (forth, back)
     back passes k = le_from_positive (cost_of cost k) (left_of s k)
         (λ costs. (gate_at sent limit s range stands k (cost_of cost k) (below_half cost.class cost.data small k)).0 (passes k costs))
 
-pub spent-in_range : (s : Ledger) (cost : Cost) → IsInRange s → HasRoom s cost → IsInRange (record s { sent = counted s.sent cost })
+pub spent-in_range : (s : Ledger) (cost : Cost) → IsInRange s → HasRoom s cost → IsInRange (record s { credits_consumed = counted s.credits_consumed cost })
 spent-in_range s cost range room k =
-    let is = at-counted s.sent cost k (range k).counter in
+    let is = at-counted s.credits_consumed cost k (range k).counter in
     let positive = size_positive k in
-    let left : distance (size_of k) (at (counted s.sent cost) k) (at s.limit k) ≡ left_of s k - cost_of cost k =
-    ap (λ m. distance (size_of k) m (at s.limit k)) is ∙ distance-spent (size_of k) (at s.sent k) (at s.limit k) (cost_of cost k) (range k).counter (room k) in
+    let left : distance (size_of k) (at (counted s.credits_consumed cost) k) (at s.credit_limit k) ≡ left_of s k - cost_of cost k =
+    ap (λ m. distance (size_of k) m (at s.credit_limit k)) is ∙ distance-spent (size_of k) (at s.credits_consumed k) (at s.credit_limit k) (cost_of cost k) (range k).counter (room k) in
     let before = (range k).left in
     record { counter = omega arith; left = omega arith; start = (range k).start }
 
-pub spent-stands : (sent limit : Kind → ℕ) (s : Ledger) (cost : Cost) → IsInRange s → HasRoom s cost → StandsFor sent limit s → StandsFor (with_cost sent cost) limit (record s { sent = counted s.sent cost })
+pub spent-stands : (sent limit : Kind → ℕ) (s : Ledger) (cost : Cost) → IsInRange s → HasRoom s cost → StandsFor sent limit s → StandsFor (with_cost sent cost) limit (record s { credits_consumed = counted s.credits_consumed cost })
 spent-stands sent limit s cost range room stands = record {
-  sent_counted = Count-counted sent s.sent cost stands.sent_counted;
+  sent_counted = Count-counted sent s.credits_consumed cost stands.sent_counted;
   limit_counted = stands.limit_counted;
   in_range = λ k.
       let left = left-totals sent limit s range stands k in
@@ -128,7 +128,7 @@ at-zero (Kind.Data Class.Posted) = refl
 at-zero (Kind.Data Class.NonPosted) = refl
 at-zero (Kind.Data Class.Completion) = refl
 
-pub start-in_range : (limits : Counters) → MayStart limits → IsInRange (record { sent = zero_counters; limit = limits; start = limits })
+pub start-in_range : (limits : Counters) → MayStart limits → IsInRange (record { credits_consumed = zero_counters; credit_limit = limits; start = limits })
 start-in_range limits may k =
     let start = may k in
     let halves = half k in
@@ -137,14 +137,14 @@ start-in_range limits may k =
     let zero_is = at-zero k in
     record { counter = omega arith; left = omega arith; start = start }
 
-pub start-stands : (limits : Counters) → MayStart limits → StandsFor (λ _. 0) (at limits) (record { sent = zero_counters; limit = limits; start = limits })
+pub start-stands : (limits : Counters) → MayStart limits → StandsFor (λ _. 0) (at limits) (record { credits_consumed = zero_counters; credit_limit = limits; start = limits })
 start-stands limits may = record {
   sent_counted = λ k. at-zero k ∙ sym (mod-eq_of_lt (size_positive k));
   limit_counted = λ k. let start = may k in let halves = half k in let small : at limits k < size_of k = omega arith in sym (mod-eq_of_lt small);
   in_range = λ k. (omega arith, omega arith);
 }
 
-pub update-in_range : (s : Ledger) (limits : Counters) → IsInRange s → IsUpdate s limits → IsInRange (record s { limit = limits })
+pub update-in_range : (s : Ledger) (limits : Counters) → IsInRange s → IsUpdate s limits → IsInRange (record s { credit_limit = limits })
 update-in_range s limits range update k = record { counter = (range k).counter; left = (update k).1; start = (range k).start }
 
 -- limits whose totals are in range are taken, and the sender then stands for them
@@ -158,13 +158,13 @@ told-update sent limit told s limits range stands counts grows k =
     let halves = half k in
     let high : told k < sent k + size_of k = omega arith in
     let low : sent k ≤ told k = omega arith in
-    let new : distance (size_of k) (at s.sent k) (at limits k) ≡ told k - sent k =
+    let new : distance (size_of k) (at s.credits_consumed k) (at limits k) ≡ told k - sent k =
     ap (λ m. distance (size_of k) m (at limits k)) (stands.sent_counted k)
     ∙ (ap (λ m. distance (size_of k) (sent k % size_of k) m) (counts k) ∙ distance-totals (size_of k) (sent k) (told k) low high) in
     (omega arith, omega arith)
 
 pub told-stands : (sent limit told : Kind → ℕ) (s : Ledger) (limits : Counters) → StandsFor sent limit s → Count told limits
-    → ((k : Kind) → (limit k ≤ told k) × (told k ≤ sent k + at s.start k)) → StandsFor sent told (record s { limit = limits })
+    → ((k : Kind) → (limit k ≤ told k) × (told k ≤ sent k + at s.start k)) → StandsFor sent told (record s { credit_limit = limits })
 told-stands sent limit told s limits stands counts grows = record {
   sent_counted = stands.sent_counted;
   limit_counted = counts;
@@ -174,10 +174,10 @@ told-stands sent limit told s limits stands counts grows = record {
 -- new limits of one class
 abbrev pub IsUpdateOf : Ledger → Counters → Class → Type 0
 IsUpdateOf s limits c =
-    (left_of s (Kind.Headers c) ≤ distance 256 (at s.sent (Kind.Headers c)) (at limits (Kind.Headers c))) ×
-    (distance 256 (at s.sent (Kind.Headers c)) (at limits (Kind.Headers c)) ≤ at s.start (Kind.Headers c)) ×
-    (left_of s (Kind.Data c) ≤ distance 4096 (at s.sent (Kind.Data c)) (at limits (Kind.Data c))) ×
-    (distance 4096 (at s.sent (Kind.Data c)) (at limits (Kind.Data c)) ≤ at s.start (Kind.Data c))
+    (left_of s (Kind.Headers c) ≤ distance 256 (at s.credits_consumed (Kind.Headers c)) (at limits (Kind.Headers c))) ×
+    (distance 256 (at s.credits_consumed (Kind.Headers c)) (at limits (Kind.Headers c)) ≤ at s.start (Kind.Headers c)) ×
+    (left_of s (Kind.Data c) ≤ distance 4096 (at s.credits_consumed (Kind.Data c)) (at limits (Kind.Data c))) ×
+    (distance 4096 (at s.credits_consumed (Kind.Data c)) (at limits (Kind.Data c)) ≤ at s.start (Kind.Data c))
 
 update_of : (s : Ledger) (limits : Counters) → IsUpdate s limits → (c : Class) → IsUpdateOf s limits c
 update_of s limits h c = ((h (Kind.Headers c)).0, (h (Kind.Headers c)).1, (h (Kind.Data c)).0, (h (Kind.Data c)).1)

@@ -49,13 +49,13 @@ MayStart c = (k : Kind) → at c k < size_of k / 2
 
 -- what a sender keeps: the credits consumed, the credit limit, and the limit at the start
 pub record Ledger : Type 0 where
-  pub sent : Counters
-  pub limit : Counters
+  pub credits_consumed : Counters
+  pub credit_limit : Counters
   pub start : Counters
 
 -- the credits of a kind that are left
 abbrev pub left_of : Ledger → Kind → ℕ
-left_of s k = distance (size_of k) (at s.sent k) (at s.limit k)
+left_of s k = distance (size_of k) (at s.credits_consumed k) (at s.credit_limit k)
 
 -- how far the counters of a class are behind others
 abbrev pub ahead : Credits → Credits → Credits
@@ -67,7 +67,7 @@ left_counters sent limit = record { posted = ahead sent.posted limit.posted; non
 
 -- of a kind never more is left than at the start, which is less than half of what a counter holds
 pub record IsInRangeAt (s : Ledger) (k : Kind) : Type 0 where
-  pub counter : at s.sent k < size_of k
+  pub counter : at s.credits_consumed k < size_of k
   pub left : left_of s k ≤ at s.start k
   pub start : at s.start k < size_of k / 2
 
@@ -80,9 +80,9 @@ HasRoom s cost = (k : Kind) → cost_of cost k ≤ left_of s k
 -- new limits that take nothing back, and give no more than the start
 abbrev pub IsUpdate : Ledger → Counters → Type 0
 IsUpdate s limits = (k : Kind) →
-    (left_of s k ≤ distance (size_of k) (at s.sent k) (at limits k)) × (distance (size_of k) (at s.sent k) (at limits k) ≤ at s.start k)
+    (left_of s k ≤ distance (size_of k) (at s.credits_consumed k) (at limits k)) × (distance (size_of k) (at s.credits_consumed k) (at limits k) ≤ at s.start k)
 
 -- what a receiver keeps: the credits received, and the credits allocated, which it advertises
 pub record Allotment : Type 0 where
-  pub taken : Counters
-  pub limit : Counters
+  pub credits_received : Counters
+  pub credits_allocated : Counters

@@ -10,8 +10,8 @@ Count total c = (k : Kind) → at c k ≡ total k % size_of k
 
 -- what was sent in all and the limit in all, of which the sender keeps the remainders
 pub record StandsFor (sent limit : Kind → ℕ) (s : Ledger) : Type 0 where
-  pub sent_counted : Count sent s.sent
-  pub limit_counted : Count limit s.limit
+  pub sent_counted : Count sent s.credits_consumed
+  pub limit_counted : Count limit s.credit_limit
   pub in_range : (k : Kind) → (sent k ≤ limit k) × (limit k ≤ sent k + at s.start k)
 
 -- a send is allowed where, for each kind that it costs, what was sent and the cost are within the limit
@@ -25,4 +25,4 @@ with_cost total cost k = total k + cost_of cost k
 -- the standard's own test, modulo the size: the limit less the credits required is at most half of the size
 abbrev pub PassesGate : Ledger → Cost → Type 0
 PassesGate s cost = (k : Kind) → 0 < cost_of cost k →
-    distance (size_of k) ((at s.sent k + cost_of cost k) % size_of k) (at s.limit k) ≤ size_of k / 2
+    distance (size_of k) ((at s.credits_consumed k + cost_of cost k) % size_of k) (at s.credit_limit k) ≤ size_of k / 2

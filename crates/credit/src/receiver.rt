@@ -13,8 +13,8 @@ use std::marker::Model;
 /// limit, which is the start and all that it freed.
 #[derive(Clone, Copy, Debug, PartialEq, Eq)]
 pub struct Receiver {
-    taken: Counters,
-    limit: Limits,
+    credits_received: Counters,
+    credits_allocated: Limits,
 }
 
 impl Model for Receiver {
@@ -22,57 +22,57 @@ impl Model for Receiver {
 
     ghost Value = { Allotment };
 
-    ghost view = { λ r. record { taken = r.taken; limit = r.limit } };
+    ghost view = { λ r. record { credits_received = r.credits_received; credits_allocated = r.credits_allocated } };
 
-    ghost inverse = { λ r. record { taken = r.taken; limit = r.limit } };
+    ghost inverse = { λ r. record { credits_received = r.credits_received; credits_allocated = r.credits_allocated } };
 }
 
 impl Receiver {
     /// A receiver that advertises these limits, and took nothing yet.
     pub fn new(limits: Limits) -> Receiver
-        ensures { result ≡ record { taken = zero_counters; limit = limits } }
+        ensures { result ≡ record { credits_received = zero_counters; credits_allocated = limits } }
     {
         Receiver {
-            taken: Counters::zero(),
-            limit: limits,
+            credits_received: Counters::zero(),
+            credits_allocated: limits,
         }
     }
 
     /// Counts a packet that came.
     pub fn take(&mut self, cost: Cost)
-        ensures exact { self.new ≡ record self.old { taken = counted self.old.taken cost } }
-        ensures totals { (taken : Kind → ℕ) → Count taken self.old.taken → Count (with_cost taken cost) self.new.taken }
+        ensures exact { self.new ≡ record self.old { credits_received = counted self.old.credits_received cost } }
+        ensures totals { (taken : Kind → ℕ) → Count taken self.old.credits_received → Count (with_cost taken cost) self.new.credits_received }
     {
-        self.taken = self.taken.plus(cost);
+        self.credits_received = self.credits_received.plus(cost);
     }
 
     /// Gives the credits of a packet back.
     pub fn free(&mut self, cost: Cost)
-        ensures exact { self.new ≡ record self.old { limit = counted self.old.limit cost } }
-        ensures totals { (limit : Kind → ℕ) → Count limit self.old.limit → Count (with_cost limit cost) self.new.limit }
+        ensures exact { self.new ≡ record self.old { credits_allocated = counted self.old.credits_allocated cost } }
+        ensures totals { (limit : Kind → ℕ) → Count limit self.old.credits_allocated → Count (with_cost limit cost) self.new.credits_allocated }
     {
-        self.limit = self.limit.plus(cost);
+        self.credits_allocated = self.credits_allocated.plus(cost);
     }
 
     /// Takes the credits of a packet back that were freed, and that no sender was told of.
     pub fn reclaim(&mut self, cost: Cost)
-        ensures exact { self.new ≡ record self.old { limit = uncounted self.old.limit cost } }
-        ensures totals { (limit : Kind → ℕ) → Count (with_cost limit cost) self.old.limit → Count limit self.new.limit }
+        ensures exact { self.new ≡ record self.old { credits_allocated = uncounted self.old.credits_allocated cost } }
+        ensures totals { (limit : Kind → ℕ) → Count (with_cost limit cost) self.old.credits_allocated → Count limit self.new.credits_allocated }
     {
-        self.limit = self.limit.minus(cost);
+        self.credits_allocated = self.credits_allocated.minus(cost);
     }
 
     /// The limits as they are now, for the sender.
     pub fn advert(&self) -> Limits
-        ensures { result ≡ self.now.limit }
+        ensures { result ≡ self.now.credits_allocated }
     {
-        self.limit // CREDITS_ALLOCATED
+        self.credits_allocated // as an UpdateFC carries them
     }
 
     /// The counters of what was taken.
-    pub fn taken(&self) -> Counters
-        ensures { result ≡ self.now.taken }
+    pub fn credits_received(&self) -> Counters
+        ensures { result ≡ self.now.credits_received }
     {
-        self.taken // CREDITS_RECEIVED
+        self.credits_received // of all packets so far
     }
 }

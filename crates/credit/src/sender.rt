@@ -17,8 +17,8 @@ use std::marker::Model;
 /// credits than at the start, so no counter is ever misread.
 #[derive(Clone, Copy, Debug, PartialEq, Eq)]
 pub struct Sender {
-    sent: Counters,
-    limit: Limits,
+    credits_consumed: Counters,
+    credit_limit: Limits,
     start: Limits,
 }
 
@@ -27,11 +27,11 @@ impl Model for Sender {
 
     ghost Value = { Ledger };
 
-    ghost view = { λ s. record { sent = s.sent; limit = s.limit; start = s.start } };
+    ghost view = { λ s. record { credits_consumed = s.credits_consumed; credit_limit = s.credit_limit; start = s.start } };
 
-    ghost invariant = { λ s. IsInRange (record { sent = s.sent; limit = s.limit; start = s.start }) };
+    ghost invariant = { λ s. IsInRange (record { credits_consumed = s.credits_consumed; credit_limit = s.credit_limit; start = s.start }) };
 
-    ghost inverse = { λ s. record { sent = s.sent; limit = s.limit; start = s.start } };
+    ghost inverse = { λ s. record { credits_consumed = s.credits_consumed; credit_limit = s.credit_limit; start = s.start } };
 }
 
 impl Sender {
@@ -39,13 +39,13 @@ impl Sender {
     /// headers at most 127, data at most 2,047.
     pub fn new(limits: Limits) -> Sender
         requires { MayStart limits }
-        ensures exact { result ≡ record { sent = zero_counters; limit = limits; start = limits } }
+        ensures exact { result ≡ record { credits_consumed = zero_counters; credit_limit = limits; start = limits } }
         ensures totals { StandsFor (λ _. 0) (at limits) result }
     {
         let start = limits;
         Sender {
-            sent: Counters::zero(),
-            limit: limits,
+            credits_consumed: Counters::zero(),
+            credit_limit: limits,
             start,
         }
     }
@@ -61,8 +61,8 @@ impl Sender {
         ensures gate { (sent limit : Kind → ℕ) → StandsFor sent limit self.now → cost.data < 2048 → (IsTrue result ↔ PassesGate self.now cost) }
     {
         covers(
-            self.sent.of(cost.class),
-            self.limit.of(cost.class),
+            self.credits_consumed.of(cost.class),
+            self.credit_limit.of(cost.class),
             cost.data,
         )
     }
@@ -70,17 +70,17 @@ impl Sender {
     /// Consumes the credits of a packet that is sent.
     pub fn spend(&mut self, cost: Cost)
         requires { HasRoom self.old cost }
-        ensures exact { self.new ≡ record self.old { sent = counted self.old.sent cost } }
+        ensures exact { self.new ≡ record self.old { credits_consumed = counted self.old.credits_consumed cost } }
         ensures totals { (sent limit : Kind → ℕ) → StandsFor sent limit self.old → StandsFor (with_cost sent cost) limit self.new }
     {
-        self.sent = self.sent.plus(cost);
+        self.credits_consumed = self.credits_consumed.plus(cost);
     }
 
     /// Takes the limits that the receiver tells, and answers whether they can be its limits: for each
     /// kind no less than before, and no more beyond what was sent than at the start. Else nothing changes.
     pub fn update(&mut self, limits: Limits) -> bool
         ensures exact { IsTrue result ↔ IsUpdate self.old limits }
-        ensures accepted { OnTrue result (self.new ≡ record self.old { limit = limits }) }
+        ensures accepted { OnTrue result (self.new ≡ record self.old { credit_limit = limits }) }
         ensures refused { OnFalse result (self.new ≡ self.old) }
 
         // Limits whose totals grew, and by no more than was sent, are taken.
@@ -91,7 +91,7 @@ impl Sender {
         let told = limits;
         let accepted = self.accepts(told);
         if accepted {
-            self.limit = limits;
+            self.credit_limit = limits;
         }
         accepted
     }
@@ -100,20 +100,20 @@ impl Sender {
         ensures { IsTrue result ↔ IsUpdate self.now limits }
     {
         let posted = accepts_class(
-            self.sent.posted,
-            self.limit.posted,
+            self.credits_consumed.posted,
+            self.credit_limit.posted,
             self.start.posted,
             limits.posted,
         );
         let non_posted = accepts_class(
-            self.sent.non_posted,
-            self.limit.non_posted,
+            self.credits_consumed.non_posted,
+            self.credit_limit.non_posted,
             self.start.non_posted,
             limits.non_posted,
         );
         let completion = accepts_class(
-            self.sent.completion,
-            self.limit.completion,
+            self.credits_consumed.completion,
+            self.credit_limit.completion,
             self.start.completion,
             limits.completion,
         );
@@ -122,29 +122,30 @@ impl Sender {
 
     /// The credits that are left.
     pub fn left(&self) -> Counters
-        ensures { result ≡ left_counters self.now.sent self.now.limit }
+        ensures { result ≡ left_counters self.now.credits_consumed self.now.credit_limit }
     {
+        let (consumed, limit) = (self.credits_consumed, self.credit_limit);
         Counters {
-            posted: self.sent.posted.left_to(self.limit.posted),
-            non_posted: self.sent.non_posted.left_to(self.limit.non_posted),
-            completion: self.sent.completion.left_to(self.limit.completion),
+            posted: consumed.posted.left_to(limit.posted),
+            non_posted: consumed.non_posted.left_to(limit.non_posted),
+            completion: consumed.completion.left_to(limit.completion),
         }
     }
 
     /// The counters of what was sent.
-    pub fn sent(&self) -> Counters
-        ensures value { result ≡ self.now.sent }
+    pub fn credits_consumed(&self) -> Counters
+        ensures value { result ≡ self.now.credits_consumed }
         ensures in_range { IsInRange self.now }
     {
-        self.sent // CREDITS_CONSUMED
+        self.credits_consumed // by all packets so far
     }
 
     /// The limits that the sender knows.
-    pub fn limits(&self) -> Limits
-        ensures value { result ≡ self.now.limit }
+    pub fn credit_limit(&self) -> Limits
+        ensures value { result ≡ self.now.credit_limit }
         ensures in_range { IsInRange self.now }
     {
-        self.limit // CREDIT_LIMIT
+        self.credit_limit // of the last UpdateFC
     }
 }
 

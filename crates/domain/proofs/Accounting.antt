@@ -19,15 +19,15 @@ use Rattle.fab_types.specs.declared.class.Class.TheVariants.{Posted, NonPosted, 
 use Rattle.fab_types.specs.declared.faults.malformed.Malformed.{Malformed}
 use Rattle.fab_types.specs.declared.head.AddressType.{AddressType}
 use Rattle.fab_types.specs.declared.head.AddressType.TheVariants.{Untranslated, TranslationRequest, Translated, Reserved}
-use Rattle.fab_types.specs.declared.place.Origin.TheVariants.{Function}
-use Rattle.fab_types.specs.declared.place.Origin.TheVariants as origin
+use Rattle.fab_types.specs.declared.origin.Origin.TheVariants.{Function}
+use Rattle.fab_types.specs.declared.origin.Origin.TheVariants as origin
 use Rattle.fab_types.specs.declared.place.Place.{Place}
-use Rattle.layout.specs.declared.lines.Access.TheVariants.{Read, Write}
-use Rattle.layout.specs.declared.lines.MapTarget.{MapTarget}
-use Rattle.layout.specs.declared.lines.MapTarget.TheVariants.{Frame, Peer}
-use Rattle.layout.specs.declared.lines.PortLine.{PortLine}
-use Rattle.layout.specs.Owners.{first_port, is_own_function, owner_of}
-use Rattle.layout.specs.Share.{Share}
+use Rattle.platform.specs.declared.parts.Access.TheVariants.{Read, Write}
+use Rattle.platform.specs.declared.parts.MapTarget.{MapTarget}
+use Rattle.platform.specs.declared.parts.MapTarget.TheVariants.{Frame, Peer}
+use Rattle.platform.specs.declared.parts.DownstreamPort.{DownstreamPort}
+use Rattle.platform.specs.Owners.{first_port, is_own_function, owner_of}
+use Rattle.platform.specs.Share.{Share}
 use Rattle.layout.specs.Tables.{target_of}
 use Rattle.function.specs.declared.plan.Plan.{Plan}
 use Rattle.function.specs.declared.plan.Plan.TheVariants.{Nothing, Halt, Fault, Pass, Emit}
@@ -40,37 +40,37 @@ use Rattle.tlp_view.specs.Packet.{Packet, dw_count}
 use Rattle.tlp_view.specs.View.{address_type_in}
 use Rattle.tlp_view.specs.Runs.{runs, is_write}
 use Rattle.tlp_view.specs.Bytes.{packet_of}
-use Rattle.domain.specs.declared.access.HostAccess.{HostAccess}
+use Rattle.fab_types.specs.declared.host_access.HostAccess.{HostAccess}
 use Rattle.domain.specs.declared.counts.Counts.{Counts}
 use Rattle.domain.specs.declared.deliver.Arrival.{Arrival}
-use Rattle.disposition.specs.declared.ending.Deed.{Deed}
-use Rattle.disposition.specs.declared.ending.Deed.TheVariants.{Leave, Block, Store, Access}
-use Rattle.disposition.specs.declared.ending.Ending.{Ending}
+use Rattle.request_handling.specs.declared.handling.Effect.{Effect}
+use Rattle.request_handling.specs.declared.handling.Effect.TheVariants.{Leave, Block, Store, Access}
+use Rattle.request_handling.specs.declared.handling.Handling.{Handling}
 use Rattle.domain.specs.declared.entry.Entry.{Entry}
 use Rattle.domain.specs.declared.entry.Entry.TheVariants.{Submit, Tick, Mmio, Refuse, Carry, Deliver, Alien}
-use Rattle.disposition.specs.declared.fate.Fate.{Fate}
+use Rattle.request_handling.specs.declared.fate.Fate.{Fate}
 use Rattle.domain.specs.declared.reception.Reception.{Reception}
 use Rattle.domain.specs.declared.reception.Reception.TheVariants.{Ends, Arrives}
-use Rattle.disposition.specs.declared.taker.Taker.{Taker}
-use Rattle.disposition.specs.declared.taker.Taker.TheVariants.{Host, Port, Upstream}
-use Rattle.disposition.specs.declared.taker.Taker.TheVariants as taker
-use Rattle.disposition.specs.declared.fate.Fate.TheVariants.{Vanish, Refused, ToHost}
-use Rattle.disposition.specs.Requests.{at_frame_if, at_port, frame_at, is_access, lies_in, or_discarded, request_at_function, request_at_host, unserved, unserved_by_host}
+use Rattle.request_handling.specs.declared.taker.Taker.{Taker}
+use Rattle.request_handling.specs.declared.taker.Taker.TheVariants.{Host, Port, Upstream}
+use Rattle.request_handling.specs.declared.taker.Taker.TheVariants as taker
+use Rattle.request_handling.specs.declared.fate.Fate.TheVariants.{Vanish, Refused, ToHost}
+use Rattle.request_handling.specs.Requests.{at_frame_if, at_port, frame_at, is_access, lies_in, or_discarded, request_at_function, request_at_host, unserved, unserved_by_host}
 use Rattle.domain.specs.Aliens.{answerer_of, completion_at_host, is_excluded, received, received_if, reception_at, reception_by, reception_of, reception_unless}
-use Rattle.disposition.specs.Answers.{address_of, answered_by, bar_of, function_answer, function_refusal, host_refusal}
-use Rattle.disposition.specs.Carries.{access_of, carriage_by, carriage_of, discarded, forward, from_frame, is_carried, is_owner, port_id, read_from, refusal_by, refusal_of, refused_by_host, serve, serve_read, to_frame, write_to}
+use Rattle.request_handling.specs.Answers.{address_of, answered_by, bar_of, function_answer, function_refusal, host_refusal}
+use Rattle.request_handling.specs.Carries.{access_of, carriage_by, carriage_of, discarded, forward, from_frame, is_carried, is_owner, port_id, read_from, refusal_by, refusal_of, refused_by_host, serve, serve_read, to_frame, write_to}
 use Rattle.domain.specs.Deliveries.{arrival_at, arrival_of, arrived, recorded, unexpected}
 use Rattle.domain.specs.Ends.{blocked, conclude, done, replied, with_access, with_stored}
-use Rattle.disposition.specs.Fates.{fate, fate_at}
-use Rattle.disposition.specs.Heads.{target_for}
+use Rattle.request_handling.specs.Fates.{fate, fate_at}
+use Rattle.request_handling.specs.Heads.{target_for}
 use Rattle.domain.specs.Machine.{aliens_from, aliens_in, carry, change, deliver, refuse, replay, replay_from, with_alien}
-use Rattle.disposition.specs.Emissions.{Emission}
+use Rattle.request_handling.specs.Emissions.{Emission}
 use Rattle.domain.specs.State.{Alone, Change, Delivery, begun, emits_nothing, item_at, start_state, with_emission, without}
 use Rattle.domain.specs.HostAccesses.{host_emission, is_in_page, mmio_fault, mmio_unless, mmio_with, opened_for, size_of, tag_for}
 use Rattle.domain.specs.Ticks.{sent_by, tick_fault, tick_unless, ticked, ticks}
 use Rattle.domain.specs.Submits.{submit_fault, submit_unless, submitted}
 use Rattle.domain.specs.Tags.{completes, is_open, opens_tag}
-use Rattle.disposition.specs.Takers.{taker_of}
+use Rattle.request_handling.specs.Takers.{taker_of}
 
 -- how many packets may still come of one in flight, itself left out
 abbrev pub owed_by : Parties → ℕ
@@ -273,65 +273,65 @@ mmio_accounted share s n m x None c lt a e = mmio_by share s n m x (tag_for s.op
 mmio_accounted share s n m x (Some fault) c lt a e = absurd cc
 
 -- an answer owes less than what it answers
-abbrev Owes : ℕ → Ending → Type 0
+abbrev Owes : ℕ → Handling → Type 0
 Owes spare a = one a.reply + owed_in a.reply ≤ spare
 
-did : (share : Share) (s : Alone) (n m k : ℕ) (e : Emission) (d : Deed) → item_at s.flight k ≡ Some e → Accounted share s n m → Spare share (done (without s k) e.bytes d) (suc n) m (owed_by e.parties)
+did : (share : Share) (s : Alone) (n m k : ℕ) (e : Emission) (d : Effect) → item_at s.flight k ≡ Some e → Accounted share s n m → Spare share (done (without s k) e.bytes d) (suc n) m (owed_by e.parties)
 did share s n m k e Leave is a = left share s (without s k) n m k e is a refl refl (omega arith) (omega arith)
 did share s n m k e Block is a = left share s (blocked (without s k)) n m k e is a refl refl (omega arith) (omega arith)
 did share s n m k e (Store frame first) is a = left share s (with_stored (without s k) frame first (runs (packet_of e.bytes))) n m k e is a refl refl (omega arith) (omega arith)
 did share s n m k e (Access g) is a = left share s (with_access (without s k) g (packet_of e.bytes)) n m k e is a refl refl (omega arith) (omega arith)
 
-concluded : (share : Share) (s : Alone) (n m k : ℕ) (e : Emission) (a : Ending) → item_at s.flight k ≡ Some e → Owes (owed_by e.parties) a → Accounted share s n m → Accounted share (conclude s k e.bytes a).state (suc n) m
-concluded share s n m k e a is le h = answered share (done (without s k) e.bytes a.deed) (suc n) m (owed_by e.parties) a.reply (did share s n m k e a.deed is h) le
+concluded : (share : Share) (s : Alone) (n m k : ℕ) (e : Emission) (a : Handling) → item_at s.flight k ≡ Some e → Owes (owed_by e.parties) a → Accounted share s n m → Accounted share (conclude s k e.bytes a).state (suc n) m
+concluded share s n m k e a is le h = answered share (done (without s k) e.bytes a.effect) (suc n) m (owed_by e.parties) a.reply (did share s n m k e a.effect is h) le
 
-ends : (share : Share) (s : Alone) (n m k : ℕ) (e : Emission) (r : Option Ending) (c : Change) → item_at s.flight k ≡ Some e → ((a : Ending) → r ≡ Some a → Owes (owed_by e.parties) a) → Accounted share s n m
+ends : (share : Share) (s : Alone) (n m k : ℕ) (e : Emission) (r : Option Handling) (c : Change) → item_at s.flight k ≡ Some e → ((a : Handling) → r ≡ Some a → Owes (owed_by e.parties) a) → Accounted share s n m
     → option_map (conclude s k e.bytes) r ≡ Some c → Accounted share c.state (suc n) m
 ends share s n m k e None c is owes h made = absurd cc
 ends share s n m k e (Some a) c is owes h made = subst (λ (d : Change). Accounted share d.state (suc n) m) (some_is _ c made) (concluded share s n m k e a is (owes a refl) h)
 
 -- ---- what a packet's end owes
 
-refusal_by_owes : (port f : ℕ) (b : List ℕ) (fate : Fate) (a : Ending) → refusal_by port f b fate ≡ Some a → Owes 2 a
+refusal_by_owes : (port f : ℕ) (b : List ℕ) (fate : Fate) (a : Handling) → refusal_by port f b fate ≡ Some a → Owes 2 a
 refusal_by_owes port f b Vanish a h = subst (Owes 2) (some_is _ a h) (omega arith)
 refusal_by_owes port f b (Refused status) a h = subst (Owes 2) (some_is _ a h) (omega arith)
 refusal_by_owes port f b ToHost a h = absurd cc
 
-refusal_owes : (share : Share) (b : List ℕ) (p : Parties) (a : Ending) → refusal_of share b p ≡ Some a → Owes (owed_by p) a
+refusal_owes : (share : Share) (b : List ℕ) (p : Parties) (a : Handling) → refusal_of share b p ≡ Some a → Owes (owed_by p) a
 refusal_owes share b (Upward f) a h = refusal_by_owes (port_id (first_port share.ports f)) f b (fate share.ports f b) a h
 refusal_owes share b (Downward g) a h = absurd cc
 refusal_owes share b (Answer by x) a h = absurd cc
 
-forward_owes : (g : ℕ) (t : Packet) (bar : Option ℕ) (a : Ending) → forward g t bar ≡ Some a → Owes 2 a
+forward_owes : (g : ℕ) (t : Packet) (bar : Option ℕ) (a : Handling) → forward g t bar ≡ Some a → Owes 2 a
 forward_owes g t None a h = absurd cc
 forward_owes g t (Some bar) a h = subst (Owes 2) (some_is _ a h) (omega arith)
 
-write_owes : (share : Share) (t : Packet) (target : Option MapTarget) (a : Ending) → write_to share t target ≡ Some a → Owes 2 a
+write_owes : (share : Share) (t : Packet) (target : Option MapTarget) (a : Handling) → write_to share t target ≡ Some a → Owes 2 a
 write_owes share t None a h = subst (Owes 2) (some_is _ a h) (omega arith)
 write_owes share t (Some (Frame k)) a h = subst (Owes 2) (some_is _ a h) (omega arith)
 write_owes share t (Some (Peer g)) a h = forward_owes g t (bar_of share.functions g) a h
 
-read_owes : (share : Share) (frames : List (ℕ × List ℕ)) (t : Packet) (target : Option MapTarget) (a : Ending) → read_from share frames t target ≡ Some a → Owes 2 a
+read_owes : (share : Share) (frames : List (ℕ × List ℕ)) (t : Packet) (target : Option MapTarget) (a : Handling) → read_from share frames t target ≡ Some a → Owes 2 a
 read_owes share frames t None a h = subst (Owes 2) (some_is _ a h) (omega arith)
 read_owes share frames t (Some (Frame k)) a h = subst (Owes 2) (some_is _ a h) (omega arith)
 read_owes share frames t (Some (Peer g)) a h = forward_owes g t (bar_of share.functions g) a h
 
 -- whichever of two it is
-either_owes : (b : Bool) (x y : Option Ending) (a : Ending) → (x ≡ Some a → Owes 2 a) → (y ≡ Some a → Owes 2 a) → cond b x y ≡ Some a → Owes 2 a
+either_owes : (b : Bool) (x y : Option Handling) (a : Handling) → (x ≡ Some a → Owes 2 a) → (y ≡ Some a → Owes 2 a) → cond b x y ≡ Some a → Owes 2 a
 either_owes true x y a of_x of_y h = of_x h
 either_owes false x y a of_x of_y h = of_y h
 
-serve_read_owes : (share : Share) (frames : List (ℕ × List ℕ)) (t : Packet) (a : Ending) → serve_read share frames t ≡ Some a → Owes 2 a
+serve_read_owes : (share : Share) (frames : List (ℕ × List ℕ)) (t : Packet) (a : Handling) → serve_read share frames t ≡ Some a → Owes 2 a
 serve_read_owes share frames t a h =
-    either_owes (nat_lt 64 (dw_count t.length)) (Some (record { deed = Leave; reply = Some (host_refusal share t) })) (read_from share frames t (target_of share.maps t.requester (address_of t / 4096) Read)) a
+    either_owes (nat_lt 64 (dw_count t.length)) (Some (record { effect = Leave; reply = Some (host_refusal share t) })) (read_from share frames t (target_of share.maps t.requester (address_of t / 4096) Read)) a
     (λ is. subst (Owes 2) (some_is _ a is) (omega arith)) (read_owes share frames t (target_of share.maps t.requester (address_of t / 4096) Read) a) h
 
-serve_owes : (share : Share) (frames : List (ℕ × List ℕ)) (t : Packet) (a : Ending) → serve share frames t ≡ Some a → Owes 2 a
+serve_owes : (share : Share) (frames : List (ℕ × List ℕ)) (t : Packet) (a : Handling) → serve share frames t ≡ Some a → Owes 2 a
 serve_owes share frames t a h =
     either_owes (is_write t.kind) (write_to share t (target_of share.maps t.requester (address_of t / 4096) Write)) (serve_read share frames t) a
     (write_owes share t (target_of share.maps t.requester (address_of t / 4096) Write) a) (serve_read_owes share frames t a) h
 
-carriage_by_owes : (share : Share) (frames : List (ℕ × List ℕ)) (b : List ℕ) (fate : Fate) (a : Ending) → carriage_by share frames b fate ≡ Some a → Owes 2 a
+carriage_by_owes : (share : Share) (frames : List (ℕ × List ℕ)) (b : List ℕ) (fate : Fate) (a : Handling) → carriage_by share frames b fate ≡ Some a → Owes 2 a
 carriage_by_owes share frames b Vanish a h = absurd cc
 carriage_by_owes share frames b (Refused status) a h = absurd cc
 carriage_by_owes share frames b ToHost a h = serve_owes share frames (packet_of b) a (taken (is_carried share (packet_of b)) (serve share frames (packet_of b)) a h)
@@ -341,11 +341,11 @@ answer_owes : (share : Share) (g : ℕ) (page : List ℕ) (t : Packet) (o : Opti
 answer_owes share g page t None = omega arith
 answer_owes share g page t (Some c) = omega arith
 
-access_owes : (share : Share) (g : ℕ) (t : Packet) (page : Option (List ℕ)) (a : Ending) → option_map (λ (bytes : List ℕ). record { deed = Access g; reply = function_answer share g bytes t }) page ≡ Some a → Owes 1 a
+access_owes : (share : Share) (g : ℕ) (t : Packet) (page : Option (List ℕ)) (a : Handling) → option_map (λ (bytes : List ℕ). record { effect = Access g; reply = function_answer share g bytes t }) page ≡ Some a → Owes 1 a
 access_owes share g t None a h = absurd cc
 access_owes share g t (Some bytes) a h = subst (Owes 1) (some_is _ a h) (answer_owes share g bytes t (page_answer g bytes t))
 
-carriage_owes : (share : Share) (frames registers : List (ℕ × List ℕ)) (b : List ℕ) (p : Parties) (a : Ending) → carriage_of share frames registers b p ≡ Some a → Owes (owed_by p) a
+carriage_owes : (share : Share) (frames registers : List (ℕ × List ℕ)) (b : List ℕ) (p : Parties) (a : Handling) → carriage_of share frames registers b p ≡ Some a → Owes (owed_by p) a
 carriage_owes share frames registers b (Upward f) a h = carriage_by_owes share frames b (fate share.ports f b) a h
 carriage_owes share frames registers b (Downward g) a h = access_owes share g (packet_of b) (page_of registers g) a h
 carriage_owes share frames registers b (Answer by x) a h = absurd cc
@@ -355,7 +355,7 @@ carriage_owes share frames registers b (Answer by x) a h = absurd cc
 owes_nothing : Owes 2 discarded
 owes_nothing = omega arith
 
-or_owes : (o : Option Ending) → ((a : Ending) → o ≡ Some a → Owes 2 a) → Owes 2 (or_discarded o)
+or_owes : (o : Option Handling) → ((a : Handling) → o ≡ Some a → Owes 2 a) → Owes 2 (or_discarded o)
 or_owes None of = owes_nothing
 or_owes (Some a) of = of a refl
 
@@ -364,7 +364,7 @@ unserved_owes Posted e none = owes_nothing
 unserved_owes NonPosted e none = omega (arith, none)
 unserved_owes Completion e none = owes_nothing
 
-cond_owes : (b : Bool) (x y : Ending) → Owes 2 x → Owes 2 y → Owes 2 (cond b x y)
+cond_owes : (b : Bool) (x y : Handling) → Owes 2 x → Owes 2 y → Owes 2 (cond b x y)
 cond_owes true x y of_x of_y = of_x
 cond_owes false x y of_x of_y = of_y
 
@@ -392,7 +392,7 @@ at_function_owes share registers g t =
     (or_owes (access_of share registers g t) (λ a is. let le : Owes 1 a = access_owes share g t (page_of registers g) a is in omega (arith, le)))
     (unserved_owes (class_of_kind t.kind) (function_refusal share g t) refl)
 
-at_port_owes : (port : PortLine) (b : List ℕ) (sender : Parties) → Owes 2 (at_port port b sender)
+at_port_owes : (port : DownstreamPort) (b : List ℕ) (sender : Parties) → Owes 2 (at_port port b sender)
 at_port_owes port b (Upward f) = or_owes (refusal_by port.id f b (fate_at port b)) (refusal_by_owes port.id f b (fate_at port b))
 at_port_owes port b (Downward g) = owes_nothing
 at_port_owes port b (Answer by x) = owes_nothing
@@ -449,7 +449,7 @@ joins share s t n m a flight begins blocks strays =
       strays = omega (arith, a.strays, strays);
     }
 
-did_alien : (share : Share) (s : Alone) (n m : ℕ) (b : List ℕ) (d : Deed) → Accounted share s n m → Spare share (done s b d) (suc n) (m + 1) 2
+did_alien : (share : Share) (s : Alone) (n m : ℕ) (b : List ℕ) (d : Effect) → Accounted share s n m → Spare share (done s b d) (suc n) (m + 1) 2
 did_alien share s n m b Leave a = joins share s s n m a refl refl (omega arith) (omega arith)
 did_alien share s n m b Block a = joins share s (blocked s) n m a refl refl (omega arith) (omega arith)
 did_alien share s n m b (Store k first) a = joins share s (with_stored s k first (runs (packet_of b))) n m a refl refl (omega arith) (omega arith)
@@ -460,7 +460,7 @@ arrives_alien share s n m d true a = answered share (recorded s d) (suc n) (m + 
 arrives_alien share s n m d false a = answered share (unexpected s) (suc n) (m + 1) 2 None (joins share s (unexpected s) n m a refl refl (omega arith) (omega arith)) (omega arith)
 
 receives : (share : Share) (s : Alone) (n m : ℕ) (b : List ℕ) (r : Reception) → OwesAs r → Accounted share s n m → Accounted share (received s b r).state (suc n) (m + 1)
-receives share s n m b (Ends e) owes a = answered share (done s b e.deed) (suc n) (m + 1) 2 e.reply (did_alien share s n m b e.deed a) owes
+receives share s n m b (Ends e) owes a = answered share (done s b e.effect) (suc n) (m + 1) 2 e.reply (did_alien share s n m b e.effect a) owes
 receives share s n m b (Arrives e) owes a = arrives_alien share s n m e.delivery e.is_awaited a
 
 taken_in : (share : Share) (s : Alone) (n m : ℕ) (b : List ℕ) (o : Option Reception) (c : Change) → ((r : Reception) → o ≡ Some r → OwesAs r) → Accounted share s n m

@@ -11,53 +11,54 @@ use Rattle.fab_types.specs.declared.head.AddressType.TheVariants.{Untranslated, 
 use Rattle.fab_types.specs.declared.head.Answerer.{Answerer}
 use Rattle.fab_types.specs.declared.head.Parties.{Parties}
 use Rattle.fab_types.specs.declared.head.Parties.TheVariants.{Upward, Downward, Answer}
-use Rattle.fab_types.specs.declared.place.Origin.{Origin}
-use Rattle.fab_types.specs.declared.place.Origin.TheVariants as origin
+use Rattle.fab_types.specs.declared.origin.Origin.{Origin}
+use Rattle.fab_types.specs.declared.origin.Origin.TheVariants as origin
 use Rattle.fab_types.specs.declared.place.Place.{Place}
 use Rattle.frame_log.specs.Descriptor.{Descriptor}
 use Rattle.function.specs.Accesses.{IsAccess}
 use Rattle.function.specs.declared.tags.OpenTag.{OpenTag}
 use Rattle.host_memory.specs.Pages.{page_of}
-use Rattle.layout.specs.declared.lines.PortLine.{PortLine}
-use Rattle.layout.specs.Owners.{owner_of}
-use Rattle.layout.specs.Share.{Share, is_guarded}
+use Rattle.platform.specs.declared.parts.DownstreamPort.{DownstreamPort}
+use Rattle.platform.specs.Owners.{owner_of}
+use Rattle.platform.specs.Share.{Share, is_guarded}
 use Rattle.tlp_view.specs.Bytes.{packet_of}
 use Rattle.tlp_view.specs.Kinds.{class_of_kind, is_completion}
 use Rattle.tlp_view.specs.Malformed.{malformed}
 use Rattle.tlp_view.specs.Packet.{Packet, dw_count}
 use Rattle.tlp_view.specs.Runs.{is_write}
 use Rattle.tlp_view.specs.View.{address_type_in}
-use Rattle.disposition.specs.declared.ending.Deed.{Deed}
-use Rattle.disposition.specs.declared.ending.Deed.TheVariants.{Leave, Block, Store, Access}
-use Rattle.disposition.specs.declared.ending.Ending.{Ending}
+use Rattle.request_handling.specs.declared.handling.Effect.{Effect}
+use Rattle.request_handling.specs.declared.handling.Effect.TheVariants.{Leave, Block, Store, Access}
+use Rattle.request_handling.specs.declared.handling.Handling.{Handling}
 use Rattle.domain.specs.declared.entry.Entry.{Entry}
 use Rattle.domain.specs.declared.entry.Entry.TheVariants.{Submit, Tick, Mmio, Refuse, Carry, Deliver, Alien}
-use Rattle.disposition.specs.declared.fate.Fate.{Fate}
-use Rattle.disposition.specs.declared.fate.Fate.TheVariants.{Vanish, Refused, ToHost}
+use Rattle.request_handling.specs.declared.fate.Fate.{Fate}
+use Rattle.request_handling.specs.declared.fate.Fate.TheVariants.{Vanish, Refused, ToHost}
 use Rattle.domain.specs.declared.reception.Reception.{Reception}
 use Rattle.domain.specs.declared.reception.Reception.TheVariants.{Ends, Arrives}
-use Rattle.disposition.specs.declared.taker.Taker.{Taker}
-use Rattle.disposition.specs.declared.taker.Taker.TheVariants.{Host, Function, Port, Upstream}
-use Rattle.disposition.specs.Requests.{at_frame_if, at_port, frame_at, is_access, lies_in, or_discarded, request_at_function, request_at_host, unserved, unserved_by_host}
+use Rattle.request_handling.specs.declared.taker.Taker.{Taker}
+use Rattle.request_handling.specs.declared.taker.Taker.TheVariants.{Host, Function, Port, Upstream}
+use Rattle.request_handling.specs.Requests.{at_frame_if, at_port, frame_at, is_access, lies_in, or_discarded, request_at_function, request_at_host, unserved, unserved_by_host}
 use Rattle.domain.specs.Aliens.{answerer_of, completion_at_host, is_excluded, received, received_if, reception_at, reception_by, reception_of, reception_unless}
-use Rattle.disposition.specs.Answers.{address_of, bar_of, function_answer, function_refusal, host_refusal}
-use Rattle.disposition.specs.Carries.{access_of, discarded, from_frame, is_owner, refusal_by, refused_by_host, serve, to_frame}
+use Rattle.request_handling.specs.Answers.{address_of, bar_of, function_answer, function_refusal, host_refusal}
+use Rattle.request_handling.specs.Carries.{access_of, discarded, from_frame, is_owner, refusal_by, refused_by_host, serve, to_frame}
 use Rattle.domain.specs.Deliveries.{arrival_at, is_port}
 use Rattle.domain.specs.Domains.{DomainView, Makes}
-use Rattle.domain.specs.Ends.{BytesFit, DeedFits}
-use Rattle.disposition.specs.Fates.{fate_at}
-use Rattle.disposition.specs.Heads.{descriptor_of, origin_id, target_for}
+use Rattle.domain.specs.Ends.{BytesFit, EffectFits}
+use Rattle.request_handling.specs.Fates.{fate_at}
+use Rattle.fab_types.specs.Origins.{origin_id}
+use Rattle.request_handling.specs.Heads.{descriptor_of, target_for}
 use Rattle.domain.specs.Machine.{aliens_from, aliens_in, change, replay, replay_from, with_alien}
 use Rattle.domain.specs.Receptions.{IsReceivable}
-use Rattle.disposition.specs.Emissions.{Emission}
+use Rattle.request_handling.specs.Emissions.{Emission}
 use Rattle.domain.specs.State.{Alone, Change, start_state}
 use Rattle.domain.specs.Tags.{is_open}
-use Rattle.disposition.specs.Takers.{taker_of, takes}
+use Rattle.request_handling.specs.Takers.{taker_of, takes}
 use Rattle.domain.proofs.Accounting.{aliens_more, goes_on}
 use Rattle.domain.proofs.EndLemmas.{serve_fits}
 use Rattle.domain.proofs.Keeping.{makes_end, makes_seen}
 use Rattle.domain.proofs.PageFits.{write_in_page}
-use Rattle.disposition.proofs.WellMadeLemmas.{is_an_access}
+use Rattle.request_handling.proofs.WellMadeLemmas.{is_an_access}
 
 abbrev some : {A : Type 0} → A → Option A
 some x = Some x
@@ -65,22 +66,22 @@ some x = Some x
 some_is : {A : Type 0} (x y : A) → some x ≡ some y → x ≡ y
 some_is x y e = cc
 
-abbrev pub ends : Ending → Reception
+abbrev pub ends : Handling → Reception
 ends a = Ends a
 
 -- ---- what is done fits the bytes
 
-abbrev Fits : List ℕ → Ending → Type 0
-Fits b a = BytesFit b a.deed
+abbrev Fits : List ℕ → Handling → Type 0
+Fits b a = BytesFit b a.effect
 
 -- of what a function sent nothing accesses a page
-upward_fits : (b : List ℕ) (d : Deed) → DeedFits (record { parties = Upward 0; bytes = b }) d → BytesFit b d
+upward_fits : (b : List ℕ) (d : Effect) → EffectFits (record { parties = Upward 0; bytes = b }) d → BytesFit b d
 upward_fits b Leave h = tt
 upward_fits b Block h = tt
 upward_fits b (Store k first) h = h
 upward_fits b (Access g) h = absurd cc
 
-or_fits : (b : List ℕ) (o : Option Ending) → ((a : Ending) → o ≡ Some a → Fits b a) → Fits b (or_discarded o)
+or_fits : (b : List ℕ) (o : Option Handling) → ((a : Handling) → o ≡ Some a → Fits b a) → Fits b (or_discarded o)
 or_fits b None of = tt
 or_fits b (Some a) of = of a refl
 
@@ -89,7 +90,7 @@ unserved_fits b Posted e = tt
 unserved_fits b NonPosted e = tt
 unserved_fits b Completion e = tt
 
-either_fits : (b : List ℕ) (test : Bool) (x y : Ending) → (test ≡ true → Fits b x) → Fits b y → Fits b (cond test x y)
+either_fits : (b : List ℕ) (test : Bool) (x y : Handling) → (test ≡ true → Fits b x) → Fits b y → Fits b (cond test x y)
 either_fits b true x y of_x of_y = of_x refl
 either_fits b false x y of_x of_y = of_y
 
@@ -109,7 +110,7 @@ at_host_fits share frames b None good = host_fits share b (packet_of b)
 at_host_fits share frames b (Some Untranslated) good =
     let t = packet_of b in
     either_fits b (is_owner (owner_of share.ports t.requester) share.domain) (or_discarded (serve share frames t)) (unserved_by_host share t)
-    (λ _. or_fits b (serve share frames t) (λ a is. upward_fits b a.deed (serve_fits share frames (record { parties = Upward 0; bytes = b }) a good is)))
+    (λ _. or_fits b (serve share frames t) (λ a is. upward_fits b a.effect (serve_fits share frames (record { parties = Upward 0; bytes = b }) a good is)))
     (host_fits share b t)
 at_host_fits share frames b (Some TranslationRequest) good = host_fits share b (packet_of b)
 at_host_fits share frames b (Some Translated) good = at_frame_fits share frames b (frame_at share.frames (address_of (packet_of b) / 4096)) good
@@ -119,8 +120,8 @@ both-first : (a b : Bool) → (a && b) ≡ true → a ≡ true
 both-first true b e = refl
 both-first false b e = absurd cc
 
-access_fits : (share : Share) (b : List ℕ) (g : ℕ) (page : Option (List ℕ)) (a : Ending) → malformed b ≡ None → IsAccess (packet_of b)
-    → option_map (λ (bytes : List ℕ). record { deed = Access g; reply = function_answer share g bytes (packet_of b) }) page ≡ Some a → Fits b a
+access_fits : (share : Share) (b : List ℕ) (g : ℕ) (page : Option (List ℕ)) (a : Handling) → malformed b ≡ None → IsAccess (packet_of b)
+    → option_map (λ (bytes : List ℕ). record { effect = Access g; reply = function_answer share g bytes (packet_of b) }) page ≡ Some a → Fits b a
 access_fits share b g None a good is e = absurd cc
 access_fits share b g (Some bytes) a good is e = subst (Fits b) (some_is _ a e) (good, is)
 
@@ -132,12 +133,12 @@ at_function_fits share registers g b good =
     (λ is. or_fits b (access_of share registers g t) (λ a made. access_fits share b g (page_of registers g) a good (is_an_access t (both-first (is_access t) lies is)) made))
     (unserved_fits b (class_of_kind t.kind) (function_refusal share g t))
 
-refusal_fits : (b : List ℕ) (port f : ℕ) (fate : Fate) (a : Ending) → refusal_by port f b fate ≡ Some a → Fits b a
+refusal_fits : (b : List ℕ) (port f : ℕ) (fate : Fate) (a : Handling) → refusal_by port f b fate ≡ Some a → Fits b a
 refusal_fits b port f Vanish a e = subst (Fits b) (some_is _ a e) tt
 refusal_fits b port f (Refused status) a e = subst (Fits b) (some_is _ a e) tt
 refusal_fits b port f ToHost a e = absurd cc
 
-at_port_fits : (port : PortLine) (b : List ℕ) (sender : Parties) → Fits b (at_port port b sender)
+at_port_fits : (port : DownstreamPort) (b : List ℕ) (sender : Parties) → Fits b (at_port port b sender)
 at_port_fits port b (Upward f) = or_fits b (refusal_by port.id f b (fate_at port b)) (refusal_fits b port.id f (fate_at port b))
 at_port_fits port b (Downward g) = tt
 at_port_fits port b (Answer by x) = tt

@@ -3,16 +3,16 @@ use Rattle.std.proofs.Common.{◌≡◌, ℕ, ◌+◌, ◌≤◌, Bool, true, fa
 use Rattle.std.specs.Prelude.{filter}
 use Rattle.std.specs.List.{list_any}
 use Rattle.std.specs.Option.{IsSome}
-use Rattle.fab_types.specs.declared.place.Origin.{Origin}
+use Rattle.fab_types.specs.declared.origin.Origin.{Origin}
 use Rattle.tlp_view.specs.Bytes.{packet_of}
 use Rattle.tlp_view.specs.Runs.{runs}
 use Rattle.domain.proofs.FlightLemmas.{clear_push, item_push}
-use Rattle.disposition.specs.declared.ending.Deed.{Deed}
-use Rattle.disposition.specs.declared.ending.Deed.TheVariants.{Leave, Block, Store, Access}
+use Rattle.request_handling.specs.declared.handling.Effect.{Effect}
+use Rattle.request_handling.specs.declared.handling.Effect.TheVariants.{Leave, Block, Store, Access}
 use Rattle.function.specs.declared.tags.OpenTag.{OpenTag}
 use Rattle.domain.specs.Deliveries.{closed}
-use Rattle.domain.specs.Ends.{DeedFits, blocked, done, replied, with_access, with_stored}
-use Rattle.disposition.specs.Emissions.{Emission}
+use Rattle.domain.specs.Ends.{EffectFits, blocked, done, replied, with_access, with_stored}
+use Rattle.request_handling.specs.Emissions.{Emission}
 use Rattle.domain.specs.State.{Alone, Delivery, item_at, without}
 use Rattle.domain.specs.Tags.{is_open, same_origin}
 
@@ -25,7 +25,7 @@ pub item_replied : (s : Alone) (o : Option Emission) (n : ℕ) → IsSome (item_
 item_replied s None n h = refl
 item_replied s (Some x) n h = item_push s.flight (Some x) n h
 
-ended_answered : (s : Alone) (o : Option Emission) (n : ℕ) (bytes : List ℕ) (d : Deed) → IsSome (item_at s.flight n) → without (done (replied s o) bytes d) n ≡ replied (done (without s n) bytes d) o
+ended_answered : (s : Alone) (o : Option Emission) (n : ℕ) (bytes : List ℕ) (d : Effect) → IsSome (item_at s.flight n) → without (done (replied s o) bytes d) n ≡ replied (done (without s n) bytes d) o
 ended_answered s None n bytes Leave h = refl
 ended_answered s None n bytes Block h = refl
 ended_answered s None n bytes (Store k first) h = refl
@@ -35,14 +35,14 @@ ended_answered s (Some x) n bytes Block h = ap (with_flight (blocked s)) (clear_
 ended_answered s (Some x) n bytes (Store k first) h = ap (with_flight (with_stored s k first (runs (packet_of bytes)))) (clear_push s.flight (Some x) n h)
 ended_answered s (Some x) n bytes (Access g) h = ap (with_flight (with_access s g (packet_of bytes))) (clear_push s.flight (Some x) n h)
 
-pub concludes : (s t u : Alone) (o : Option Emission) (n : ℕ) (e : Emission) (d : Deed) → IsSome (item_at s.flight n) → item_at s.flight n ≡ Some e → t ≡ replied s o
+pub concludes : (s t u : Alone) (o : Option Emission) (n : ℕ) (e : Emission) (d : Effect) → IsSome (item_at s.flight n) → item_at s.flight n ≡ Some e → t ≡ replied s o
     → ((x : Emission) → item_at t.flight n ≡ Some x → u ≡ done t x.bytes d) → without u n ≡ replied (done (without s n) e.bytes d) o
 concludes s t u o n e d h is sent does =
     let there : item_at t.flight n ≡ Some e = ap (λ (v : Alone). item_at v.flight n) sent ∙ (item_replied s o n h ∙ is) in
     ap (λ (v : Alone). without v n) (does e there ∙ ap (λ (v : Alone). done v e.bytes d) sent) ∙ ended_answered s o n e.bytes d h
 
-pub fits_after : (s t : Alone) (o : Option Emission) (n : ℕ) (d : Deed) (e : Emission) → IsSome (item_at s.flight n) → t ≡ replied s o → ((x : Emission) → item_at s.flight n ≡ Some x → DeedFits x d)
-    → item_at t.flight n ≡ Some e → DeedFits e d
+pub fits_after : (s t : Alone) (o : Option Emission) (n : ℕ) (d : Effect) (e : Emission) → IsSome (item_at s.flight n) → t ≡ replied s o → ((x : Emission) → item_at s.flight n ≡ Some x → EffectFits x d)
+    → item_at t.flight n ≡ Some e → EffectFits e d
 fits_after s t o n d e h sent fits is = fits e (sym (item_replied s o n h) ∙ (ap (λ (v : Alone). item_at v.flight n) (sym sent) ∙ is))
 
 pub unblocked : (s t : Alone) (o : Option Emission) → t ≡ replied s o → t.counts ≡ s.counts

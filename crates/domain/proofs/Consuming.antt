@@ -3,14 +3,14 @@ use Rattle.std.proofs.Common.{◌≡◌, ℕ, zero, suc, ◌+◌, ◌==◌, Bool
 use Rattle.std.specs.Prelude.{IsSome, nat_lt}
 use Rattle.std.proofs.Math.Dec.{eqb-suc-suc, eqb-suc-zero, eqb-zero-suc, leb-suc-suc, leb-suc-zero, leb-zero}
 use Rattle.std.proofs.lemmas.List.Sums.{sum_by-cons}
-use Rattle.layout.specs.Share.{Share}
-use Rattle.disposition.specs.declared.ending.Ending.{Ending}
+use Rattle.platform.specs.Share.{Share}
+use Rattle.request_handling.specs.declared.handling.Handling.{Handling}
 use Rattle.domain.specs.declared.entry.Entry.{Entry}
 use Rattle.domain.specs.declared.entry.Entry.TheVariants.{Submit, Tick, Mmio, Refuse, Carry, Deliver, Alien}
-use Rattle.disposition.specs.Carries.{carriage_end, refusal_end}
+use Rattle.request_handling.specs.Carries.{carriage_end, refusal_end}
 use Rattle.domain.specs.Consumed.{AreConsumedOnce, consumes, times_consumed, times_waiting}
 use Rattle.domain.specs.Machine.{change, deliver, ended, replay, replay_from}
-use Rattle.disposition.specs.Emissions.{Emission}
+use Rattle.request_handling.specs.Emissions.{Emission}
 use Rattle.domain.specs.State.{Alone, Change, item_at, start_state}
 use Rattle.domain.proofs.Accounting.{goes_on}
 use Rattle.domain.proofs.Joining.{mmio_flight, submit_flight, tick_flight}
@@ -81,7 +81,7 @@ leaves s k new o n is left =
     (omega (arith, joined_balances less o n, cleared_waits s.flight k n is, cleared_made s.flight k n))
 
 -- what ends was in flight
-ended_waits : (s : Alone) (k : ℕ) (o : Option Emission) (r : Option Ending) (c : Change) → ended s k o r ≡ Some c → times_waiting o ≡ 1
+ended_waits : (s : Alone) (k : ℕ) (o : Option Emission) (r : Option Handling) (c : Change) → ended s k o r ≡ Some c → times_waiting o ≡ 1
 ended_waits s k None r c h = absurd cc
 ended_waits s k (Some e) r c h = refl
 

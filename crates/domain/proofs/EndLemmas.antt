@@ -5,30 +5,30 @@ use Rattle.fab_types.specs.declared.faults.malformed.Malformed.{Malformed}
 use Rattle.fab_types.specs.declared.head.Parties.{Parties}
 use Rattle.fab_types.specs.declared.head.Parties.TheVariants.{Upward, Downward, Answer}
 use Rattle.host_memory.specs.Pages.{page_of}
-use Rattle.layout.specs.declared.lines.Access.TheVariants.{Read, Write}
-use Rattle.layout.specs.declared.lines.MapTarget.{MapTarget}
-use Rattle.layout.specs.declared.lines.MapTarget.TheVariants.{Frame, Peer}
-use Rattle.layout.specs.declared.lines.PortLine.{PortLine}
-use Rattle.layout.specs.Owners.{first_port}
-use Rattle.layout.specs.Share.{Share}
+use Rattle.platform.specs.declared.parts.Access.TheVariants.{Read, Write}
+use Rattle.platform.specs.declared.parts.MapTarget.{MapTarget}
+use Rattle.platform.specs.declared.parts.MapTarget.TheVariants.{Frame, Peer}
+use Rattle.platform.specs.declared.parts.DownstreamPort.{DownstreamPort}
+use Rattle.platform.specs.Owners.{first_port}
+use Rattle.platform.specs.Share.{Share}
 use Rattle.layout.specs.Tables.{target_of}
 use Rattle.tlp_view.specs.Bytes.{packet_of}
 use Rattle.tlp_view.specs.Malformed.{malformed}
 use Rattle.tlp_view.specs.Packet.{Packet, dw_count}
 use Rattle.tlp_view.specs.Runs.{is_write}
 use Rattle.domain.proofs.PageFits.{write_in_page}
-use Rattle.disposition.specs.declared.ending.Deed.TheVariants.{Leave, Access}
-use Rattle.disposition.specs.declared.ending.Ending.{Ending}
+use Rattle.request_handling.specs.declared.handling.Effect.TheVariants.{Leave, Access}
+use Rattle.request_handling.specs.declared.handling.Handling.{Handling}
 use Rattle.domain.specs.declared.entry.Entry.TheVariants.{Carry, Deliver, Refuse}
-use Rattle.disposition.specs.declared.fate.Fate.{Fate}
-use Rattle.disposition.specs.declared.fate.Fate.TheVariants.{Vanish, Refused, ToHost}
-use Rattle.disposition.specs.Answers.{address_of, bar_of, function_answer, host_refusal}
-use Rattle.disposition.specs.Carries.{access_of, carriage_by, carriage_end, carriage_of, forward, is_carried, port_id, read_from, refusal_by, refusal_end, refusal_of, serve, serve_read, write_to}
+use Rattle.request_handling.specs.declared.fate.Fate.{Fate}
+use Rattle.request_handling.specs.declared.fate.Fate.TheVariants.{Vanish, Refused, ToHost}
+use Rattle.request_handling.specs.Answers.{address_of, bar_of, function_answer, host_refusal}
+use Rattle.request_handling.specs.Carries.{access_of, carriage_by, carriage_end, carriage_of, forward, is_carried, port_id, read_from, refusal_by, refusal_end, refusal_of, serve, serve_read, write_to}
 use Rattle.domain.specs.Domains.{DomainView, EndsBy}
-use Rattle.domain.specs.Ends.{DeedFits, conclude}
-use Rattle.disposition.specs.Fates.{fate, fate_below, fate_unless}
+use Rattle.domain.specs.Ends.{EffectFits, conclude}
+use Rattle.request_handling.specs.Fates.{fate, fate_below, fate_unless}
 use Rattle.domain.specs.Machine.{carry, change, ended, refuse}
-use Rattle.disposition.specs.Emissions.{Emission}
+use Rattle.request_handling.specs.Emissions.{Emission}
 use Rattle.domain.specs.State.{Alone, Change, emits_nothing, item_at, without}
 use Rattle.domain.specs.declared.deliver.Arrival.{Arrival}
 use Rattle.function.specs.declared.tags.OpenTag.{OpenTag}
@@ -42,93 +42,93 @@ some_is x y e = cc
 
 -- ---- what goes on to the host is well formed
 
-well_unless : (m : Option Malformed) (port : PortLine) (b : List ℕ) → fate_unless m port b ≡ ToHost → m ≡ None
+well_unless : (m : Option Malformed) (port : DownstreamPort) (b : List ℕ) → fate_unless m port b ≡ ToHost → m ≡ None
 well_unless None port b e = refl
 well_unless (Some cause) port b e = absurd cc
 
-well_below : (o : Option PortLine) (b : List ℕ) → fate_below o b ≡ ToHost → malformed b ≡ None
+well_below : (o : Option DownstreamPort) (b : List ℕ) → fate_below o b ≡ ToHost → malformed b ≡ None
 well_below None b e = absurd cc
 well_below (Some port) b e = well_unless (malformed b) port b e
 
 -- ---- what is written lies within a page
 
--- the deed of an end
-abbrev Fits : Emission → Ending → Type 0
-Fits e a = DeedFits e a.deed
+-- the effect of an end
+abbrev Fits : Emission → Handling → Type 0
+Fits e a = EffectFits e a.effect
 
-refusal_by_fits : (x : Emission) (port f : ℕ) (g : Fate) (a : Ending) → refusal_by port f x.bytes g ≡ Some a → Fits x a
+refusal_by_fits : (x : Emission) (port f : ℕ) (g : Fate) (a : Handling) → refusal_by port f x.bytes g ≡ Some a → Fits x a
 refusal_by_fits x port f Vanish a e = subst (Fits x) (some_is _ a e) tt
 refusal_by_fits x port f (Refused status) a e = subst (Fits x) (some_is _ a e) tt
 refusal_by_fits x port f ToHost a e = absurd cc
 
-refusal_fits : (share : Share) (x : Emission) (p : Parties) (a : Ending) → refusal_of share x.bytes p ≡ Some a → Fits x a
+refusal_fits : (share : Share) (x : Emission) (p : Parties) (a : Handling) → refusal_of share x.bytes p ≡ Some a → Fits x a
 refusal_fits share x (Upward f) a e = refusal_by_fits x (port_id (first_port share.ports f)) f (fate share.ports f x.bytes) a e
 refusal_fits share x (Downward g) a e = absurd cc
 refusal_fits share x (Answer by y) a e = absurd cc
 
-forward_fits : (x : Emission) (g : ℕ) (t : Packet) (bar : Option ℕ) (a : Ending) → forward g t bar ≡ Some a → Fits x a
+forward_fits : (x : Emission) (g : ℕ) (t : Packet) (bar : Option ℕ) (a : Handling) → forward g t bar ≡ Some a → Fits x a
 forward_fits x g t None a e = absurd cc
 forward_fits x g t (Some bar) a e = subst (Fits x) (some_is _ a e) tt
 
-write_fits : (share : Share) (x : Emission) (target : Option MapTarget) (a : Ending) → malformed x.bytes ≡ None → is_write (packet_of x.bytes).kind ≡ true → write_to share (packet_of x.bytes) target ≡ Some a → Fits x a
+write_fits : (share : Share) (x : Emission) (target : Option MapTarget) (a : Handling) → malformed x.bytes ≡ None → is_write (packet_of x.bytes).kind ≡ true → write_to share (packet_of x.bytes) target ≡ Some a → Fits x a
 write_fits share x None a good w e = subst (Fits x) (some_is _ a e) tt
 write_fits share x (Some (Frame k)) a good w e = subst (Fits x) (some_is _ a e) (good, write_in_page x.bytes good w)
 write_fits share x (Some (Peer g)) a good w e = forward_fits x g (packet_of x.bytes) (bar_of share.functions g) a e
 
-read_fits : (share : Share) (frames : List (ℕ × List ℕ)) (x : Emission) (t : Packet) (target : Option MapTarget) (a : Ending) → read_from share frames t target ≡ Some a → Fits x a
+read_fits : (share : Share) (frames : List (ℕ × List ℕ)) (x : Emission) (t : Packet) (target : Option MapTarget) (a : Handling) → read_from share frames t target ≡ Some a → Fits x a
 read_fits share frames x t None a e = subst (Fits x) (some_is _ a e) tt
 read_fits share frames x t (Some (Frame k)) a e = subst (Fits x) (some_is _ a e) tt
 read_fits share frames x t (Some (Peer g)) a e = forward_fits x g t (bar_of share.functions g) a e
 
 -- whichever of two it is
-either_fits : (c : Bool) (o q : Option Ending) (x : Emission) (a : Ending) → (c ≡ true → o ≡ Some a → Fits x a) → (q ≡ Some a → Fits x a) → cond c o q ≡ Some a → Fits x a
+either_fits : (c : Bool) (o q : Option Handling) (x : Emission) (a : Handling) → (c ≡ true → o ≡ Some a → Fits x a) → (q ≡ Some a → Fits x a) → cond c o q ≡ Some a → Fits x a
 either_fits true o q x a of_o of_q e = of_o refl e
 either_fits false o q x a of_o of_q e = of_q e
 
-none_fits : (x : Emission) (a : Ending) (o : Option Ending) → o ≡ None → o ≡ Some a → Fits x a
+none_fits : (x : Emission) (a : Handling) (o : Option Handling) → o ≡ None → o ≡ Some a → Fits x a
 none_fits x a o none e = absurd cc
 
-serve_read_fits : (share : Share) (frames : List (ℕ × List ℕ)) (x : Emission) (t : Packet) (a : Ending) → serve_read share frames t ≡ Some a → Fits x a
+serve_read_fits : (share : Share) (frames : List (ℕ × List ℕ)) (x : Emission) (t : Packet) (a : Handling) → serve_read share frames t ≡ Some a → Fits x a
 serve_read_fits share frames x t a e =
     let target = target_of share.maps t.requester (address_of t / 4096) Read in
-    either_fits (nat_lt 64 (dw_count t.length)) (Some (record { deed = Leave; reply = Some (host_refusal share t) })) (read_from share frames t target) x a
+    either_fits (nat_lt 64 (dw_count t.length)) (Some (record { effect = Leave; reply = Some (host_refusal share t) })) (read_from share frames t target) x a
     (λ long is. subst (Fits x) (some_is _ a is) tt) (read_fits share frames x t target a) e
 
-pub serve_fits : (share : Share) (frames : List (ℕ × List ℕ)) (x : Emission) (a : Ending) → malformed x.bytes ≡ None → serve share frames (packet_of x.bytes) ≡ Some a → DeedFits x a.deed
+pub serve_fits : (share : Share) (frames : List (ℕ × List ℕ)) (x : Emission) (a : Handling) → malformed x.bytes ≡ None → serve share frames (packet_of x.bytes) ≡ Some a → EffectFits x a.effect
 serve_fits share frames x a good e =
     let t = packet_of x.bytes in
     let target = target_of share.maps t.requester (address_of t / 4096) Write in
     either_fits (is_write t.kind) (write_to share t target) (serve_read share frames t) x a (write_fits share x target a good) (serve_read_fits share frames x t a) e
 
-carriage_by_fits : (share : Share) (frames : List (ℕ × List ℕ)) (x : Emission) (g : Fate) (a : Ending) → (g ≡ ToHost → malformed x.bytes ≡ None) → carriage_by share frames x.bytes g ≡ Some a → Fits x a
+carriage_by_fits : (share : Share) (frames : List (ℕ × List ℕ)) (x : Emission) (g : Fate) (a : Handling) → (g ≡ ToHost → malformed x.bytes ≡ None) → carriage_by share frames x.bytes g ≡ Some a → Fits x a
 carriage_by_fits share frames x Vanish a good e = absurd cc
 carriage_by_fits share frames x (Refused status) a good e = absurd cc
 carriage_by_fits share frames x ToHost a good e =
     let t = packet_of x.bytes in
     either_fits (is_carried share t) (serve share frames t) None x a (λ carried. serve_fits share frames x a (good refl)) (none_fits x a None refl) e
 
-access_fits : (share : Share) (x : Emission) (g : ℕ) (t : Packet) (page : Option (List ℕ)) (a : Ending) → x.parties ≡ Downward g
-    → option_map (λ (bytes : List ℕ). record { deed = Access g; reply = function_answer share g bytes t }) page ≡ Some a → Fits x a
+access_fits : (share : Share) (x : Emission) (g : ℕ) (t : Packet) (page : Option (List ℕ)) (a : Handling) → x.parties ≡ Downward g
+    → option_map (λ (bytes : List ℕ). record { effect = Access g; reply = function_answer share g bytes t }) page ≡ Some a → Fits x a
 access_fits share x g t None a to e = absurd cc
 access_fits share x g t (Some bytes) a to e = subst (Fits x) (some_is _ a e) to
 
-carriage_fits : (share : Share) (frames registers : List (ℕ × List ℕ)) (x : Emission) (p : Parties) (a : Ending) → x.parties ≡ p → carriage_of share frames registers x.bytes p ≡ Some a → Fits x a
+carriage_fits : (share : Share) (frames registers : List (ℕ × List ℕ)) (x : Emission) (p : Parties) (a : Handling) → x.parties ≡ p → carriage_of share frames registers x.bytes p ≡ Some a → Fits x a
 carriage_fits share frames registers x (Upward f) a of e = carriage_by_fits share frames x (fate share.ports f x.bytes) a (well_below (first_port share.ports f) x.bytes) e
 carriage_fits share frames registers x (Downward g) a of e = access_fits share x g (packet_of x.bytes) (page_of registers g) a of e
 carriage_fits share frames registers x (Answer by y) a of e = absurd cc
 
 -- ---- a packet in flight
 
-record Ends (s : Alone) (n : ℕ) (o : Option Emission) (a : Ending) (made : Option Change) : Type 0 where
+record Ends (s : Alone) (n : ℕ) (o : Option Emission) (a : Handling) (made : Option Change) : Type 0 where
   emission : Emission
   waits : o ≡ Some emission
-  fits : DeedFits emission a.deed
+  fits : EffectFits emission a.effect
   made_is : made ≡ Some (conclude s n emission.bytes a)
 
-ended_with : (s : Alone) (n : ℕ) (e : Emission) (a : Ending) (r : Option Ending) → r ≡ Some a → ended s n (Some e) r ≡ Some (conclude s n e.bytes a)
+ended_with : (s : Alone) (n : ℕ) (e : Emission) (a : Handling) (r : Option Handling) → r ≡ Some a → ended s n (Some e) r ≡ Some (conclude s n e.bytes a)
 ended_with s n e a r is = ap (ended s n (Some e)) is
 
-refuses : (share : Share) (s : Alone) (n : ℕ) (o : Option Emission) (a : Ending) → refusal_end share o ≡ Some a → Ends s n o a (refuse share s n o)
+refuses : (share : Share) (s : Alone) (n : ℕ) (o : Option Emission) (a : Handling) → refusal_end share o ≡ Some a → Ends s n o a (refuse share s n o)
 refuses share s n None a is = absurd cc
 refuses share s n (Some e) a is = record {
   emission = e;
@@ -137,7 +137,7 @@ refuses share s n (Some e) a is = record {
   made_is = ended_with s n e a (refusal_end share (Some e)) is;
 }
 
-carries : (share : Share) (s : Alone) (n : ℕ) (o : Option Emission) (a : Ending) → carriage_end share s.frames s.registers o ≡ Some a → Ends s n o a (carry share s n o)
+carries : (share : Share) (s : Alone) (n : ℕ) (o : Option Emission) (a : Handling) → carriage_end share s.frames s.registers o ≡ Some a → Ends s n o a (carry share s n o)
 carries share s n None a is = absurd cc
 carries share s n (Some e) a is = record {
   emission = e;
@@ -146,24 +146,24 @@ carries share s n (Some e) a is = record {
   made_is = ended_with s n e a (carriage_end share s.frames s.registers (Some e)) is;
 }
 
-pub refused_ends : (v : DomainView) (n : ℕ) (r : Option Ending) (a : Ending) → r ≡ Some a → r ≡ refusal_end v.share (item_at v.state.flight n) → EndsBy v (Refuse n) n a
+pub refused_ends : (v : DomainView) (n : ℕ) (r : Option Handling) (a : Handling) → r ≡ Some a → r ≡ refusal_end v.share (item_at v.state.flight n) → EndsBy v (Refuse n) n a
 refused_ends v n r a some is =
     let h = refuses v.share v.state n (item_at v.state.flight n) a (sym is ∙ some) in record { emission = h.emission; waits = h.waits; fits = h.fits; step = h.made_is; own = λ _. refl }
 
-pub carried_ends : (v : DomainView) (n : ℕ) (r : Option Ending) (a : Ending) → r ≡ Some a → r ≡ carriage_end v.share v.state.frames v.state.registers (item_at v.state.flight n) → EndsBy v (Carry n) n a
+pub carried_ends : (v : DomainView) (n : ℕ) (r : Option Handling) (a : Handling) → r ≡ Some a → r ≡ carriage_end v.share v.state.frames v.state.registers (item_at v.state.flight n) → EndsBy v (Carry n) n a
 carried_ends v n r a some is =
     let h = carries v.share v.state n (item_at v.state.flight n) a (sym is ∙ some) in record { emission = h.emission; waits = h.waits; fits = h.fits; step = h.made_is; own = λ _. refl }
 
 -- ---- where it doesn't end so, the entry is illegal
 
-none_ended : (s : Alone) (n : ℕ) (o : Option Emission) (r : Option Ending) → r ≡ None → ended s n o r ≡ None
+none_ended : (s : Alone) (n : ℕ) (o : Option Emission) (r : Option Handling) → r ≡ None → ended s n o r ≡ None
 none_ended s n None r is = refl
 none_ended s n (Some e) r is = ap (ended s n (Some e)) is
 
-pub not_refused_here : (v : DomainView) (n : ℕ) (r : Option Ending) → r ≡ None → r ≡ refusal_end v.share (item_at v.state.flight n) → change v.share v.state (Refuse n) ≡ None
+pub not_refused_here : (v : DomainView) (n : ℕ) (r : Option Handling) → r ≡ None → r ≡ refusal_end v.share (item_at v.state.flight n) → change v.share v.state (Refuse n) ≡ None
 not_refused_here v n r none is = none_ended v.state n (item_at v.state.flight n) (refusal_end v.share (item_at v.state.flight n)) (sym is ∙ none)
 
-pub not_carried : (v : DomainView) (n : ℕ) (r : Option Ending) → r ≡ None → r ≡ carriage_end v.share v.state.frames v.state.registers (item_at v.state.flight n) → change v.share v.state (Carry n) ≡ None
+pub not_carried : (v : DomainView) (n : ℕ) (r : Option Handling) → r ≡ None → r ≡ carriage_end v.share v.state.frames v.state.registers (item_at v.state.flight n) → change v.share v.state (Carry n) ≡ None
 not_carried v n r none is = none_ended v.state n (item_at v.state.flight n) (carriage_end v.share v.state.frames v.state.registers (item_at v.state.flight n)) (sym is ∙ none)
 
 -- ---- a completion that is delivered
@@ -187,7 +187,7 @@ delivered_so share s t n r a some is left =
 
 -- ---- a request that is in flight to a function
 
-pub carried_to_function : (v w : DomainView) (n g : ℕ) (p : Parties) (bytes : List ℕ) (registers : List (ℕ × List ℕ)) (r : Option Ending) → v ≡ w → item_at v.state.flight n ≡ Some (record { parties = p; bytes = bytes }) → p ≡ Downward g
+pub carried_to_function : (v w : DomainView) (n g : ℕ) (p : Parties) (bytes : List ℕ) (registers : List (ℕ × List ℕ)) (r : Option Handling) → v ≡ w → item_at v.state.flight n ≡ Some (record { parties = p; bytes = bytes }) → p ≡ Downward g
     → registers ≡ v.state.registers → r ≡ access_of v.share registers g (packet_of bytes) → r ≡ carriage_end w.share w.state.frames w.state.registers (item_at w.state.flight n)
 carried_to_function v w n g p bytes registers r same item to pages is =
     subst (λ (u : DomainView). r ≡ carriage_end u.share u.state.frames u.state.registers (item_at u.state.flight n)) same

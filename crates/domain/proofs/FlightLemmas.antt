@@ -6,10 +6,10 @@ use Rattle.std.proofs.lemmas.List.Elements.{All-append}
 use Rattle.frame_log.specs.declared.entry.TlpEntry.{TlpEntry}
 use Rattle.frame_log.specs.declared.log.Log.{Log}
 use Rattle.frame_log.specs.Words.{Shown, entry_of}
-use Rattle.disposition.specs.WellMade.{IsWellMade}
+use Rattle.request_handling.specs.WellMade.{IsWellMade}
 use Rattle.std.proofs.lemmas.List.{map-set}
 use Rattle.domain.specs.declared.flight.InFlight.{InFlight}
-use Rattle.disposition.specs.Emissions.{Emission}
+use Rattle.request_handling.specs.Emissions.{Emission}
 use Rattle.domain.specs.State.{item_at}
 use Rattle.domain.specs.Flights.{IsSlot, emission, emissions}
 

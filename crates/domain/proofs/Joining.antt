@@ -5,10 +5,10 @@ use Rattle.fab_types.specs.declared.faults.begin.SubmitFault.{SubmitFault}
 use Rattle.fab_types.specs.declared.faults.begin.TickFault.{TickFault}
 use Rattle.function.specs.Plans.{plan_of}
 use Rattle.host_memory.specs.Pages.{page_of}
-use Rattle.layout.specs.Share.{Share}
-use Rattle.domain.specs.declared.access.HostAccess.{HostAccess}
+use Rattle.platform.specs.Share.{Share}
+use Rattle.fab_types.specs.declared.host_access.HostAccess.{HostAccess}
 use Rattle.domain.specs.declared.entry.Entry.TheVariants.{Submit, Tick, Mmio}
-use Rattle.disposition.specs.Answers.{bar_of}
+use Rattle.request_handling.specs.Answers.{bar_of}
 use Rattle.domain.specs.HostAccesses.{mmio_fault, mmio_unless, mmio_with, tag_for}
 use Rattle.domain.specs.Machine.{change}
 use Rattle.domain.specs.State.{Alone, Change}

@@ -4,16 +4,16 @@ use Rattle.std.specs.Prelude.{option_map}
 use Rattle.fab_types.specs.declared.faults.begin.SubmitFault.{SubmitFault}
 use Rattle.fab_types.specs.declared.head.Parties.TheVariants.{Upward}
 use Rattle.frame_log.specs.Descriptor.{Descriptor}
-use Rattle.layout.specs.Share.{Share}
+use Rattle.platform.specs.Share.{Share}
 use Rattle.domain.specs.declared.entry.Entry.{Entry}
 use Rattle.domain.specs.declared.entry.Entry.TheVariants.{Submit}
-use Rattle.disposition.specs.declared.ending.Deed.{Deed}
-use Rattle.disposition.specs.declared.ending.Ending.{Ending}
+use Rattle.request_handling.specs.declared.handling.Effect.{Effect}
+use Rattle.request_handling.specs.declared.handling.Handling.{Handling}
 use Rattle.domain.specs.Domains.{DomainView, EndsBy, Makes}
-use Rattle.domain.specs.Ends.{DeedFits, conclude}
-use Rattle.disposition.specs.Heads.{descriptor_of}
+use Rattle.domain.specs.Ends.{EffectFits, conclude}
+use Rattle.request_handling.specs.Heads.{descriptor_of}
 use Rattle.domain.specs.Machine.{aliens_in, change, step_from, replay_from, replay, with_alien}
-use Rattle.disposition.specs.Emissions.{Emission}
+use Rattle.request_handling.specs.Emissions.{Emission}
 use Rattle.domain.specs.State.{Alone, Change, item_at, start_state, with_emission}
 use Rattle.domain.specs.Submits.{submit_fault, submitted, submit_unless}
 use Rattle.domain.proofs.Accounting.{accounted, aliens_more, submit_budget, room_to_begin, room_to_end}
@@ -82,7 +82,7 @@ pub room_stays : (entries budget : ℕ) (js js' : List Entry) (x : Entry) → js
 room_stays entries budget js js' x grown own is = is ∙ ap (λ (k : ℕ). 4 * budget + 3 * k) (sym (aliens_more js js' x grown ∙ own))
 
 -- a domain seen by its fields
-pub ends_seen : (v w : DomainView) (e : Entry) (n : ℕ) (a : Ending) → v ≡ w → EndsBy w e n a → EndsBy v e n a
+pub ends_seen : (v w : DomainView) (e : Entry) (n : ℕ) (a : Handling) → v ≡ w → EndsBy w e n a → EndsBy v e n a
 ends_seen v w e n a same h = subst (λ (u : DomainView). EndsBy u e n a) (sym same) h
 
 abbrev some : {A : Type 0} → A → Option A
@@ -92,11 +92,11 @@ some_is : {A : Type 0} (x y : A) → some x ≡ some y → x ≡ y
 some_is x y e = cc
 
 -- one packet stands under a number
-pub fits_each : (o : Option Emission) (e x : Emission) (d : Deed) → o ≡ Some x → DeedFits x d → o ≡ Some e → DeedFits e d
-fits_each o e x d is fits other = subst (λ (y : Emission). DeedFits y d) (some_is x e (sym is ∙ other)) fits
+pub fits_each : (o : Option Emission) (e x : Emission) (d : Effect) → o ≡ Some x → EffectFits x d → o ≡ Some e → EffectFits e d
+fits_each o e x d is fits other = subst (λ (y : Emission). EffectFits y d) (some_is x e (sym is ∙ other)) fits
 
 -- the change that an end makes, by the state that it leaves
-pub ended_so : (v : DomainView) (e : Entry) (n : ℕ) (a : Ending) (t : Alone) (h : EndsBy v e n a) → ((x : Emission) → item_at v.state.flight n ≡ Some x → t ≡ (conclude v.state n x.bytes a).state)
+pub ended_so : (v : DomainView) (e : Entry) (n : ℕ) (a : Handling) (t : Alone) (h : EndsBy v e n a) → ((x : Emission) → item_at v.state.flight n ≡ Some x → t ≡ (conclude v.state n x.bytes a).state)
     → change v.share v.state e ≡ Some (record { state = t; emission = a.reply })
 ended_so v e n a t h is = h.step ∙ ap (λ (u : Alone). Some (record { state = u; emission = a.reply })) (sym (is h.emission h.waits))
 

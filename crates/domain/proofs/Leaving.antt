@@ -4,20 +4,20 @@ use Rattle.std.specs.Prelude.{option_map}
 use Rattle.fab_types.specs.declared.head.Parties.{Parties}
 use Rattle.fab_types.specs.declared.head.Parties.TheVariants.{Upward}
 use Rattle.fab_types.specs.declared.place.Place.{Place}
-use Rattle.layout.specs.Share.{Share}
+use Rattle.platform.specs.Share.{Share}
 use Rattle.domain.specs.declared.deliver.Arrival.{Arrival}
-use Rattle.disposition.specs.declared.ending.Deed.{Deed}
-use Rattle.disposition.specs.declared.ending.Deed.TheVariants.{Leave, Block, Store, Access}
-use Rattle.disposition.specs.declared.ending.Ending.{Ending}
+use Rattle.request_handling.specs.declared.handling.Effect.{Effect}
+use Rattle.request_handling.specs.declared.handling.Effect.TheVariants.{Leave, Block, Store, Access}
+use Rattle.request_handling.specs.declared.handling.Handling.{Handling}
 use Rattle.domain.specs.declared.entry.Entry.TheVariants.{Refuse, Carry, Deliver, Alien}
 use Rattle.domain.specs.declared.reception.Reception.{Reception}
 use Rattle.domain.specs.declared.reception.Reception.TheVariants.{Ends, Arrives}
 use Rattle.domain.specs.Aliens.{received, received_if, reception_of}
-use Rattle.disposition.specs.Carries.{carriage_end, refusal_end}
+use Rattle.request_handling.specs.Carries.{carriage_end, refusal_end}
 use Rattle.domain.specs.Deliveries.{arrival, arrived, recorded, unexpected}
 use Rattle.domain.specs.Ends.{done, replied}
 use Rattle.domain.specs.Machine.{change, ended}
-use Rattle.disposition.specs.Emissions.{Emission}
+use Rattle.request_handling.specs.Emissions.{Emission}
 use Rattle.domain.specs.State.{Alone, Change, Delivery, emits_nothing, item_at, without}
 
 abbrev some : {A : Type 0} → A → Option A
@@ -31,7 +31,7 @@ abbrev pub joined : List (Option Emission) → Option Emission → List (Option 
 joined flight None = flight
 joined flight (Some e) = flight ++ Some e ∷ []
 
-done_flight : (s : Alone) (b : List ℕ) (d : Deed) → (done s b d).flight ≡ s.flight
+done_flight : (s : Alone) (b : List ℕ) (d : Effect) → (done s b d).flight ≡ s.flight
 done_flight s b Leave = refl
 done_flight s b Block = refl
 done_flight s b (Store k first) = refl
@@ -41,12 +41,12 @@ pub replied_flight : (s : Alone) (o : Option Emission) → (replied s o).flight 
 replied_flight s None = refl
 replied_flight s (Some e) = refl
 
-ended_flight : (s : Alone) (n : ℕ) (o : Option Emission) (r : Option Ending) (c : Change) → ended s n o r ≡ Some c → c.state.flight ≡ joined (slice_set s.flight n None) c.emission
+ended_flight : (s : Alone) (n : ℕ) (o : Option Emission) (r : Option Handling) (c : Change) → ended s n o r ≡ Some c → c.state.flight ≡ joined (slice_set s.flight n None) c.emission
 ended_flight s n None r c h = absurd cc
 ended_flight s n (Some e) None c h = absurd cc
 ended_flight s n (Some e) (Some a) c h =
     subst (λ (x : Change). x.state.flight ≡ joined (slice_set s.flight n None) x.emission) (some_is _ c h)
-    (replied_flight (done (without s n) e.bytes a.deed) a.reply ∙ ap (λ (fl : List (Option Emission)). joined fl a.reply) (done_flight (without s n) e.bytes a.deed))
+    (replied_flight (done (without s n) e.bytes a.effect) a.reply ∙ ap (λ (fl : List (Option Emission)). joined fl a.reply) (done_flight (without s n) e.bytes a.effect))
 
 pub refuse_flight : (share : Share) (s : Alone) (n : ℕ) (c : Change) → change share s (Refuse n) ≡ Some c → c.state.flight ≡ joined (slice_set s.flight n None) c.emission
 refuse_flight share s n c h = ended_flight s n (item_at s.flight n) (refusal_end share (item_at s.flight n)) c h
@@ -77,7 +77,7 @@ upward_stays share s n c f b h = λ is.
 -- ---- an alien packet, whose number stays in flight at its home
 
 received_flight : (s : Alone) (b : List ℕ) (r : Reception) → (received s b r).state.flight ≡ joined s.flight (received s b r).emission
-received_flight s b (Ends a) = replied_flight (done s b a.deed) a.reply ∙ ap (λ (fl : List (Option Emission)). joined fl a.reply) (done_flight s b a.deed)
+received_flight s b (Ends a) = replied_flight (done s b a.effect) a.reply ∙ ap (λ (fl : List (Option Emission)). joined fl a.reply) (done_flight s b a.effect)
 received_flight s b (Arrives a) = arrived_flight s a.delivery a.is_awaited
 
 taken_flight : (s : Alone) (b : List ℕ) (r : Option Reception) (c : Change) → received_if s b r ≡ Some c → c.state.flight ≡ joined s.flight c.emission

@@ -4,7 +4,6 @@ pub mod StoreLemmas
 pub mod ConcludeLemmas
 pub mod Accounting
 pub mod PageIds
-pub mod Begins
 pub mod Keeping
 pub mod Ticking
 pub mod HostBegins
@@ -15,7 +14,6 @@ pub mod Leaving
 pub mod PortAnswers
 pub mod Joining
 pub mod Consuming
-pub mod InTurn
+pub mod ConsumedInOrder
 pub mod OneOutbox
 pub mod Sending
-pub mod Smallest

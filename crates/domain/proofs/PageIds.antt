@@ -7,8 +7,8 @@ use Rattle.std.proofs.lemmas.Bool.{eqb-true}
 use Rattle.fab_types.specs.declared.faults.begin.MmioFault.{MmioFault}
 use Rattle.fab_types.specs.declared.faults.begin.SubmitFault.{SubmitFault}
 use Rattle.fab_types.specs.declared.faults.begin.TickFault.{TickFault}
-use Rattle.fab_types.specs.declared.place.Origin.{Origin}
-use Rattle.fab_types.specs.declared.place.Origin.TheVariants.{Function, Host}
+use Rattle.fab_types.specs.declared.origin.Origin.{Origin}
+use Rattle.fab_types.specs.declared.origin.Origin.TheVariants.{Function, Host}
 use Rattle.fab_types.specs.declared.status.Status.{Status}
 use Rattle.function.specs.declared.plan.Plan.{Plan}
 use Rattle.function.specs.declared.tags.OpenTag.{OpenTag}
@@ -18,28 +18,28 @@ use Rattle.function.specs.Closings.{closed_by}
 use Rattle.function.specs.Plans.{page_after, plan_of}
 use Rattle.function.specs.Registers.{first_page}
 use Rattle.host_memory.specs.Pages.{page_of}
-use Rattle.layout.specs.declared.lines.FunctionLine.{FunctionLine}
-use Rattle.layout.specs.Owners.{is_function, is_own_function}
-use Rattle.layout.specs.Share.{Share}
+use Rattle.platform.specs.declared.parts.EndpointFunction.{EndpointFunction}
+use Rattle.platform.specs.Owners.{is_function, is_own_function}
+use Rattle.platform.specs.Share.{Share}
 use Rattle.tlp_view.specs.Bytes.{packet_of}
-use Rattle.domain.specs.declared.access.HostAccess.{HostAccess}
+use Rattle.fab_types.specs.declared.host_access.HostAccess.{HostAccess}
 use Rattle.domain.specs.declared.deliver.Arrival.{Arrival}
-use Rattle.disposition.specs.declared.ending.Deed.{Deed}
-use Rattle.disposition.specs.declared.ending.Deed.TheVariants.{Leave, Block, Store, Access}
-use Rattle.disposition.specs.declared.ending.Ending.{Ending}
+use Rattle.request_handling.specs.declared.handling.Effect.{Effect}
+use Rattle.request_handling.specs.declared.handling.Effect.TheVariants.{Leave, Block, Store, Access}
+use Rattle.request_handling.specs.declared.handling.Handling.{Handling}
 use Rattle.domain.specs.declared.entry.Entry.{Entry}
 use Rattle.domain.specs.declared.entry.Entry.TheVariants.{Submit, Tick, Mmio, Refuse, Carry, Deliver, Alien}
 use Rattle.domain.specs.declared.reception.Reception.{Reception}
 use Rattle.domain.specs.declared.reception.Reception.TheVariants.{Ends, Arrives}
 use Rattle.domain.specs.Aliens.{received_if, reception_of}
-use Rattle.disposition.specs.Answers.{bar_of}
-use Rattle.disposition.specs.Carries.{carriage_end, refusal_end}
+use Rattle.request_handling.specs.Answers.{bar_of}
+use Rattle.request_handling.specs.Carries.{carriage_end, refusal_end}
 use Rattle.domain.specs.Deliveries.{arrival, arrived, completed, recorded, unexpected}
 use Rattle.domain.specs.Ends.{done, replied}
 use Rattle.domain.specs.HostAccesses.{mmio_fault, mmio_unless, mmio_with, tag_for}
 use Rattle.domain.specs.Machine.{change, ended, replay, replay_from}
 use Rattle.domain.specs.RegisterPages.{changed, changed_at}
-use Rattle.disposition.specs.Emissions.{Emission}
+use Rattle.request_handling.specs.Emissions.{Emission}
 use Rattle.domain.specs.State.{Alone, Change, Delivery, emits_nothing, first_registers, item_at, start_state, without}
 use Rattle.domain.specs.Submits.{submit_fault, submit_unless}
 use Rattle.domain.specs.Ticks.{sent_by, tick_fault, tick_unless, ticked, ticks}
@@ -99,16 +99,16 @@ mmio_same : (share : Share) (s : Alone) (x : HostAccess) (o : Option MmioFault) 
 mmio_same share s x None c h = mmio_with_same share s x (tag_for s.open_tags share.domain x.operation) (bar_of share.functions x.function) c h
 mmio_same share s x (Some fault) c h = absurd cc
 
-done_same : (s : Alone) (b : List ℕ) (d : Deed) → ids (done s b d).registers ≡ ids s.registers
+done_same : (s : Alone) (b : List ℕ) (d : Effect) → ids (done s b d).registers ≡ ids s.registers
 done_same s b Leave = refl
 done_same s b Block = refl
 done_same s b (Store k first) = refl
 done_same s b (Access g) = ids-changed s.registers g (λ page. accessed page (packet_of b))
 
-ended_same : (s : Alone) (n : ℕ) (o : Option Emission) (r : Option Ending) (c : Change) → ended s n o r ≡ Some c → Same s c
+ended_same : (s : Alone) (n : ℕ) (o : Option Emission) (r : Option Handling) (c : Change) → ended s n o r ≡ Some c → Same s c
 ended_same s n None r c h = absurd cc
 ended_same s n (Some e) None c h = absurd cc
-ended_same s n (Some e) (Some a) c h = subst (Same s) (some_is _ c h) (ap ids (replied_same (done (without s n) e.bytes a.deed) a.reply) ∙ done_same (without s n) e.bytes a.deed)
+ended_same s n (Some e) (Some a) c h = subst (Same s) (some_is _ c h) (ap ids (replied_same (done (without s n) e.bytes a.effect) a.reply) ∙ done_same (without s n) e.bytes a.effect)
 
 completed_same : (pages : List (ℕ × List ℕ)) (u : TagUse) (x : Origin) (status : Status) (b : List ℕ) → ids (completed pages u x status b) ≡ ids pages
 completed_same pages u (Function f) status b = ids-changed pages f (λ page. closed_by page u status b)
@@ -124,7 +124,7 @@ delivers_same s n (Some a) c h = subst (Same s) (some_is _ c h) (arrived_same (w
 
 received_same : (s : Alone) (b : List ℕ) (o : Option Reception) (c : Change) → received_if s b o ≡ Some c → Same s c
 received_same s b None c h = absurd cc
-received_same s b (Some (Ends a)) c h = subst (Same s) (some_is _ c h) (ap ids (replied_same (done s b a.deed) a.reply) ∙ done_same s b a.deed)
+received_same s b (Some (Ends a)) c h = subst (Same s) (some_is _ c h) (ap ids (replied_same (done s b a.effect) a.reply) ∙ done_same s b a.effect)
 received_same s b (Some (Arrives a)) c h = subst (Same s) (some_is _ c h) (arrived_same s a.delivery a.is_awaited)
 
 change_same : (share : Share) (s : Alone) (entry : Entry) (c : Change) → change share s entry ≡ Some c → Same s c
@@ -150,17 +150,17 @@ has_page : (pages : List (ℕ × List ℕ)) (f : ℕ) → list_any (λ k. k == f
 has_page [] f h = absurd cc
 has_page (page ∷ pages) f h = found_page page pages f (page.0 == f) refl (λ e. has_page pages f (ap (λ (b : Bool). b || list_any (λ k. k == f) (ids pages)) (sym e) ∙ h))
 
-abbrev pages_for : List FunctionLine → List (ℕ × List ℕ)
+abbrev pages_for : List EndpointFunction → List (ℕ × List ℕ)
 pages_for lines = map (λ line. (line.id, first_page line.id)) lines
 
-one_listed : (own : ℕ → Bool) (line : FunctionLine) (lines : List FunctionLine) (f : ℕ) (rest : List FunctionLine) (b c : Bool) → (line.id == f) ≡ b → own line.id ≡ c → own f ≡ true
+one_listed : (own : ℕ → Bool) (line : EndpointFunction) (lines : List EndpointFunction) (f : ℕ) (rest : List EndpointFunction) (b c : Bool) → (line.id == f) ≡ b → own line.id ≡ c → own f ≡ true
     → ((line.id == f) || is_function lines f) ≡ true → (is_function lines f ≡ true → list_any (λ k. k == f) (ids (pages_for rest)) ≡ true) → list_any (λ k. k == f) (ids (pages_for (cond c (line ∷ rest) rest))) ≡ true
 one_listed own line lines f rest true true e k o h more = ap (λ (b : Bool). b || list_any (λ k. k == f) (ids (pages_for rest))) e
 one_listed own line lines f rest true false e k o h more = absurd (let same : line.id ≡ f = eqb-true line.id f e in let kept : own line.id ≡ true = ap own same ∙ o in cc)
 one_listed own line lines f rest false true e k o h more = ap (λ (b : Bool). b || list_any (λ k. k == f) (ids (pages_for rest))) e ∙ more (ap (λ (b : Bool). b || is_function lines f) (sym e) ∙ h)
 one_listed own line lines f rest false false e k o h more = more (ap (λ (b : Bool). b || is_function lines f) (sym e) ∙ h)
 
-own_listed : (own : ℕ → Bool) (lines : List FunctionLine) (f : ℕ) → own f ≡ true → is_function lines f ≡ true → list_any (λ k. k == f) (ids (pages_for (filter (λ line. own line.id) lines))) ≡ true
+own_listed : (own : ℕ → Bool) (lines : List EndpointFunction) (f : ℕ) → own f ≡ true → is_function lines f ≡ true → list_any (λ k. k == f) (ids (pages_for (filter (λ line. own line.id) lines))) ≡ true
 own_listed own [] f o h = absurd cc
 own_listed own (line ∷ lines) f o h = one_listed own line lines f (filter (λ line. own line.id) lines) (line.id == f) (own line.id) refl refl o h (own_listed own lines f o)
 
@@ -177,12 +177,12 @@ own_page share journal s f was own =
 
 -- ---- and a BAR
 
-found_bar : (line : FunctionLine) (lines : List FunctionLine) (f : ℕ) (b : Bool) → (line.id == f) ≡ b → ((line.id == f) ≡ false → IsSome (bar_of lines f))
-    → IsSome (option_map (λ (l : FunctionLine). l.bar) (cond b (Some line) (find (λ l. l.id == f) lines)))
+found_bar : (line : EndpointFunction) (lines : List EndpointFunction) (f : ℕ) (b : Bool) → (line.id == f) ≡ b → ((line.id == f) ≡ false → IsSome (bar_of lines f))
+    → IsSome (option_map (λ (l : EndpointFunction). l.bar) (cond b (Some line) (find (λ l. l.id == f) lines)))
 found_bar line lines f true e more = refl
 found_bar line lines f false e more = more e
 
-has_bar : (lines : List FunctionLine) (f : ℕ) → is_function lines f ≡ true → IsSome (bar_of lines f)
+has_bar : (lines : List EndpointFunction) (f : ℕ) → is_function lines f ≡ true → IsSome (bar_of lines f)
 has_bar [] f h = absurd cc
 has_bar (line ∷ lines) f h = found_bar line lines f (line.id == f) refl (λ e. has_bar lines f (ap (λ (b : Bool). b || is_function lines f) (sym e) ∙ h))
 
@@ -194,10 +194,10 @@ absurd_page None f tags some none = cc
 absurd_page (Some page) f tags some none = cc
 
 -- so a function that the domain owns is never without one
-pub own_bar_none : (share : Share) (f : ℕ) (owns : Bool) (lines : List FunctionLine) {r : Option ℕ} → owns ≡ is_own_function share f → owns ≡ true → lines ≡ share.functions → r ≡ bar_of lines f → r ≡ None → ⊥
+pub own_bar_none : (share : Share) (f : ℕ) (owns : Bool) (lines : List EndpointFunction) {r : Option ℕ} → owns ≡ is_own_function share f → owns ≡ true → lines ≡ share.functions → r ≡ bar_of lines f → r ≡ None → ⊥
 own_bar_none share f owns lines is own same found none =
     let bar = own_bar share f (sym is ∙ own) in
-    let nothing : is_some (bar_of share.functions f) ≡ false = ap is_some (ap (λ (ls : List FunctionLine). bar_of ls f) (sym same) ∙ sym found ∙ none) in
+    let nothing : is_some (bar_of share.functions f) ≡ false = ap is_some (ap (λ (ls : List EndpointFunction). bar_of ls f) (sym same) ∙ sym found ∙ none) in
     cc
 
 -- nor without a page

@@ -7,8 +7,8 @@ use Rattle.fab_types.specs.declared.head.Parties.{Parties}
 use Rattle.fab_types.specs.declared.head.Parties.TheVariants.{Upward, Downward, Answer}
 use Rattle.fab_types.specs.declared.place.Place.{Place}
 use Rattle.fab_types.specs.declared.status.Status.{Status}
-use Rattle.layout.specs.declared.lines.PortLine.{PortLine}
-use Rattle.layout.specs.Share.{Share}
+use Rattle.platform.specs.declared.parts.DownstreamPort.{DownstreamPort}
+use Rattle.platform.specs.Share.{Share}
 use Rattle.tlp_view.specs.declared.completion.CompletionHead.{CompletionHead}
 use Rattle.tlp_view.specs.Bytes.{packet_of}
 use Rattle.tlp_view.specs.Completions.{completion_bytes, refusal}
@@ -17,19 +17,19 @@ use Rattle.tlp_view.specs.Kinds.{kind_at}
 use Rattle.tlp_view.specs.Malformed.{malformed}
 use Rattle.tlp_view.specs.Packet.{Packet}
 use Rattle.tlp_view.proofs.Completed.{completion_well_formed}
-use Rattle.disposition.specs.declared.fate.Fate.{Fate}
-use Rattle.disposition.specs.declared.fate.Fate.TheVariants.{Vanish, Refused, ToHost}
+use Rattle.request_handling.specs.declared.fate.Fate.{Fate}
+use Rattle.request_handling.specs.declared.fate.Fate.TheVariants.{Vanish, Refused, ToHost}
 use Rattle.domain.specs.declared.reception.Reception.{Reception}
 use Rattle.domain.specs.declared.reception.Reception.TheVariants.{Ends, Arrives}
-use Rattle.disposition.specs.declared.taker.Taker.{Taker}
-use Rattle.disposition.specs.declared.taker.Taker.TheVariants.{Host, Function, Port, Upstream}
-use Rattle.disposition.specs.Requests.{at_port, or_discarded}
+use Rattle.request_handling.specs.declared.taker.Taker.{Taker}
+use Rattle.request_handling.specs.declared.taker.Taker.TheVariants.{Host, Function, Port, Upstream}
+use Rattle.request_handling.specs.Requests.{at_port, or_discarded}
 use Rattle.domain.specs.Aliens.{alien, is_excluded, received, received_if, reception_by, reception_unless}
-use Rattle.disposition.specs.Carries.{refusal_by}
-use Rattle.disposition.specs.Fates.{fate_at}
-use Rattle.disposition.specs.Emissions.{Emission}
+use Rattle.request_handling.specs.Carries.{refusal_by}
+use Rattle.request_handling.specs.Fates.{fate_at}
+use Rattle.request_handling.specs.Emissions.{Emission}
 use Rattle.domain.specs.State.{Alone, Change}
-use Rattle.disposition.specs.Takers.{is_at_port, is_port, taker_of}
+use Rattle.request_handling.specs.Takers.{is_at_port, is_port, taker_of}
 
 some_is : {A : Type 0} (x y : A) → Some x ≡ Some y → x ≡ y
 some_is x y e = cc
@@ -57,13 +57,13 @@ refused_reply port function bytes Vanish = tt
 refused_reply port function bytes (Refused status) = answer_class port status (packet_of bytes)
 refused_reply port function bytes ToHost = tt
 
-port_reply : (port : PortLine) (bytes : List ℕ) (sender : Parties) → IsReply (at_port port bytes sender).reply
+port_reply : (port : DownstreamPort) (bytes : List ℕ) (sender : Parties) → IsReply (at_port port bytes sender).reply
 port_reply port bytes (Upward function) = refused_reply port.id function bytes (fate_at port bytes)
 port_reply port bytes (Downward function) = tt
 port_reply port bytes (Answer answerer addressee) = tt
 
 abbrev Replies : Reception → Type 0
-Replies (Ends ending) = IsReply ending.reply
+Replies (Ends handling) = IsReply handling.reply
 Replies (Arrives arrival) = Unit {0}
 
 by_taker : (cause : Option Malformed) (share : Share) (s : Alone) (bytes : List ℕ) (sender : Parties) (taker : Taker) → is_port (Some taker) ≡ true → Replies (reception_unless cause share s bytes sender taker)
@@ -74,7 +74,7 @@ by_taker None share s bytes sender (Port port) is = port_reply port bytes sender
 by_taker None share s bytes sender Upstream is = tt
 
 of_reception : (s : Alone) (bytes : List ℕ) (r : Reception) → Replies r → IsReply (received s bytes r).emission
-of_reception s bytes (Ends ending) replies = replies
+of_reception s bytes (Ends handling) replies = replies
 of_reception s bytes (Arrives arrival) replies = tt
 
 if_taken : (share : Share) (s : Alone) (bytes : List ℕ) (sender : Parties) (o : Option Taker) (c : Change) → is_port o ≡ true → received_if s bytes (reception_by share s bytes sender o) ≡ Some c → IsReply c.emission

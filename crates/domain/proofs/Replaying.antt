@@ -1,7 +1,7 @@
 -- A journal with an illegal entry leaves no state.
 use Rattle.std.proofs.Common.{◌≡◌, ℕ, zero, suc, ◌<◌, List, [], ◌∷◌, length, take, arith, Option, Some, None, sym, ap, ◌∙◌}
 use Rattle.std.specs.Prelude.{option_map, slice_get, slice_index_or}
-use Rattle.layout.specs.Share.{Share}
+use Rattle.platform.specs.Share.{Share}
 use Rattle.domain.specs.declared.entry.Entry.{Entry}
 use Rattle.domain.specs.Machine.{change, step_from, replay_from, replay}
 use Rattle.domain.specs.State.{Alone, Change, start_state}

@@ -2,15 +2,15 @@
 use Rattle.std.proofs.Common.{◌≡◌, ℕ, zero, suc, List, [], ◌∷◌, ◌++◌, length, Option, Some, None, refl, sym, ap, ◌∙◌, subst, arith, append_assoc, slice_get, slice_set}
 use Rattle.std.specs.Prelude.{option_map}
 use Rattle.std.proofs.lemmas.List.{append-nil}
-use Rattle.fab_types.specs.declared.place.Origin.{Origin}
-use Rattle.layout.specs.Share.{Share}
+use Rattle.fab_types.specs.declared.origin.Origin.{Origin}
+use Rattle.platform.specs.Share.{Share}
 use Rattle.domain.specs.declared.deliver.Arrival.{Arrival}
 use Rattle.domain.specs.declared.entry.Entry.{Entry}
 use Rattle.domain.specs.declared.entry.Entry.TheVariants.{Submit, Tick, Mmio, Refuse, Carry, Deliver, Alien}
 use Rattle.domain.specs.Deliveries.{arrival, arrived}
 use Rattle.domain.specs.Machine.{change, replay, replay_from, step_from}
 use Rattle.domain.specs.Sent.{AreSent, Sent, sent, sent_at, sent_by_entry, sent_from, sent_of, source}
-use Rattle.disposition.specs.Emissions.{Emission}
+use Rattle.request_handling.specs.Emissions.{Emission}
 use Rattle.domain.specs.State.{Alone, Change, emits_nothing, item_at, start_state, without}
 use Rattle.domain.proofs.Accounting.{goes_on}
 use Rattle.domain.proofs.Joining.{mmio_flight, submit_flight, tick_flight}

@@ -2,7 +2,7 @@
 use Rattle.std.proofs.Common.{◌≡◌, ℕ, ◌+◌, ◌≤◌, length, Some, sym, subst}
 use Rattle.tlp_view.specs.Packet.{Packet}
 use Rattle.tlp_view.specs.Bytes.{packet_of}
-use Rattle.disposition.specs.Emissions.{Emission}
+use Rattle.request_handling.specs.Emissions.{Emission}
 use Rattle.domain.specs.State.{Alone, item_at}
 
 -- what holds of the payload of a packet in flight holds of its view

@@ -7,12 +7,12 @@ use Rattle.frame_log.specs.Descriptor.{Descriptor}
 use Rattle.function.specs.declared.plan.Plan.{Plan}
 use Rattle.function.specs.Plans.{plan_of}
 use Rattle.host_memory.specs.Pages.{page_of}
-use Rattle.layout.specs.Owners.{is_own_function}
-use Rattle.layout.specs.Share.{Share}
+use Rattle.platform.specs.Owners.{is_own_function}
+use Rattle.platform.specs.Share.{Share}
 use Rattle.domain.specs.declared.entry.Entry.{Entry}
 use Rattle.domain.specs.declared.entry.Entry.TheVariants.{Tick}
 use Rattle.domain.specs.Domains.{DomainView, Emits, Makes}
-use Rattle.disposition.specs.Heads.{descriptor_of}
+use Rattle.request_handling.specs.Heads.{descriptor_of}
 use Rattle.domain.specs.Machine.{aliens_in, change, replay}
 use Rattle.domain.specs.State.{Alone}
 use Rattle.domain.specs.Ticks.{sent_by, tick_fault, tick_unless, ticks, ticks_by}

@@ -9,10 +9,10 @@ use Rattle.fab_types.specs.declared.head.Answerer.{Answerer}
 use Rattle.fab_types.specs.declared.head.Answerer.TheVariants as by
 use Rattle.fab_types.specs.declared.head.Parties.{Parties}
 use Rattle.fab_types.specs.declared.head.Parties.TheVariants.{Upward, Downward, Answer}
-use Rattle.fab_types.specs.declared.place.Origin.TheVariants as origin
+use Rattle.fab_types.specs.declared.origin.Origin.TheVariants as origin
 use Rattle.fab_types.specs.declared.place.Place.{Place}
 use Rattle.function.specs.declared.tags.OpenTag.{OpenTag}
-use Rattle.layout.specs.Share.{Share, is_guarded}
+use Rattle.platform.specs.Share.{Share, is_guarded}
 use Rattle.tlp_view.specs.Bytes.{packet_of}
 use Rattle.tlp_view.specs.Kinds.{is_completion}
 use Rattle.tlp_view.specs.Malformed.{malformed}
@@ -20,15 +20,15 @@ use Rattle.tlp_view.specs.Packet.{Packet}
 use Rattle.tlp_view.specs.View.{address_type_in}
 use Rattle.domain.specs.declared.reception.Reception.{Reception}
 use Rattle.domain.specs.declared.reception.Reception.TheVariants.{Ends, Arrives}
-use Rattle.disposition.specs.declared.taker.Taker.{Taker}
-use Rattle.disposition.specs.declared.taker.Taker.TheVariants.{Host, Function, Port, Upstream}
-use Rattle.disposition.specs.Carries.{discarded}
-use Rattle.disposition.specs.Requests.{at_port, request_at_function, request_at_host}
+use Rattle.request_handling.specs.declared.taker.Taker.{Taker}
+use Rattle.request_handling.specs.declared.taker.Taker.TheVariants.{Host, Function, Port, Upstream}
+use Rattle.request_handling.specs.Carries.{discarded}
+use Rattle.request_handling.specs.Requests.{at_port, request_at_function, request_at_host}
 use Rattle.domain.specs.Deliveries.{arrival_at, arrived}
 use Rattle.domain.specs.Ends.{does}
-use Rattle.disposition.specs.Heads.{target_for}
+use Rattle.request_handling.specs.Heads.{target_for}
 use Rattle.domain.specs.State.{Alone, Change, emits_nothing}
-use Rattle.disposition.specs.Takers.{taker_of}
+use Rattle.request_handling.specs.Takers.{taker_of}
 
 -- ---- completions
 
@@ -81,7 +81,7 @@ reception_of share s place sender bytes =
 
 -- The packet's number stays in flight at its home: nothing leaves flight here
 abbrev pub received : Alone → List ℕ → Reception → Change
-received s bytes (Ends ending) = does s bytes ending
+received s bytes (Ends handling) = does s bytes handling
 received s bytes (Arrives arrival) = emits_nothing (arrived s arrival)
 
 abbrev pub received_if : Alone → List ℕ → Option Reception → Option Change

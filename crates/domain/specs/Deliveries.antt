@@ -5,8 +5,8 @@ use Rattle.fab_types.specs.declared.head.Answerer.{Answerer}
 use Rattle.fab_types.specs.declared.head.Answerer.TheVariants as by
 use Rattle.fab_types.specs.declared.head.Parties.{Parties}
 use Rattle.fab_types.specs.declared.head.Parties.TheVariants.{Upward, Downward, Answer}
-use Rattle.fab_types.specs.declared.place.Origin.{Origin}
-use Rattle.fab_types.specs.declared.place.Origin.TheVariants.{Function, Host}
+use Rattle.fab_types.specs.declared.origin.Origin.{Origin}
+use Rattle.fab_types.specs.declared.origin.Origin.TheVariants.{Function, Host}
 use Rattle.fab_types.specs.declared.status.Status.{Status}
 use Rattle.fab_types.specs.declared.status.Status.TheVariants.{SC}
 use Rattle.tlp_view.specs.Bytes.{packet_of}
@@ -16,9 +16,9 @@ use Rattle.function.specs.declared.tags.OpenTag.{OpenTag}
 use Rattle.function.specs.declared.tags.TagUse.{TagUse}
 use Rattle.function.specs.declared.tags.TagUse.TheVariants.{Raw}
 use Rattle.function.specs.Closings.{closed_by}
-use Rattle.disposition.specs.Heads.{origin_id}
+use Rattle.fab_types.specs.Origins.{origin_id}
 use Rattle.domain.specs.RegisterPages.{changed}
-use Rattle.disposition.specs.Emissions.{Emission}
+use Rattle.request_handling.specs.Emissions.{Emission}
 use Rattle.domain.specs.State.{Alone, Delivery}
 use Rattle.domain.specs.Tags.{is_open, same_origin}
 

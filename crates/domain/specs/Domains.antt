@@ -3,18 +3,18 @@ use Rattle.std.specs.Prelude.{◌≡◌, ℕ, Bool, false, is_some, List, [], �
 use Rattle.frame_log.specs.Descriptor.{Descriptor}
 use Rattle.frame_log.specs.declared.fault.FrameFault.{FrameFault}
 use Rattle.frame_log.specs.declared.fault.FrameFault.TheVariants.{Stray, NoMemory}
-use Rattle.layout.specs.Share.{Share}
+use Rattle.platform.specs.Share.{Share}
 use Rattle.domain.specs.declared.consume.EndFault.{EndFault}
 use Rattle.domain.specs.declared.consume.EndFault.TheVariants.{Illegal}
 use Rattle.domain.specs.declared.consume.EndFault.TheVariants as end
 use Rattle.domain.specs.declared.entry.Entry.{Entry}
 use Rattle.domain.specs.declared.deliver.Arrival.{Arrival}
-use Rattle.disposition.specs.declared.ending.Ending.{Ending}
+use Rattle.request_handling.specs.declared.handling.Handling.{Handling}
 use Rattle.domain.specs.Deliveries.{arrival, record_of_arrival}
-use Rattle.domain.specs.Ends.{DeedFits, conclude}
-use Rattle.disposition.specs.Emissions.{Emission}
+use Rattle.domain.specs.Ends.{EffectFits, conclude}
+use Rattle.request_handling.specs.Emissions.{Emission}
 use Rattle.domain.specs.State.{Alone, Change, Delivery, item_at}
-use Rattle.disposition.specs.Heads.{descriptor_of}
+use Rattle.request_handling.specs.Heads.{descriptor_of}
 use Rattle.domain.specs.Machine.{change, with_alien}
 
 -- what the layout gives the domain, its state, and its journal
@@ -60,11 +60,11 @@ IsStray old entry frame (Stray given) = (given ≡ frame) × (frame.domain ≡ o
 IsStray old entry frame (NoMemory given) = ⊥
 
 -- a packet in flight ends so, which is what the machine says of the entry
-pub record EndsBy (old : DomainView) (entry : Entry) (n : ℕ) (ending : Ending) : Type 0 where
+pub record EndsBy (old : DomainView) (entry : Entry) (n : ℕ) (handling : Handling) : Type 0 where
   pub emission : Emission
   pub waits : item_at old.state.flight n ≡ Some emission
-  pub fits : DeedFits emission ending.deed
-  pub step : change old.share old.state entry ≡ Some (conclude old.state n emission.bytes ending)
+  pub fits : EffectFits emission handling.effect
+  pub step : change old.share old.state entry ≡ Some (conclude old.state n emission.bytes handling)
   pub own : (aliens : ℕ) → with_alien entry aliens ≡ aliens
 
 -- the record is the one that the delivery of this number makes

@@ -7,11 +7,11 @@ use Rattle.tlp_view.specs.Bytes.{packet_of}
 use Rattle.tlp_view.specs.Malformed.{malformed}
 use Rattle.tlp_view.specs.Packet.{Packet}
 use Rattle.tlp_view.specs.Runs.{runs}
-use Rattle.disposition.specs.declared.ending.Deed.{Deed}
-use Rattle.disposition.specs.declared.ending.Deed.TheVariants.{Leave, Block, Store, Access}
-use Rattle.disposition.specs.declared.ending.Ending.{Ending}
+use Rattle.request_handling.specs.declared.handling.Effect.{Effect}
+use Rattle.request_handling.specs.declared.handling.Effect.TheVariants.{Leave, Block, Store, Access}
+use Rattle.request_handling.specs.declared.handling.Handling.{Handling}
 use Rattle.domain.specs.RegisterPages.{changed}
-use Rattle.disposition.specs.Emissions.{Emission}
+use Rattle.request_handling.specs.Emissions.{Emission}
 use Rattle.domain.specs.State.{Alone, Change, without, with_emission, with_registers}
 
 -- one more request without a mapping
@@ -46,7 +46,7 @@ abbrev pub with_access : Alone → ℕ → Packet → Alone
 with_access s function t = with_registers s (changed s.registers function (λ page. accessed page t))
 
 -- what an end does with the state, bytes being those of the packet that ends
-abbrev pub done : Alone → List ℕ → Deed → Alone
+abbrev pub done : Alone → List ℕ → Effect → Alone
 done s bytes Leave = s
 done s bytes Block = blocked s
 done s bytes (Store k first) = with_stored s k first (runs (packet_of bytes))
@@ -57,23 +57,23 @@ abbrev pub replied : Alone → Option Emission → Alone
 replied s None = s
 replied s (Some e) = with_emission s e
 
--- the deed is done, and the reply goes into flight
-abbrev pub does : Alone → List ℕ → Ending → Change
-does s bytes ending = record { state = replied (done s bytes ending.deed) ending.reply; emission = ending.reply }
+-- the effect is done, and the reply goes into flight
+abbrev pub does : Alone → List ℕ → Handling → Change
+does s bytes handling = record { state = replied (done s bytes handling.effect) handling.reply; emission = handling.reply }
 
 -- the same of a packet that leaves flight
-abbrev pub conclude : Alone → ℕ → List ℕ → Ending → Change
-conclude s n bytes ending = does (without s n) bytes ending
+abbrev pub conclude : Alone → ℕ → List ℕ → Handling → Change
+conclude s n bytes handling = does (without s n) bytes handling
 
 -- what is written to a frame lies within it, and what accesses a page is a request to its function
-abbrev pub DeedFits : Emission → Deed → Type 0
-DeedFits e Leave = Unit {0}
-DeedFits e Block = Unit {0}
-DeedFits e (Store k first) = (malformed e.bytes ≡ None) × (first + length (packet_of e.bytes).payload ≤ 4096)
-DeedFits e (Access function) = e.parties ≡ Downward function
+abbrev pub EffectFits : Emission → Effect → Type 0
+EffectFits e Leave = Unit {0}
+EffectFits e Block = Unit {0}
+EffectFits e (Store k first) = (malformed e.bytes ≡ None) × (first + length (packet_of e.bytes).payload ≤ 4096)
+EffectFits e (Access function) = e.parties ≡ Downward function
 
 -- the same of bytes that aren't in flight here: what accesses a page is a request for one
-abbrev pub BytesFit : List ℕ → Deed → Type 0
+abbrev pub BytesFit : List ℕ → Effect → Type 0
 BytesFit bytes Leave = Unit {0}
 BytesFit bytes Block = Unit {0}
 BytesFit bytes (Store k first) = (malformed bytes ≡ None) × (first + length (packet_of bytes).payload ≤ 4096)

@@ -7,8 +7,8 @@ use Rattle.frame_log.specs.declared.log.Log.{Log}
 use Rattle.frame_log.specs.Words.{Shown, entry_of}
 use Rattle.domain.specs.declared.flight.InFlight.{InFlight}
 use Rattle.domain.specs.declared.flight.Flight.TheInside.{Inside}
-use Rattle.disposition.specs.Emissions.{Emission}
-use Rattle.disposition.specs.WellMade.{IsWellMade}
+use Rattle.request_handling.specs.Emissions.{Emission}
+use Rattle.request_handling.specs.WellMade.{IsWellMade}
 
 abbrev pub emission : InFlight → Emission
 emission slot = record { parties = slot.parties; bytes = (entry_of slot.token).bytes }

@@ -7,19 +7,19 @@ use Rattle.fab_types.specs.declared.faults.begin.MmioFault.{MmioFault}
 use Rattle.fab_types.specs.declared.faults.begin.MmioFault.TheVariants.{NotYours, Range, NoTag, BudgetSpent}
 use Rattle.fab_types.specs.declared.head.AddressType.TheVariants.{Untranslated}
 use Rattle.fab_types.specs.declared.head.Parties.TheVariants.{Downward}
-use Rattle.fab_types.specs.declared.place.Origin.TheVariants.{Host}
+use Rattle.fab_types.specs.declared.origin.Origin.TheVariants.{Host}
 use Rattle.function.specs.declared.tags.OpenTag.{OpenTag}
 use Rattle.function.specs.declared.tags.TagUse.TheVariants.{Raw}
-use Rattle.layout.specs.Owners.{is_own_function}
-use Rattle.layout.specs.Share.{Share}
+use Rattle.platform.specs.Owners.{is_own_function}
+use Rattle.platform.specs.Share.{Share}
 use Rattle.tlp_view.specs.declared.request.RequestHead.{RequestHead}
 use Rattle.tlp_view.specs.Packet.{Packet}
 use Rattle.tlp_view.specs.Requests.{all_enabled, packet_bytes, read_request, write_request}
-use Rattle.domain.specs.declared.access.HostAccess.{HostAccess}
-use Rattle.domain.specs.declared.access.Operation.{Operation}
-use Rattle.domain.specs.declared.access.Operation.TheVariants.{Read, Write}
-use Rattle.disposition.specs.Answers.{bar_of, page_at}
-use Rattle.disposition.specs.Emissions.{Emission}
+use Rattle.fab_types.specs.declared.host_access.HostAccess.{HostAccess}
+use Rattle.fab_types.specs.declared.host_access.Operation.{Operation}
+use Rattle.fab_types.specs.declared.host_access.Operation.TheVariants.{Read, Write}
+use Rattle.request_handling.specs.Answers.{bar_of, page_at}
+use Rattle.request_handling.specs.Emissions.{Emission}
 use Rattle.domain.specs.State.{Alone, Change, begun, emits}
 use Rattle.domain.specs.Tags.{is_open}
 

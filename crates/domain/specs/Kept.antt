@@ -1,13 +1,13 @@
 -- What every domain keeps: its state is what its journal leaves, and its journal has room for the end of
 -- each packet that its budget and its alien packets lead to.
 use Rattle.std.specs.Prelude.{◌≡◌, ◌+◌, ◌*◌, ◌≤◌, Some, vec_capacity}
-use Rattle.layout.specs.Share.{IsShare}
+use Rattle.platform.specs.Share.{IsShare}
 use Rattle.domain.specs.declared.domain.Domain.TheInside.{Inside}
 use Rattle.domain.specs.Domains.{DomainView}
 use Rattle.domain.specs.Machine.{aliens_in, replay}
 
-abbrev pub view_of : Inside → DomainView
-view_of d = record { share = d.start; state = d.state; journal = d.journal.items }
+abbrev pub domain_view : Inside → DomainView
+domain_view d = record { share = d.start; state = d.state; journal = d.journal.items }
 
 pub record Kept (d : Inside) : Type 0 where
   pub share : IsShare d.start

@@ -1,23 +1,23 @@
 -- The machine of a domain by itself: what each entry of a journal does, and where it is illegal.
 use Rattle.std.specs.Prelude.{ℕ, ◌+◌, List, [], ◌∷◌, Option, Some, None, option_map}
-use Rattle.layout.specs.Share.{Share}
+use Rattle.platform.specs.Share.{Share}
 use Rattle.domain.specs.declared.entry.Entry.{Entry}
 use Rattle.domain.specs.declared.entry.Entry.TheVariants.{Submit, Tick, Mmio, Refuse, Carry, Deliver, Alien}
-use Rattle.disposition.specs.declared.ending.Ending.{Ending}
-use Rattle.disposition.specs.Emissions.{Emission}
+use Rattle.request_handling.specs.declared.handling.Handling.{Handling}
+use Rattle.request_handling.specs.Emissions.{Emission}
 use Rattle.domain.specs.State.{Alone, Change, emits_nothing, item_at, start_state, without}
 use Rattle.domain.specs.Submits.{submit}
 use Rattle.domain.specs.Aliens.{alien}
-use Rattle.disposition.specs.Carries.{carriage_end, refusal_end}
+use Rattle.request_handling.specs.Carries.{carriage_end, refusal_end}
 use Rattle.domain.specs.Deliveries.{arrival, arrived}
 use Rattle.domain.specs.Ends.{conclude}
 use Rattle.domain.specs.HostAccesses.{mmio}
 use Rattle.domain.specs.Ticks.{tick}
 
 -- a packet in flight that ends so
-abbrev pub ended : Alone → ℕ → Option Emission → Option Ending → Option Change
-ended s n None ending = None
-ended s n (Some e) ending = option_map (conclude s n e.bytes) ending
+abbrev pub ended : Alone → ℕ → Option Emission → Option Handling → Option Change
+ended s n None handling = None
+ended s n (Some e) handling = option_map (conclude s n e.bytes) handling
 
 -- its sender's first port stops it
 abbrev pub refuse : Share → Alone → ℕ → Option Emission → Option Change

@@ -6,14 +6,14 @@ use Rattle.fab_types.specs.declared.head.Header.{Header}
 use Rattle.fab_types.specs.declared.head.Header.TheVariants.{Malformed, Memory, OtherRequest, Completion}
 use Rattle.fab_types.specs.declared.head.Parties.{Parties}
 use Rattle.fab_types.specs.declared.head.Parties.TheVariants.{Upward, Downward, Answer}
-use Rattle.fab_types.specs.declared.place.Origin.{Origin}
-use Rattle.fab_types.specs.declared.place.Origin.TheVariants.{Function, Host}
-use Rattle.layout.specs.declared.lines.PortLine.{PortLine}
-use Rattle.disposition.specs.declared.fate.Fate.TheVariants.{ToHost}
-use Rattle.disposition.specs.Fates.{fate}
-use Rattle.disposition.specs.Heads.{head_of}
+use Rattle.fab_types.specs.declared.origin.Origin.{Origin}
+use Rattle.fab_types.specs.declared.origin.Origin.TheVariants.{Function, Host}
+use Rattle.platform.specs.declared.parts.DownstreamPort.{DownstreamPort}
+use Rattle.request_handling.specs.declared.fate.Fate.TheVariants.{ToHost}
+use Rattle.request_handling.specs.Fates.{fate}
+use Rattle.request_handling.specs.Heads.{head_of}
 use Rattle.domain.specs.Sent.{Sent}
-use Rattle.disposition.specs.Emissions.{Emission}
+use Rattle.request_handling.specs.Emissions.{Emission}
 
 -- ---- of one packet
 
@@ -34,13 +34,13 @@ IsUnrelaxed (Memory requester address_type address) = ⊤
 IsUnrelaxed (OtherRequest requester) = ⊤
 IsUnrelaxed (Completion target relaxed_ordering) = relaxed_ordering ≡ false
 
-abbrev pub IsPassed : List PortLine → List ℕ → Parties → Type 0
+abbrev pub IsPassed : List DownstreamPort → List ℕ → Parties → Type 0
 IsPassed ports bytes (Upward function) = fate ports function bytes ≡ ToHost
 IsPassed ports bytes (Downward function) = ⊥
 IsPassed ports bytes (Answer answerer addressee) = ⊥
 
 -- a request that its sender's first port lets pass, to the host
-abbrev pub GoesToHost : List PortLine → Emission → Type 0
+abbrev pub GoesToHost : List DownstreamPort → Emission → Type 0
 GoesToHost ports e = IsPassed ports e.bytes e.parties
 
 abbrev pub IsOf : ℕ → Origin → Type 0
@@ -57,7 +57,7 @@ IsTo function (Answer answerer (Some addressee)) = IsOf function addressee
 -- ---- of two, by whom they were sent
 
 -- from one function, and the later one isn't stopped at a port that the earlier one passes
-pub record FromFunction (ports : List PortLine) (first second : Sent) : Type 0 where
+pub record FromFunction (ports : List DownstreamPort) (first second : Sent) : Type 0 where
   pub function : ℕ
   pub first_source : first.source ≡ Some (Function function)
   pub second_source : second.source ≡ Some (Function function)
@@ -75,6 +75,6 @@ pub record FromHost (domain : ℕ) (first second : Sent) : Type 0 where
   pub second_to : IsTo function second.emission.parties
 
 -- two packets of this domain that do, the first of them made before the second
-pub data KeepOrder (ports : List PortLine) (domain : ℕ) (first second : Sent) : Type 0 where
+pub data KeepOrder (ports : List DownstreamPort) (domain : ℕ) (first second : Sent) : Type 0 where
   UpFromFunction : FromFunction ports first second → KeepOrder ports domain first second
   DownFromHost : FromHost domain first second → KeepOrder ports domain first second

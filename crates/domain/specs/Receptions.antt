@@ -8,5 +8,5 @@ use Rattle.domain.specs.Tags.{is_open}
 
 -- what is done with its bytes fits them, and a completion that is awaited has its Tag open
 abbrev pub IsReceivable : List OpenTag → List ℕ → Reception → Type 0
-IsReceivable tags bytes (Ends ending) = BytesFit bytes ending.deed
+IsReceivable tags bytes (Ends handling) = BytesFit bytes handling.effect
 IsReceivable tags bytes (Arrives arrival) = arrival.is_awaited ≡ true → is_open tags arrival.delivery.owner arrival.delivery.tag ≡ true

@@ -1,15 +1,15 @@
 -- The state of a domain by itself.
 use Rattle.std.specs.Prelude.{ℕ, ◌+◌, List, [], ◌∷◌, ◌++◌, map, filter, slice_set, slice_index_or, Option, Some, None}
-use Rattle.fab_types.specs.declared.place.Origin.{Origin}
+use Rattle.fab_types.specs.declared.origin.Origin.{Origin}
 use Rattle.fab_types.specs.declared.status.Status.{Status}
-use Rattle.layout.specs.Share.{Share}
-use Rattle.layout.specs.Owners.{is_own_function}
+use Rattle.platform.specs.Share.{Share}
+use Rattle.platform.specs.Owners.{is_own_function}
 use Rattle.function.specs.Registers.{first_page}
 use Rattle.host_memory.specs.Pages.{zeroed}
 use Rattle.domain.specs.declared.counts.Counts.{Counts}
 use Rattle.function.specs.declared.tags.OpenTag.{OpenTag}
 use Rattle.domain.specs.Tags.{and_opened}
-use Rattle.disposition.specs.Emissions.{Emission}
+use Rattle.request_handling.specs.Emissions.{Emission}
 
 -- a completion that was delivered
 pub record Delivery : Type 0 where

@@ -3,9 +3,9 @@ use Rattle.std.specs.Prelude.{ℕ, ◌+◌, ◌&&◌, not, nat_lt, nat_le, List,
 use Rattle.fab_types.specs.declared.faults.begin.SubmitFault.{SubmitFault}
 use Rattle.fab_types.specs.declared.faults.begin.SubmitFault.TheVariants.{TooLong, Completion, TagBusy, BudgetSpent, NoFunction}
 use Rattle.fab_types.specs.declared.head.Parties.TheVariants.{Upward}
-use Rattle.fab_types.specs.declared.place.Origin.TheVariants.{Function}
-use Rattle.layout.specs.Share.{Share}
-use Rattle.layout.specs.Owners.{is_own_function}
+use Rattle.fab_types.specs.declared.origin.Origin.TheVariants.{Function}
+use Rattle.platform.specs.Share.{Share}
+use Rattle.platform.specs.Owners.{is_own_function}
 use Rattle.tlp_view.specs.Bytes.{packet_of}
 use Rattle.domain.specs.State.{Alone, Change, emits}
 use Rattle.domain.specs.Tags.{opens_tag, completes, is_open, opened}

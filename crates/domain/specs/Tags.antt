@@ -3,13 +3,14 @@ use Rattle.std.specs.Prelude.{ℕ, Bool, true, false, List, [], ◌∷◌, ◌++
 use Rattle.fab_types.specs.declared.class.Class.{Class}
 use Rattle.fab_types.specs.declared.class.Class.TheVariants.{Posted, NonPosted, Completion}
 use Rattle.fab_types.specs.declared.faults.malformed.Malformed.{Malformed}
-use Rattle.fab_types.specs.declared.place.Origin.TheVariants.{Function}
+use Rattle.fab_types.specs.declared.origin.Origin.TheVariants.{Function}
 use Rattle.tlp_view.specs.Kinds.{class_of_kind, is_completion}
 use Rattle.tlp_view.specs.Bytes.{packet_of}
 use Rattle.tlp_view.specs.Malformed.{malformed}
 use Rattle.function.specs.declared.tags.OpenTag.{OpenTag}
 use Rattle.function.specs.declared.tags.TagUse.TheVariants.{Raw}
-pub use Rattle.function.specs.Tags.{is_open, same_origin}
+pub use Rattle.fab_types.specs.Origins.{same_origin}
+pub use Rattle.function.specs.Tags.{is_open}
 
 abbrev pub is_non_posted : Class → Bool
 is_non_posted Posted = false

@@ -8,12 +8,12 @@ use Rattle.function.specs.declared.plan.Plan.TheVariants.{Nothing, Halt, Fault, 
 use Rattle.function.specs.declared.tags.OpenTag.{OpenTag}
 use Rattle.function.specs.Plans.{page_after, plan_of}
 use Rattle.host_memory.specs.Pages.{page_of}
-use Rattle.layout.specs.Owners.{is_own_function}
-use Rattle.layout.specs.Share.{Share}
+use Rattle.platform.specs.Owners.{is_own_function}
+use Rattle.platform.specs.Share.{Share}
 use Rattle.tlp_view.specs.Requests.{packet_bytes}
 use Rattle.domain.specs.Ends.{replied}
 use Rattle.domain.specs.RegisterPages.{changed}
-use Rattle.disposition.specs.Emissions.{Emission}
+use Rattle.request_handling.specs.Emissions.{Emission}
 use Rattle.domain.specs.State.{Alone, Change, begun, with_registers}
 
 -- the first refusal that applies, if one does

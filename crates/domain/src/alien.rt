@@ -3,18 +3,18 @@
 ghost use Rattle.std.specs.Prelude.{◌≡◌, ◌+◌, ◌≤◌, false, true, vec_capacity, vec_len, IfErr, IfOk, None, OnErr, is_some, length};
 ghost use Rattle.fab_types.specs.declared.head.Parties.{Parties};
 ghost use Rattle.frame_log.specs.declared.fault.FrameFault.{FrameFault};
-ghost use Rattle.layout.specs.Share.{is_guarded};
+ghost use Rattle.platform.specs.Share.{is_guarded};
 ghost use Rattle.domain.specs.declared.consume.EndFault.TheVariants as end;
 ghost use Rattle.domain.specs.Domains.{is_emitting};
 ghost use Rattle.domain.specs.Machine.{change};
-ghost use Rattle.disposition.specs.Takers.{takes};
+ghost use Rattle.request_handling.specs.Takers.{takes};
 
 use crate::consume::EndFault;
 use crate::domain::Domain;
 use crate::entry::Entry;
 use crate::reception::Reception;
-use fab_types::{NoMemory, Parties, Place};
-use frame_log::{Frame, FrameFault, PacketBytes};
+use fab_types::{NoMemory, PacketBytes, Parties, Place};
+use frame_log::{Frame, FrameFault};
 use std::sync::Wait;
 
 /// How many entries an alien packet may lead to: its own, and those of two packets, one after another.
@@ -121,7 +121,7 @@ impl Domain {
         ensures { result ≡ is_emitting (change self.now.share self.now.state (Alien place sender bytes.now)) }
     {
         match self.reception(place, sender, bytes) {
-            Some(Reception::Ends(ending)) => ending.reply.is_some(),
+            Some(Reception::Ends(handling)) => handling.reply.is_some(),
             Some(Reception::Arrives(_)) | None => false,
         }
     }

@@ -6,9 +6,9 @@ ghost use Rattle.tlp_view.specs.Bytes.{packet_of};
 ghost use Rattle.tlp_view.specs.Malformed.{malformed};
 ghost use Rattle.tlp_view.specs.Runs.{runs};
 ghost use Rattle.domain.specs.Deliveries.{arrived, closed, completed, use_of};
-ghost use Rattle.domain.specs.Ends.{DeedFits, blocked, conclude, done, replied, stored, with_access, with_stored};
-ghost use Rattle.disposition.specs.Heads.{descriptor_of};
-ghost use Rattle.disposition.specs.Emissions.{Emission};
+ghost use Rattle.domain.specs.Ends.{EffectFits, blocked, conclude, done, replied, stored, with_access, with_stored};
+ghost use Rattle.request_handling.specs.Heads.{descriptor_of};
+ghost use Rattle.request_handling.specs.Emissions.{Emission};
 ghost use Rattle.domain.specs.State.{item_at, without};
 ghost use Rattle.domain.specs.Tags.{is_open};
 
@@ -16,11 +16,11 @@ use crate::deliver::{Arrival, Record};
 use crate::registers::{access, complete};
 use crate::state::State;
 use crate::tags::{close, use_of};
-use disposition::{Deed, Ending, Reply};
 use fab_types::{Bdf, DomainId, NoMemory, Parties};
 use frame_log::Frame;
 use function::{Function, OpenTag};
 use host_memory::HostMemory;
+use request_handling::{Effect, Handling, Reply};
 use std::sync::Wait;
 use tlp_view::TlpView;
 
@@ -130,16 +130,16 @@ impl State {
     }
 
     /// Does what the end of the packet of this number does.
-    fn perform(&mut self, number: u64, deed: Deed)
+    fn perform(&mut self, number: u64, effect: Effect)
         requires blocks { self.old.counts.blocked + 1 < 2 ^ 64 }
-        requires fits { (e : Emission) → item_at self.old.flight number ≡ Some e → DeedFits e deed }
-        ensures { (e : Emission) → item_at self.old.flight number ≡ Some e → self.new ≡ done self.old e.bytes deed }
+        requires fits { (e : Emission) → item_at self.old.flight number ≡ Some e → EffectFits e effect }
+        ensures { (e : Emission) → item_at self.old.flight number ≡ Some e → self.new ≡ done self.old e.bytes effect }
     {
-        match deed {
-            Deed::Leave => {}
-            Deed::Block => self.block(),
-            Deed::Store(frame, first) => self.store(number, frame, first),
-            Deed::Access(function) => self.access(number, function),
+        match effect {
+            Effect::Leave => {}
+            Effect::Block => self.block(),
+            Effect::Store(frame, first) => self.store(number, frame, first),
+            Effect::Access(function) => self.access(number, function),
         }
     }
 
@@ -150,18 +150,18 @@ impl State {
         rt: &R,
         domain: DomainId,
         number: u64,
-        ending: Ending,
+        handling: Handling,
     ) -> Result<Option<Frame>, NoMemory>
         requires waits { IsSome (item_at self.old.flight number) }
         requires blocks { self.old.counts.blocked + 1 < 2 ^ 64 }
-        requires fits { (e : Emission) → item_at self.old.flight number ≡ Some e → DeedFits e ending.deed }
-        ensures state { IfOk result (λ _. (e : Emission) → item_at self.old.flight number ≡ Some e → self.new ≡ (conclude self.old number e.bytes ending).state) }
-        ensures sent { IfOk result (λ sent. sent ≡ option_map (descriptor_of domain (length self.old.flight)) ending.reply) }
-        ensures err { OnErr result ((self.new ≡ self.old) × IsSome ending.reply) }
+        requires fits { (e : Emission) → item_at self.old.flight number ≡ Some e → EffectFits e handling.effect }
+        ensures state { IfOk result (λ _. (e : Emission) → item_at self.old.flight number ≡ Some e → self.new ≡ (conclude self.old number e.bytes handling).state) }
+        ensures sent { IfOk result (λ sent. sent ≡ option_map (descriptor_of domain (length self.old.flight)) handling.reply) }
+        ensures err { OnErr result ((self.new ≡ self.old) × IsSome handling.reply) }
     {
-        let Ending { deed, reply } = ending;
+        let Handling { effect, reply } = handling;
         let sent = self.send(rt, domain, reply)?;
-        self.perform(number, deed);
+        self.perform(number, effect);
         self.flight.end(number);
         Ok(sent)
     }

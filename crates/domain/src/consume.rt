@@ -6,11 +6,11 @@ ghost use Rattle.domain.specs.Ends.{conclude};
 use crate::deliver::Record;
 use crate::domain::Domain;
 use crate::entry::Entry;
-use disposition::{
-    Ending, Fate, carriage_to_function, carriage_to_host, first_port_fate, refusal_of,
-};
 use fab_types::{Parties, PortId};
 use frame_log::{Frame, FrameFault};
+use request_handling::{
+    Fate, Handling, carriage_to_function, carriage_to_host, first_port_fate, refusal_of,
+};
 use std::sync::Wait;
 
 /// Why a number was not consumed.
@@ -25,10 +25,10 @@ pub(crate) enum EndFault {
 impl Domain {
     ghost use Rattle.domain.specs.declared.entry.Entry.{Entry};
     ghost use Rattle.domain.specs.declared.entry.Entry.TheVariants.{Carry, Deliver, Refuse};
-    ghost use Rattle.disposition.specs.Carries.{carriage_end, refusal_end};
+    ghost use Rattle.request_handling.specs.Carries.{carriage_end, refusal_end};
     ghost use Rattle.domain.specs.Deliveries.{arrival};
     ghost use Rattle.domain.specs.Domains.{Delivers, EndsBy, IsEndFault, IsRefused, IsStray, Makes};
-    ghost use Rattle.disposition.specs.Fates.{upward_fate};
+    ghost use Rattle.request_handling.specs.Fates.{upward_fate};
     ghost use Rattle.domain.specs.State.{item_at};
 
     /// What the first port of its sender does with a packet in flight that a function sent; none where
@@ -47,7 +47,7 @@ impl Domain {
     }
 
     /// How a packet in flight ends at its sender's first port, if it ends there.
-    fn refusal_end(&self, number: u64) -> Option<Ending>
+    fn refusal_end(&self, number: u64) -> Option<Handling>
         ensures { result ≡ refusal_end self.now.share (item_at self.now.state.flight number) }
     {
         let Some((parties, bytes)) = self.state.item(number) else {
@@ -61,7 +61,7 @@ impl Domain {
     }
 
     /// How a packet in flight ends at its completer, if it ends there.
-    fn carriage_end(&self, number: u64) -> Option<Ending>
+    fn carriage_end(&self, number: u64) -> Option<Handling>
         ensures { result ≡ carriage_end self.now.share self.now.state.frames self.now.state.registers (item_at self.now.state.flight number) }
     {
         let Some((parties, bytes)) = self.state.item(number) else {
@@ -85,15 +85,15 @@ impl Domain {
         rt: &R,
         entry: Entry,
         number: u64,
-        ending: Ending,
+        handling: Handling,
     ) -> Result<Option<Frame>, EndFault>
-        requires { EndsBy self.old entry number ending }
+        requires { EndsBy self.old entry number handling }
         ensures ok { IfOk result (λ sent. Makes self.old entry self.new sent) }
         ensures fault { IfErr result (λ fault. IsEndFault self.old entry fault) }
         ensures err { OnErr result (self.new ≡ self.old) }
     {
         let domain = self.start.domain();
-        let Ok(sent) = self.state.conclude(rt, domain, number, ending) else {
+        let Ok(sent) = self.state.conclude(rt, domain, number, handling) else {
             return Err(EndFault::NoMemory);
         };
         self.journal.push_reserved(entry);
@@ -111,10 +111,10 @@ impl Domain {
         ensures fault { IfErr result (λ fault. IsEndFault self.old (Refuse number) fault) }
         ensures err { OnErr result (self.new ≡ self.old) }
     {
-        let Some(ending) = self.refusal_end(number) else {
+        let Some(handling) = self.refusal_end(number) else {
             return Err(EndFault::Illegal);
         };
-        self.end_by(rt, Entry::Refuse(number), number, ending)
+        self.end_by(rt, Entry::Refuse(number), number, handling)
     }
 
     /// The packet reached its completer. It answers `Illegal` where the machine has no such entry.
@@ -127,10 +127,10 @@ impl Domain {
         ensures fault { IfErr result (λ fault. IsEndFault self.old (Carry number) fault) }
         ensures err { OnErr result (self.new ≡ self.old) }
     {
-        let Some(ending) = self.carriage_end(number) else {
+        let Some(handling) = self.carriage_end(number) else {
             return Err(EndFault::Illegal);
         };
-        self.end_by(rt, Entry::Carry(number), number, ending)
+        self.end_by(rt, Entry::Carry(number), number, handling)
     }
 
     /// The completion reached whom it answers. It answers the record that it made, if it closed a Tag,

@@ -5,7 +5,6 @@ ghost use Rattle.tlp_view.specs.Malformed.{malformed};
 ghost use Rattle.domain.specs.Deliveries.{arrival_at, arrival_for, delivery_of, is_awaited, is_port, record_of_arrival};
 
 use arrayvec::ArrayVec;
-use disposition::origin_id;
 use fab_types::{Answerer, Origin, Status};
 use function::{OpenTag, is_open};
 use std::marker::Model;
@@ -119,7 +118,7 @@ fn is_awaited(tags: &[OpenTag], answerer: Answerer, owner: Origin, view: &TlpVie
     ensures { result ≡ is_awaited tags.now answerer owner view.now }
 {
     let same = owner;
-    let addressee = origin_id(same);
+    let addressee = same.id();
     is_open(tags, owner, view.tag()) && (is_port(answerer) || view.requester() == addressee)
 }
 

@@ -37,9 +37,9 @@ impl Model for Domain {
 
     ghost Value = { DomainView };
 
-    ghost use Rattle.domain.specs.Kept.{view_of, Kept};
+    ghost use Rattle.domain.specs.Kept.{domain_view, Kept};
 
-    ghost view = { view_of };
+    ghost view = { domain_view };
 
     ghost invariant = { Kept };
 }

@@ -1,6 +1,4 @@
-use crate::access::HostAccess;
-use fab_types::{Bdf, Parties, Place};
-use frame_log::PacketBytes;
+use fab_types::{Bdf, HostAccess, PacketBytes, Parties, Place};
 
 /// What a domain did, as its journal keeps it: a begin with its inputs, the end of a packet by its
 /// number alone, or what a packet did for which its home's journal has no entry.

@@ -1,13 +1,13 @@
 //! What a domain has in flight.
 
 ghost use Rattle.std.specs.Prelude.{◌≡◌, ◌≤◌, ◌++◌, ◌∷◌, [], Some, None, IfOk, OnErr, MatchOption, IfSome, length, slice_set};
-ghost use Rattle.disposition.specs.Heads.{descriptor_of};
+ghost use Rattle.request_handling.specs.Heads.{descriptor_of};
 ghost use Rattle.domain.specs.State.{item_at};
-ghost use Rattle.disposition.specs.WellMade.{IsWellMade};
+ghost use Rattle.request_handling.specs.WellMade.{IsWellMade};
 
-use disposition::head_of;
 use fab_types::{DomainId, NoMemory, Parties};
 use frame_log::{Frame, Log, Token};
+use request_handling::head_of;
 use std::alloc::Global;
 use std::marker::Model;
 use std::sync::{Arc, Wait};
@@ -28,7 +28,7 @@ pub(crate) struct Flight {
 
 impl Model for Flight {
     ghost use Rattle.std.specs.Prelude.{List, Option};
-    ghost use Rattle.disposition.specs.Emissions.{Emission};
+    ghost use Rattle.request_handling.specs.Emissions.{Emission};
 
     ghost Value = { List (Option Emission) };
 

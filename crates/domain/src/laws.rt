@@ -4,8 +4,8 @@ ghost use Rattle.std.specs.Prelude.{◌≡◌, ℕ, ◌+◌, ◌*◌, ◌++◌, 
 ghost use Rattle.fab_types.specs.declared.class.Class.TheVariants.{Completion};
 ghost use Rattle.fab_types.specs.declared.head.Parties.{Parties};
 ghost use Rattle.fab_types.specs.declared.place.Place.{Place};
-ghost use Rattle.layout.specs.declared.lines.PortLine.{PortLine};
-ghost use Rattle.layout.specs.Share.{Share, is_guarded};
+ghost use Rattle.platform.specs.declared.parts.DownstreamPort.{DownstreamPort};
+ghost use Rattle.platform.specs.Share.{Share, is_guarded};
 ghost use Rattle.domain.specs.declared.entry.Entry.{Entry};
 ghost use Rattle.tlp_view.specs.Costs.{cost_of};
 ghost use Rattle.domain.specs.declared.entry.Entry.TheVariants.{Alien};
@@ -14,7 +14,7 @@ ghost use Rattle.domain.specs.Machine.{aliens_in, change, replay};
 ghost use Rattle.domain.specs.Orders.{IsPosted, KeepOrder};
 ghost use Rattle.domain.specs.Sent.{AreSent, Sent, sent, sent_by_entry};
 ghost use Rattle.domain.specs.State.{Alone, Change, item_at};
-ghost use Rattle.disposition.specs.Takers.{is_at_port};
+ghost use Rattle.request_handling.specs.Takers.{is_at_port};
 
 use crate::domain::Domain;
 
@@ -25,6 +25,7 @@ pub fn equal_journals_leave_equal_states(one: &Domain, other: &Domain)
     requires journal { one.now.journal ≡ other.now.journal }
     ensures { one.now.state ≡ other.now.state }
 {
+    // for the proof: each state is the replay of its journal
     let _ = one.journal();
     let _ = other.journal();
 }
@@ -35,6 +36,7 @@ pub fn guarded_journals_have_no_alien_entry(domain: &Domain)
     requires { is_guarded domain.now.share ≡ true }
     ensures { aliens_in domain.now.journal ≡ 0 }
 {
+    // for the proof: the state is the replay of the journal
     let _ = domain.journal();
 }
 
@@ -76,6 +78,6 @@ pub fn order_is_kept_entry_by_entry()
 /// Two packets that keep their order on the way (PCIe 4.0, 2.4.1) were put in one outbox, and the first is a posted
 /// one.
 pub fn packets_in_order_left_one_outbox()
-    ensures outbox { (ports : List PortLine) (domain : ℕ) (first second : Sent) → KeepOrder ports domain first second → first.source ≡ second.source }
-    ensures posted { (ports : List PortLine) (domain : ℕ) (first second : Sent) → KeepOrder ports domain first second → IsPosted first.emission }
+    ensures outbox { (ports : List DownstreamPort) (domain : ℕ) (first second : Sent) → KeepOrder ports domain first second → first.source ≡ second.source }
+    ensures posted { (ports : List DownstreamPort) (domain : ℕ) (first second : Sent) → KeepOrder ports domain first second → IsPosted first.emission }
 {}

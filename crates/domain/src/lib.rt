@@ -1,7 +1,6 @@
 //! A domain (a tenant): its memory, its journal, and what it has in flight.
 #![tactic(auto)]
 
-mod access;
 mod alien;
 mod begin;
 mod conclude;
@@ -24,10 +23,8 @@ mod tags;
 mod taker;
 mod tick;
 
-pub use access::{HostAccess, Operation};
 pub use counts::Counts;
 pub use deliver::Record;
-pub use disposition::Fate;
 pub use domain::Domain;
 pub use entry::Entry;
 pub use function::{OpenTag, TagUse};
@@ -37,3 +34,4 @@ pub use laws::{
     packets_in_order_left_one_outbox, ports_answer_by_completions,
     sent_packets_are_those_in_flight,
 };
+pub use request_handling::Fate;

@@ -5,16 +5,15 @@ ghost use Rattle.std.specs.Result.{IsOkUnless};
 ghost use Rattle.fab_types.specs.declared.faults.begin.MmioFault.{MmioFault};
 ghost use Rattle.function.specs.Accesses.{IsAccess};
 ghost use Rattle.tlp_view.specs.Requests.{RequestFits};
-ghost use Rattle.disposition.specs.Answers.{bar_of, page_at};
+ghost use Rattle.request_handling.specs.Answers.{bar_of, page_at};
 ghost use Rattle.domain.specs.HostAccesses.{free_host_tag, head_for, host_request, is_in_page, mmio_fault, opened_for, size_of, tag_for};
 
-use crate::access::{HostAccess, Operation};
 use crate::domain::Domain;
 use crate::entry::Entry;
-use disposition::bar_of;
-use fab_types::{AddressType, DomainId, MmioFault, Origin, Parties};
+use fab_types::{AddressType, DomainId, HostAccess, MmioFault, Operation, Origin, Parties};
 use frame_log::Frame;
 use function::{OpenTag, TagUse, is_open};
+use request_handling::bar_of;
 use std::sync::Wait;
 use tlp_view::{Attributes, Enables, RequestBuf, RequestHead};
 

@@ -7,16 +7,16 @@ ghost use Rattle.tlp_view.specs.Malformed.{malformed};
 ghost use Rattle.tlp_view.specs.Runs.{runs};
 ghost use Rattle.domain.specs.Aliens.{received};
 ghost use Rattle.domain.specs.Ends.{BytesFit, does, done, with_access, with_stored};
-ghost use Rattle.disposition.specs.Heads.{descriptor_of};
+ghost use Rattle.request_handling.specs.Heads.{descriptor_of};
 ghost use Rattle.domain.specs.Receptions.{IsReceivable};
 
 use crate::conclude::write_runs;
 use crate::reception::Reception;
 use crate::registers::access;
 use crate::state::State;
-use disposition::{Deed, Ending};
 use fab_types::{Bdf, DomainId, NoMemory};
 use frame_log::Frame;
+use request_handling::{Effect, Handling};
 use std::sync::Wait;
 use tlp_view::TlpView;
 
@@ -44,16 +44,16 @@ impl State {
     }
 
     /// Does what the end of this packet does.
-    fn perform_bytes(&mut self, bytes: &[u8], deed: Deed)
+    fn perform_bytes(&mut self, bytes: &[u8], effect: Effect)
         requires blocks { self.old.counts.blocked + 1 < 2 ^ 64 }
-        requires fits { BytesFit bytes.now deed }
-        ensures { self.new ≡ done self.old bytes.now deed }
+        requires fits { BytesFit bytes.now effect }
+        ensures { self.new ≡ done self.old bytes.now effect }
     {
-        match deed {
-            Deed::Leave => {}
-            Deed::Block => self.block(),
-            Deed::Store(frame, first) => self.store_bytes(bytes, frame, first),
-            Deed::Access(function) => self.access_bytes(bytes, function),
+        match effect {
+            Effect::Leave => {}
+            Effect::Block => self.block(),
+            Effect::Store(frame, first) => self.store_bytes(bytes, frame, first),
+            Effect::Access(function) => self.access_bytes(bytes, function),
         }
     }
 
@@ -63,17 +63,17 @@ impl State {
         rt: &R,
         domain: DomainId,
         bytes: &[u8],
-        ending: Ending,
+        handling: Handling,
     ) -> Result<Option<Frame>, NoMemory>
         requires blocks { self.old.counts.blocked + 1 < 2 ^ 64 }
-        requires fits { BytesFit bytes.now ending.deed }
-        ensures state { IfOk result (λ _. self.new ≡ (does self.old bytes.now ending).state) }
-        ensures sent { IfOk result (λ sent. sent ≡ option_map (descriptor_of domain (length self.old.flight)) ending.reply) }
+        requires fits { BytesFit bytes.now handling.effect }
+        ensures state { IfOk result (λ _. self.new ≡ (does self.old bytes.now handling).state) }
+        ensures sent { IfOk result (λ sent. sent ≡ option_map (descriptor_of domain (length self.old.flight)) handling.reply) }
         ensures err { OnErr result (self.new ≡ self.old) }
     {
-        let Ending { deed, reply } = ending;
+        let Handling { effect, reply } = handling;
         let sent = self.send(rt, domain, reply)?;
-        self.perform_bytes(bytes, deed);
+        self.perform_bytes(bytes, effect);
         Ok(sent)
     }
 
@@ -93,7 +93,7 @@ impl State {
         ensures err { OnErr result (self.new ≡ self.old) }
     {
         match reception {
-            Reception::Ends(ending) => self.end_bytes(rt, domain, bytes, ending),
+            Reception::Ends(handling) => self.end_bytes(rt, domain, bytes, handling),
             Reception::Arrives(arrival) => {
                 self.arrive(arrival);
                 Ok(None)

@@ -5,21 +5,21 @@ ghost use Rattle.std.specs.List.{find};
 ghost use Rattle.fab_types.specs.Id.{host_of};
 ghost use Rattle.tlp_view.specs.Bytes.{packet_of};
 ghost use Rattle.tlp_view.specs.Malformed.{malformed};
-ghost use Rattle.disposition.specs.Requests.{at_port};
+ghost use Rattle.request_handling.specs.Requests.{at_port};
 ghost use Rattle.domain.specs.Aliens.{answerer_of, at_function, at_host, completion_at_host, reception_at, reception_unless};
 
 use crate::deliver::{Arrival, arrival_at};
 use crate::domain::Domain;
-use disposition::{
-    Ending, Taker, at_port, discarded, request_at_function, request_at_host, taker_of, target_for,
-};
 use fab_types::{Answerer, Bdf, Origin, Parties, Place};
+use request_handling::{
+    Handling, Taker, at_port, discarded, request_at_function, request_at_host, taker_of, target_for,
+};
 use tlp_view::TlpView;
 
 /// What becomes of an alien packet: it ends like one of the domain's own, or arrives as a completion.
 #[derive(Drop)]
 pub(crate) enum Reception {
-    Ends(Ending),
+    Ends(Handling),
     Arrives(Arrival),
 }
 

@@ -4,17 +4,17 @@ ghost use Rattle.std.specs.Prelude.{◌≡◌, ◌==◌, ℕ, List, [], Some, If
 ghost use Rattle.function.specs.Plans.{PlanFits, page_after, plan_of};
 ghost use Rattle.std.specs.List.{position};
 ghost use Rattle.std.specs.Option.{option_copied};
-ghost use Rattle.fab_types.specs.declared.place.Origin.{Origin};
+ghost use Rattle.fab_types.specs.declared.origin.Origin.{Origin};
 ghost use Rattle.function.specs.Accesses.{IsAccess, accessed};
 ghost use Rattle.host_memory.specs.Pages.{page_of};
 ghost use Rattle.domain.specs.Deliveries.{completed};
 ghost use Rattle.domain.specs.RegisterPages.{changed};
 ghost use Rattle.domain.specs.State.{first_registers};
 
-use disposition::place;
 use fab_types::{Bdf, NoMemory, Origin, Status};
 use function::{Function, OpenTag, Plan, TagUse};
 use layout::Start;
+use request_handling::place;
 use std::alloc::Global;
 use tlp_view::TlpView;
 

@@ -2,10 +2,8 @@
 
 ghost use Rattle.std.specs.Prelude.{◌≡◌, ◌↔◌, IsTrue};
 
-use crate::access::{HostAccess, Operation};
 use crate::entry::Entry;
-use fab_types::{Parties, Place};
-use frame_log::PacketBytes;
+use fab_types::{HostAccess, Operation, PacketBytes, Parties, Place};
 
 /// Are the bytes the same?
 fn same_bytes(one: &PacketBytes, other: &PacketBytes) -> bool

@@ -6,7 +6,7 @@ ghost use Rattle.function.specs.Plans.{PlanFits, plan_of};
 ghost use Rattle.host_memory.specs.Pages.{page_of};
 ghost use Rattle.domain.specs.Deliveries.{arrival};
 ghost use Rattle.domain.specs.State.{item_at, start_state};
-ghost use Rattle.disposition.specs.WellMade.{IsWellMade};
+ghost use Rattle.request_handling.specs.WellMade.{IsWellMade};
 
 use crate::counts::Counts;
 use crate::deliver::{Arrival, Record, arrival_for};

@@ -2,7 +2,7 @@
 
 ghost use Rattle.std.specs.Prelude.{◌≡◌, ◌&&◌, Some, None, IfOk, OnErr};
 ghost use Rattle.std.specs.Result.{IsOkUnless};
-ghost use Rattle.fab_types.specs.declared.place.Origin.TheVariants.{Function};
+ghost use Rattle.fab_types.specs.declared.origin.Origin.TheVariants.{Function};
 ghost use Rattle.tlp_view.specs.Bytes.{packet_of};
 ghost use Rattle.fab_types.specs.declared.faults.begin.SubmitFault.{SubmitFault};
 ghost use Rattle.domain.specs.Tags.{is_open, opens_tag};
@@ -11,8 +11,8 @@ ghost use Rattle.domain.specs.Submits.{submit_fault};
 use crate::domain::Domain;
 use crate::entry::Entry;
 use crate::tags::{completes, tag_to_open};
-use fab_types::{Bdf, Origin, SubmitFault};
-use frame_log::{Frame, PacketBytes};
+use fab_types::{Bdf, Origin, PacketBytes, SubmitFault};
+use frame_log::Frame;
 use function::is_open;
 use std::sync::Wait;
 

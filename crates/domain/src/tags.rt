@@ -5,8 +5,8 @@ ghost use Rattle.tlp_view.specs.Bytes.{packet_of};
 ghost use Rattle.domain.specs.Tags.{completes, opens_tag, same_origin};
 ghost use Rattle.domain.specs.Deliveries.{closed, use_of};
 
-use fab_types::{Class, Origin};
-use function::{OpenTag, TagUse, same_origin};
+use fab_types::{Class, Origin, same_origin};
+use function::{OpenTag, TagUse};
 use tlp_view::TlpView;
 
 /// Closes this Tag of this owner.

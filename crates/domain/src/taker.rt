@@ -1,11 +1,11 @@
 //! Who takes a packet at a place.
 
 ghost use Rattle.std.specs.Prelude.{◌≡◌};
-ghost use Rattle.disposition.specs.Takers.{is_at_port, takes};
+ghost use Rattle.request_handling.specs.Takers.{is_at_port, takes};
 
 use crate::domain::Domain;
-use disposition::{Taker, taker_of};
 use fab_types::Place;
+use request_handling::{Taker, taker_of};
 
 impl Domain {
     /// May an entry of this domain say that an alien packet was taken at this place? It may at the

@@ -2,7 +2,7 @@
 
 use crate::cost::Cost;
 use crate::id::Bdf;
-use crate::place::Origin;
+use crate::origin::Origin;
 
 /// The AT field of a memory request (PCIe 4.0, 10.2.1).
 #[derive(Clone, Copy, Debug, PartialEq, Eq)]

@@ -1,13 +1,7 @@
 //! Places in which packets wait.
 
-use crate::id::{Bdf, DomainId};
-
-/// Where a domain's packets come from: one of its functions, or its host.
-#[derive(Clone, Copy, Debug, PartialEq, Eq, PartialOrd, Ord, Hash)]
-pub enum Origin {
-    Function(Bdf),
-    Host(DomainId),
-}
+use crate::id::Bdf;
+use crate::origin::Origin;
 
 /// Which way packets go on a link: toward the host, or away from it.
 #[derive(Clone, Copy, Debug, PartialEq, Eq, PartialOrd, Ord, Hash)]

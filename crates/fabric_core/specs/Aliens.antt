@@ -9,11 +9,11 @@ use Rattle.fab_types.specs.declared.place.Direction.{Direction}
 use Rattle.fab_types.specs.declared.place.Place.TheVariants.{Ingress}
 use Rattle.fab_types.specs.declared.place.Way.TheVariants.{Up, Down}
 use Rattle.frame_log.specs.Descriptor.{Descriptor}
-use Rattle.layout.specs.declared.lines.PortLine.{PortLine}
-use Rattle.layout.specs.Owners.{owner_of}
+use Rattle.platform.specs.declared.parts.DownstreamPort.{DownstreamPort}
+use Rattle.platform.specs.Owners.{owner_of}
 use Rattle.domain.specs.Domains.{DomainView}
-use Rattle.edge.specs.Edges.{EdgeView, aliened_at_function, aliened_at_host}
-use Rattle.tenants.specs.Aliens.{owner_of_frame}
+use Rattle.agents.specs.Agents.{AgentsView, aliened_at_function, aliened_at_host}
+use Rattle.domains.specs.Aliens.{owner_of_frame}
 
 -- the link between the host and the top switch
 abbrev pub to_host : Direction
@@ -23,14 +23,14 @@ abbrev pub to_function : ℕ → Direction
 to_function function = record { lower = function; way = Down }
 
 -- a memory request at the host: the owner of its Requester ID, or of the frame of memory whose number is its page
-abbrev pub addressed_to : List PortLine → List DomainView → ℕ → AddressType → ℕ → Option ℕ
+abbrev pub addressed_to : List DownstreamPort → List DomainView → ℕ → AddressType → ℕ → Option ℕ
 addressed_to ports domains requester Untranslated address = owner_of ports requester
 addressed_to ports domains requester TranslationRequest address = None
 addressed_to ports domains requester Translated address = owner_of_frame domains (address / 4096)
 addressed_to ports domains requester Reserved address = None
 
 -- a completion at the host: the domain whose host it is for
-abbrev pub receiver_by : List PortLine → List DomainView → Header → Option ℕ
+abbrev pub receiver_by : List DownstreamPort → List DomainView → Header → Option ℕ
 receiver_by ports domains Malformed = None
 receiver_by ports domains (Memory requester address_type address) = addressed_to ports domains requester address_type address
 receiver_by ports domains (OtherRequest requester) = None
@@ -41,17 +41,17 @@ or_home home None = home
 or_home home (Some receiver) = receiver
 
 -- the domain that gets the entry of a packet that the host took: such a one, or else its home
-abbrev pub receiver_at_host : List PortLine → List DomainView → Descriptor → ℕ
+abbrev pub receiver_at_host : List DownstreamPort → List DomainView → Descriptor → ℕ
 receiver_at_host ports domains frame = or_home frame.domain (receiver_by ports domains frame.head.header)
 
--- what the entry makes of the edge; none where the layout has no such entries
-abbrev pub alien_at_host : List PortLine → EdgeView → Descriptor → Option EdgeView
-alien_at_host ports edge frame = aliened_at_host edge (receiver_at_host ports edge.domains frame) (Ingress to_host) frame
+-- what the entry makes of the agents; none where the layout has no such entries
+abbrev pub alien_at_host : List DownstreamPort → AgentsView → Descriptor → Option AgentsView
+alien_at_host ports agents frame = aliened_at_host agents (receiver_at_host ports agents.domains frame) (Ingress to_host) frame
 
-abbrev pub alien_at_function : EdgeView → ℕ → Descriptor → Option EdgeView
-alien_at_function edge function frame = aliened_at_function edge function (Ingress (to_function function)) frame
+abbrev pub alien_at_function : AgentsView → ℕ → Descriptor → Option AgentsView
+alien_at_function agents function frame = aliened_at_function agents function (Ingress (to_function function)) frame
 
 -- the one that its home's machine makes, or else this
-abbrev pub or_else : Option EdgeView → Option EdgeView → Option EdgeView
+abbrev pub or_else : Option AgentsView → Option AgentsView → Option AgentsView
 or_else None other = other
-or_else (Some edge) other = Some edge
+or_else (Some agents) other = Some agents

@@ -3,7 +3,7 @@ use Rattle.std.specs.Prelude.{◌≡◌, Option, Some, option_map}
 use Rattle.fab_types.specs.declared.place.Direction.{Direction}
 use Rattle.link.specs.Channels.{Channel, IsBounded}
 use Rattle.topology.specs.Links.{sender_of}
-use Rattle.hierarchy.specs.Moves.{channel_at}
+use Rattle.interconnect.specs.Moves.{channel_at}
 use Rattle.fabric_core.specs.World.{World}
 
 -- what is sent and waits on this direction, if there is such a link

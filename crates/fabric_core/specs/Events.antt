@@ -7,23 +7,23 @@ use Rattle.fab_types.specs.declared.faults.begin.BeginFault.TheVariants as begin
 use Rattle.fab_types.specs.declared.outcome.Outcome.{Outcome}
 use Rattle.fab_types.specs.declared.outcome.Outcome.TheVariants.{Moved, Idle, Refused, NoMemory}
 use Rattle.fab_types.specs.declared.place.Direction.{Direction}
-use Rattle.fab_types.specs.declared.place.Origin.{Origin}
-use Rattle.fab_types.specs.declared.place.Origin.TheVariants.{Function, Host}
+use Rattle.fab_types.specs.declared.origin.Origin.{Origin}
+use Rattle.fab_types.specs.declared.origin.Origin.TheVariants.{Function, Host}
 use Rattle.fab_types.specs.declared.place.Way.TheVariants.{Up}
 use Rattle.frame_log.specs.Descriptor.{Descriptor}
-use Rattle.edge.specs.Edges.{accessed, submitted, taken_from, ticked, waiting_of}
-use Rattle.link.specs.Channels.{is_full, receive, send, tell}
-use Rattle.port.specs.Lanes.{eligible}
-use Rattle.tenants.specs.Tenants.{mmio_refusal, submit_refusal, tick_refusal}
+use Rattle.agents.specs.Agents.{accessed, submitted, taken_from, ticked, waiting_of}
+use Rattle.link.specs.Channels.{is_full, deliver, send, update_fc}
+use Rattle.lane.specs.Lanes.{eligible}
+use Rattle.domains.specs.Domains.{mmio_refusal, submit_refusal, tick_refusal}
 use Rattle.topology.specs.Links.{sender_of}
 use Rattle.topology.specs.declared.nodes.LinkEnd.{LinkEnd}
-use Rattle.hierarchy.specs.Moves.{channel_at, on_channel, put_at}
+use Rattle.interconnect.specs.Moves.{channel_at, on_channel, put_at}
 use Rattle.fabric_core.specs.declared.event.Event.{Event}
 use Rattle.fabric_core.specs.declared.event.Event.TheVariants.{Submit, Tick, Mmio, Enter, Pass, Send, Take, Credit, Root, Arrive}
-use Rattle.fabric_core.specs.Endings.{arrive, from_host, root}
+use Rattle.fabric_core.specs.Receipts.{arrive, from_host, root}
 use Rattle.fabric_core.specs.Losing.{pass}
 use Rattle.fabric_core.specs.Wanting.{WantsMemory}
-use Rattle.fabric_core.specs.World.{World, with_both, with_channels, with_edge}
+use Rattle.fabric_core.specs.World.{World, with_both, with_channels, with_agents}
 
 -- ---- onto the link
 
@@ -37,32 +37,32 @@ abbrev pub entered_at : World → Origin → Class → Option LinkEnd → Descri
 entered_at w origin class None taken = None
 entered_at w origin class (Some end) taken =
     if is_full class (channel_at w.channels end) then None
-    else Some (with_both w (put_at w.channels end taken.0) (taken_from w.edge origin taken.1))
+    else Some (with_both w (put_at w.channels end taken.0) (taken_from w.agents origin taken.1))
 
 -- the eligible packet of a class goes from an outbox to the sender of its link
 abbrev pub enter : World → Origin → Class → Option World
-enter w origin class = option_and_then (entered_at w origin class (sender_of w.tree.links (link_of origin))) (eligible class (waiting_of w.edge.outboxes origin))
+enter w origin class = option_and_then (entered_at w origin class (sender_of w.tree.links (link_of origin))) (eligible class (waiting_of w.agents.outboxes origin))
 
 -- ---- each event
 
 -- the world after an event, or none where nothing moves
 abbrev pub effect : World → Event → Option World
-effect w (Submit function bytes) = option_map (with_edge w) (submitted w.edge function bytes)
-effect w (Tick function) = option_map (with_edge w) (ticked w.edge function)
-effect w (Mmio domain access) = option_map (with_edge w) (accessed w.edge domain access)
+effect w (Submit function bytes) = option_map (with_agents w) (submitted w.agents function bytes)
+effect w (Tick function) = option_map (with_agents w) (ticked w.agents function)
+effect w (Mmio domain access) = option_map (with_agents w) (accessed w.agents domain access)
 effect w (Enter origin class) = enter w origin class
 effect w (Pass port class) = pass w port class
 effect w (Send direction class) = option_map (with_channels w) (on_channel w.channels (sender_of w.tree.links direction) (send class))
-effect w (Take direction) = option_map (with_channels w) (on_channel w.channels (sender_of w.tree.links direction) receive)
-effect w (Credit direction) = option_map (with_channels w) (on_channel w.channels (sender_of w.tree.links direction) tell)
+effect w (Take direction) = option_map (with_channels w) (on_channel w.channels (sender_of w.tree.links direction) deliver)
+effect w (Credit direction) = option_map (with_channels w) (on_channel w.channels (sender_of w.tree.links direction) update_fc)
 effect w (Root class) = root w class
 effect w (Arrive function class) = arrive w function class
 
 -- the refusal of a begin, if it is refused, memory aside
 abbrev pub refusal : World → Event → Option BeginFault
-refusal w (Submit function bytes) = option_map begin.Submit (submit_refusal w.edge.domains function bytes)
-refusal w (Tick function) = option_map begin.Tick (tick_refusal w.edge.domains function)
-refusal w (Mmio domain access) = option_map begin.Mmio (mmio_refusal w.edge.domains domain access)
+refusal w (Submit function bytes) = option_map begin.Submit (submit_refusal w.agents.domains function bytes)
+refusal w (Tick function) = option_map begin.Tick (tick_refusal w.agents.domains function)
+refusal w (Mmio domain access) = option_map begin.Mmio (mmio_refusal w.agents.domains domain access)
 refusal w event = None
 
 -- What an outcome says of an event: it did what the event does, or it changed nothing, and why

@@ -2,13 +2,13 @@
 -- layout, and between events no port holds a report or an answer.
 use Rattle.std.specs.Prelude.{◌≡◌, ℕ, ◌<◌, ◌≤◌, List, length, map, slice_index_or, true, All, None}
 use Rattle.domain.specs.Domains.{DomainView}
-use Rattle.edge.specs.Edges.{IsSettled}
-use Rattle.layout.specs.declared.lines.PortLine.{PortLine}
+use Rattle.agents.specs.Agents.{IsSettled}
+use Rattle.platform.specs.declared.parts.DownstreamPort.{DownstreamPort}
 use Rattle.port.specs.Turns.{PortView}
-use Rattle.topology.specs.Topologies.{IsSound}
+use Rattle.topology.specs.Topologies.{IsTree}
 use Rattle.topology.specs.declared.places.PortPlace.{PortPlace}
-use Rattle.hierarchy.specs.Kept.{Fits}
-use Rattle.fabric_core.specs.Orders.{AreInTurn}
+use Rattle.interconnect.specs.Kept.{Fits}
+use Rattle.fabric_core.specs.Orders.{KeepWayOrder}
 use Rattle.fabric_core.specs.Places.{ArePlaced}
 use Rattle.fabric_core.specs.Soundness.{IsGuardedFabric}
 use Rattle.fabric_core.specs.World.{World, is_guarded}
@@ -18,32 +18,32 @@ pub record IsFree (port : PortView) : Type 0 where
   pub held : port.held ≡ None
   pub kept : port.kept ≡ None
 
--- a port's own lane is one of its switch, which has as many as the tree says
-pub record IsPlaced (lanes : List ℕ) (place : PortPlace) (port : PortView) : Type 0 where
-  pub fits : Fits lanes place port
+-- a port's own output is one of its switch, which has as many as the tree says
+pub record IsPlaced (outputs : List ℕ) (place : PortPlace) (port : PortView) : Type 0 where
+  pub fits : Fits outputs place port
   pub own : port.config.own ≤ length port.config.exits
 
 -- the directions of links and the ports are those that the tree says
 pub record IsBuilt (w : World) : Type 0 where
-  pub sound : IsSound w.tree
-  pub lanes : map length w.channels ≡ w.tree.lanes
+  pub sound : IsTree w.tree
+  pub outputs : map length w.channels ≡ w.tree.outputs
   pub many : length w.ports ≡ length w.tree.places
-  pub placed : (i : ℕ) (place : PortPlace) (port : PortView) → i < length w.ports → IsPlaced w.tree.lanes (slice_index_or w.tree.places i place) (slice_index_or w.ports i port)
+  pub placed : (i : ℕ) (place : PortPlace) (port : PortView) → i < length w.ports → IsPlaced w.tree.outputs (slice_index_or w.tree.places i place) (slice_index_or w.ports i port)
 
 -- the share of a domain tells these ports of its layout
-abbrev pub HasPorts : List PortLine → DomainView → Type 0
+abbrev pub HasPorts : List DownstreamPort → DomainView → Type 0
 HasPorts ports d = d.share.ports ≡ ports
 
-pub record IsKept (w : World) : Type 0 where
+pub record IsConsistent (w : World) : Type 0 where
   pub built : IsBuilt w
-  pub settled : IsSettled w.edge
-  pub shares : All (HasPorts w.routes.ports) w.edge.domains
+  pub settled : IsSettled w.agents
+  pub shares : All (HasPorts w.routes.ports) w.agents.domains
   pub placed : ArePlaced w
   pub free : All IsFree w.ports
 
 -- and in a guarded layout each packet is on its way to somebody who has a case for it, and packets of a domain that keep
 -- their order are in turn
 pub record IsFabric (w : World) : Type 0 where
-  pub kept : IsKept w
+  pub kept : IsConsistent w
   pub guarded : is_guarded w ≡ true → IsGuardedFabric w
-  pub ordered : (controls : is_guarded w ≡ true) → AreInTurn (guarded controls).platform w
+  pub ordered : (controls : is_guarded w ≡ true) → KeepWayOrder (guarded controls).platform w

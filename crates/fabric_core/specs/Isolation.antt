@@ -12,17 +12,17 @@ use Rattle.domain.specs.HostAccesses.{mmio_fault}
 use Rattle.domain.specs.Machine.{step}
 use Rattle.domain.specs.Submits.{submit_fault}
 use Rattle.domain.specs.Ticks.{tick_fault}
-use Rattle.edge.specs.Edges.{waiting_of}
+use Rattle.agents.specs.Agents.{waiting_of}
 use Rattle.link.specs.Channels.{Channel}
-use Rattle.port.specs.Lanes.{eligible}
-use Rattle.tenants.specs.Tenants.{domain_at, place_of, place_of_function}
+use Rattle.lane.specs.Lanes.{eligible}
+use Rattle.domains.specs.Domains.{domain_at, place_of, place_of_function}
 use Rattle.topology.specs.Links.{sender_of}
 use Rattle.topology.specs.declared.nodes.LinkEnd.{LinkEnd}
-use Rattle.hierarchy.specs.Moves.{channel_at}
-use Rattle.hierarchy.specs.Passes.{index_of, no_place}
+use Rattle.interconnect.specs.Moves.{channel_at}
+use Rattle.interconnect.specs.Passes.{index_of, no_place}
 use Rattle.fabric_core.specs.declared.event.Event.{Event}
 use Rattle.fabric_core.specs.declared.event.Event.TheVariants.{Submit, Tick, Mmio, Enter, Pass, Send, Take, Credit, Root, Arrive}
-use Rattle.fabric_core.specs.Endings.{Taken, taken, taken_at, to_function, to_host}
+use Rattle.fabric_core.specs.Receipts.{Taken, taken, taken_at, to_function, to_host}
 use Rattle.fabric_core.specs.Events.{StepsTo, effect, refusal}
 use Rattle.fabric_core.specs.World.{World}
 
@@ -30,11 +30,11 @@ use Rattle.fabric_core.specs.World.{World}
 
 -- the domain of this number
 abbrev pub domain_of : World → ℕ → Option DomainView
-domain_of w d = domain_at w.edge.domains (place_of w.edge.domains d)
+domain_of w d = domain_at w.agents.domains (place_of w.agents.domains d)
 
 -- the domain that a function is of
 abbrev pub domain_of_function : World → ℕ → Option DomainView
-domain_of_function w function = domain_at w.edge.domains (place_of_function w.edge.domains function)
+domain_of_function w function = domain_at w.agents.domains (place_of_function w.agents.domains function)
 
 abbrev pub number_of : Option DomainView → Option ℕ
 number_of all = option_map (λ d. d.share.domain) all
@@ -69,7 +69,7 @@ abbrev pub home : World → Event → Option ℕ
 home w (Submit function bytes) = number_of (domain_of_function w function)
 home w (Tick function) = number_of (domain_of_function w function)
 home w (Mmio domain access) = number_of (domain_of w domain)
-home w (Enter origin class) = home_of (eligible class (waiting_of w.edge.outboxes origin))
+home w (Enter origin class) = home_of (eligible class (waiting_of w.agents.outboxes origin))
 home w (Pass port class) = option_and_then (home_passed w class) (index_of w.tree.places port)
 home w (Send direction class) = option_and_then (home_sent w class) (sender_of w.tree.links direction)
 home w (Take direction) = option_and_then (home_travelling w) (sender_of w.tree.links direction)
@@ -109,7 +109,7 @@ pub record Part : Type 0 where
 abbrev pub part : ℕ → World → Part
 part d w = record {
   domain = domain_of w d;
-  outboxes = map (λ box. own d box.waiting) w.edge.outboxes;
+  outboxes = map (λ box. own d box.waiting) w.agents.outboxes;
   links = map (map (own_on_link d)) w.channels;
 }
 

@@ -1,7 +1,7 @@
 pub mod World
 pub mod Aliens
 pub mod Credits
-pub mod Endings
+pub mod Receipts
 pub mod Passing
 pub mod Settling
 pub mod Losing

@@ -7,14 +7,14 @@ use Rattle.fab_types.specs.declared.class.Class.{Class}
 use Rattle.fab_types.specs.declared.class.Class.TheVariants.{Completion}
 use Rattle.fab_types.specs.declared.place.Place.{Place}
 use Rattle.domain.specs.Domains.{DomainView}
-use Rattle.disposition.specs.Takers.{is_at_port}
+use Rattle.request_handling.specs.Takers.{is_at_port}
 use Rattle.link.specs.Channels.{is_full}
-use Rattle.tenants.specs.Aliens.{aliened, answers}
-use Rattle.tenants.specs.Tenants.{Made, domain_at, place_of}
-use Rattle.hierarchy.specs.declared.lost.Lost.{Lost}
-use Rattle.hierarchy.specs.Lost.{lost_among}
-use Rattle.hierarchy.specs.Moves.{channel_at}
-use Rattle.fabric_core.specs.Endings.{Taken, taken_at}
+use Rattle.domains.specs.Aliens.{aliened, answers}
+use Rattle.domains.specs.Domains.{Made, domain_at, place_of}
+use Rattle.interconnect.specs.declared.lost.Lost.{Lost}
+use Rattle.interconnect.specs.Lost.{lost_among}
+use Rattle.interconnect.specs.Moves.{channel_at}
+use Rattle.fabric_core.specs.Receipts.{Taken, taken_at}
 use Rattle.fabric_core.specs.Passing.{answered_at, turned}
 use Rattle.fabric_core.specs.World.{World}
 
@@ -38,8 +38,8 @@ losing_with lost t (Some m) = Some (record { lost = lost; taken = t; made = m })
 
 abbrev pub losing_to : World → Lost → Taken → Option Losing
 losing_to w lost t =
-    if is_at_port_of w.edge.domains t.frame.domain lost.place
-    then losing_with lost t (aliened w.edge.domains t.frame.domain lost.place t.frame)
+    if is_at_port_of w.agents.domains t.frame.domain lost.place
+    then losing_with lost t (aliened w.agents.domains t.frame.domain lost.place t.frame)
     else None
 
 abbrev pub losing_by : World → Class → Option Lost → Option Losing
@@ -50,19 +50,19 @@ losing_by w class (Some lost) = option_and_then (losing_to w lost) (taken_at w.c
 abbrev pub losing : World → ℕ → Class → Option Losing
 losing w port class = losing_by w class (lost_among w.tree w.routes w.channels w.ports port class)
 
--- it is gone, and what answers it waits at the port's own lane
+-- it is gone, and what answers it waits at the port's own output
 abbrev pub without_lost : World → Losing → World
 without_lost w l = record {
   tree = w.tree;
   routes = w.routes;
   channels = answered_at l.taken.channels l.lost.own l.made.sent;
   ports = w.ports;
-  edge = record { domains = l.made.domains; outboxes = w.edge.outboxes };
+  agents = record { domains = l.made.domains; outboxes = w.agents.outboxes };
   violations = w.violations ++ option_to_list l.lost.report;
   strays = w.strays;
 }
 
--- unless the port's own lane has no place for the answer
+-- unless the port's own output has no place for the answer
 abbrev pub lost : World → Losing → Option World
 lost w l =
     if answers (Some l.made) && is_full Completion (channel_at w.channels l.lost.own) then None

@@ -15,4 +15,4 @@ HasNoAlien d = aliens_in d.journal ≡ 0
 pub record IsOrderly (w : World) : Type 0 where
   pub ports : flat_map strays_of w.ports ≡ []
   pub strays : w.strays ≡ []
-  pub journals : All HasNoAlien w.edge.domains
+  pub journals : All HasNoAlien w.agents.domains

@@ -1,17 +1,17 @@
 -- Packets of a domain that keep their order (PCIe 4.0, 2.4.1), on the way that they go.
 use Rattle.std.specs.Prelude.{◌≡◌, ℕ, ◌<◌, true, All, List, slice_get, Some, IsSome}
-use Rattle.fab_types.specs.declared.place.Origin.TheVariants.{Function, Host}
+use Rattle.fab_types.specs.declared.origin.Origin.TheVariants.{Function, Host}
 use Rattle.fab_types.specs.declared.place.Place.{Place}
-use Rattle.layout.specs.Platform.{Platform}
+use Rattle.platform.specs.Platform.{Platform}
 use Rattle.domain.specs.Consumed.{is_in_order}
 use Rattle.domain.specs.Domains.{DomainView}
 use Rattle.domain.specs.Orders.{IsPosted, IsTo, KeepOrder}
 use Rattle.domain.specs.Sent.{Sent, sent}
 use Rattle.domain.specs.State.{item_at}
-use Rattle.passage.specs.Guarded.{IsFunctionOf}
-use Rattle.passage.specs.Links.{IsWay}
+use Rattle.guarded_routes.specs.Guarded.{IsFunctionOf}
+use Rattle.guarded_routes.specs.Links.{IsWay}
 use Rattle.fabric_core.specs.Places.{is_numbered}
-use Rattle.fabric_core.specs.Trails.{InTurn, from_function, from_host, never, standing_at}
+use Rattle.fabric_core.specs.Trails.{InOrderOnWay, from_function, from_host, never, standing_at}
 use Rattle.fabric_core.specs.World.{World}
 
 -- the places that a packet goes through: up from the function that sent it, or down from the host to the function that it
@@ -30,17 +30,17 @@ pub record AreOrdered (d : DomainView) (n m : ℕ) : Type 0 where
   pub keep : KeepOrder d.share.ports d.share.domain first second
 
 -- the packets of these numbers are in turn at these places
-abbrev pub TurnOf : World → DomainView → List Place → ℕ → ℕ → Type 0
-TurnOf w d places n m = InTurn (standing_at w) places (is_numbered d.share.domain n) (is_numbered d.share.domain m)
+abbrev pub OrderOf : World → DomainView → List Place → ℕ → ℕ → Type 0
+OrderOf w d places n m = InOrderOnWay (standing_at w) places (is_numbered d.share.domain n) (is_numbered d.share.domain m)
 
 -- a packet stands at these places, and nowhere else
 abbrev pub KeepsToWay : World → DomainView → List Place → ℕ → Type 0
-KeepsToWay w d places n = InTurn (standing_at w) places (is_numbered d.share.domain n) never
+KeepsToWay w d places n = InOrderOnWay (standing_at w) places (is_numbered d.share.domain n) never
 
 -- after an event they are in turn while the first is in flight, and no entry consumed the second before one consumed the
 -- first
 pub record StayOrdered (new : World) (d : DomainView) (places : List Place) (n m : ℕ) : Type 0 where
-  pub turn : IsSome (item_at d.state.flight n) → TurnOf new d places n m
+  pub turn : IsSome (item_at d.state.flight n) → OrderOf new d places n m
   pub order : is_in_order n m d.journal ≡ true
 
 -- ---- the order law
@@ -52,7 +52,7 @@ IsInOrder d = (n m : ℕ) → AreOrdered d n m → is_in_order n m d.journal ≡
 
 -- so it is of every domain
 abbrev pub AreInOrder : World → Type 0
-AreInOrder w = All IsInOrder w.edge.domains
+AreInOrder w = All IsInOrder w.agents.domains
 
 -- ---- what every event keeps of that
 
@@ -69,11 +69,11 @@ pub record StandsOnWay (platform : Platform) (w : World) (d : DomainView) (n : �
 
 -- each posted packet in flight that has a way stands on it; a packet that keeps its order behind such a one stands in turn
 -- with it; and the order law holds
-pub record IsInTurn (platform : Platform) (w : World) (d : DomainView) : Type 0 where
+pub record KeepsWayOrder (platform : Platform) (w : World) (d : DomainView) : Type 0 where
   pub ways : (n : ℕ) (packet : Sent) → slice_get (sent d.share d.journal) n ≡ Some packet → IsPosted packet.emission → HasWay d.share.domain packet → IsSome (item_at d.state.flight n) → StandsOnWay platform w d n packet
-  pub turns : (n m : ℕ) (pair : AreOrdered d n m) → IsSome (item_at d.state.flight n) → (places : List Place) → GoesBy platform d.share.domain pair.first places → TurnOf w d places n m
+  pub turns : (n m : ℕ) (pair : AreOrdered d n m) → IsSome (item_at d.state.flight n) → (places : List Place) → GoesBy platform d.share.domain pair.first places → OrderOf w d places n m
   pub order : IsInOrder d
 
 -- so it is of every domain
-abbrev pub AreInTurn : Platform → World → Type 0
-AreInTurn platform w = (place : ℕ) (d : DomainView) → slice_get w.edge.domains place ≡ Some d → IsInTurn platform w d
+abbrev pub KeepWayOrder : Platform → World → Type 0
+KeepWayOrder platform w = (place : ℕ) (d : DomainView) → slice_get w.agents.domains place ≡ Some d → KeepsWayOrder platform w d

@@ -11,14 +11,14 @@ use Rattle.port.specs.Configs.{Config}
 use Rattle.port.specs.Courses.{course_of}
 use Rattle.port.specs.Turns.{PortView}
 use Rattle.port.specs.Vetted.{may_go_on, requester_owner}
-use Rattle.port.specs.declared.course.Course.{Course}
-use Rattle.port.specs.declared.course.Course.TheVariants.{Forward, Stop, Stray}
-use Rattle.tenants.specs.Tenants.{Made, made}
+use Rattle.port.specs.declared.course.Forwarding.{Forwarding}
+use Rattle.port.specs.declared.course.Forwarding.TheVariants.{To, Stop, NoCase}
+use Rattle.domains.specs.Domains.{Made, made}
 use Rattle.topology.specs.declared.nodes.LinkEnd.{LinkEnd}
 use Rattle.topology.specs.declared.places.PortPlace.{PortPlace}
-use Rattle.hierarchy.specs.Moves.{channel_at, put_at}
-use Rattle.hierarchy.specs.Passes.{index_of, no_place, no_port}
-use Rattle.fabric_core.specs.Endings.{Taken, taken_at}
+use Rattle.interconnect.specs.Moves.{channel_at, put_at}
+use Rattle.interconnect.specs.Passes.{index_of, no_place, no_port}
+use Rattle.fabric_core.specs.Receipts.{Taken, taken_at}
 use Rattle.fabric_core.specs.World.{World, with_channels}
 
 -- a port of the fabric: its number among all, its switch, and what it is
@@ -27,13 +27,13 @@ pub record Site : Type 0 where
   pub node : ℕ
   pub config : Config
 
--- the lane of its switch with this number
-abbrev pub lane_end : Site → ℕ → LinkEnd
-lane_end site lane = record { node = site.node; lane = lane }
+-- the output of its switch with this number
+abbrev pub output_end : Site → ℕ → LinkEnd
+output_end site output = record { node = site.node; output = output }
 
--- has the lane of its switch no place for a packet of the class?
+-- has the output of its switch no place for a packet of the class?
 abbrev pub is_full_at : World → Site → ℕ → Class → Bool
-is_full_at w site lane class = is_full class (channel_at w.channels (lane_end site lane))
+is_full_at w site output class = is_full class (channel_at w.channels (output_end site output))
 
 -- ---- on
 
@@ -50,7 +50,7 @@ strayed w site t = record {
   routes = w.routes;
   channels = t.channels;
   ports = slice_set w.ports site.number (kept_by (port_number w site.number) t.frame);
-  edge = w.edge;
+  agents = w.agents;
   violations = w.violations;
   strays = w.strays;
 }
@@ -58,16 +58,16 @@ strayed w site t = record {
 abbrev pub may_pass : World → Site → Descriptor → Bool
 may_pass w site frame = may_go_on site.config.is_guarded (requester_owner w.routes.ports frame.head.header) frame
 
--- it goes on in a lane, if that has a place for it
+-- it goes on in an output, if that has a place for it
 abbrev pub forwarded : World → Site → Class → ℕ → Taken → Option World
-forwarded w site class lane t =
-    if is_full_at w site lane class then None
-    else (if may_pass w site t.frame then Some (with_channels w (put_at t.channels (lane_end site lane) t.frame))
+forwarded w site class output t =
+    if is_full_at w site output class then None
+    else (if may_pass w site t.frame then Some (with_channels w (put_at t.channels (output_end site output) t.frame))
     else Some (strayed w site t))
 
 -- ---- stopped
 
--- has the port's own lane no place for what answers a packet of the class? Only a non-posted request is answered.
+-- has the port's own output no place for what answers a packet of the class? Only a non-posted request is answered.
 abbrev pub answer_waits : World → Site → Class → Bool
 answer_waits w site Posted = false
 answer_waits w site NonPosted = is_full_at w site site.config.own Completion
@@ -83,9 +83,9 @@ refused_by w site report t None = strayed w site t
 refused_by w site report t (Some m) = record {
   tree = w.tree;
   routes = w.routes;
-  channels = answered_at t.channels (lane_end site site.config.own) m.sent;
+  channels = answered_at t.channels (output_end site site.config.own) m.sent;
   ports = w.ports;
-  edge = record { domains = m.domains; outboxes = w.edge.outboxes };
+  agents = record { domains = m.domains; outboxes = w.agents.outboxes };
   violations = w.violations ++ option_to_list report;
   strays = w.strays;
 }
@@ -94,14 +94,14 @@ refused_by w site report t (Some m) = record {
 abbrev pub stopped : World → Site → Class → Option Violation → Taken → Option World
 stopped w site class report t =
     if answer_waits w site class then None
-    else Some (refused_by w site report t (made w.edge.domains t.frame.domain (Refuse t.frame.number)))
+    else Some (refused_by w site report t (made w.agents.domains t.frame.domain (Refuse t.frame.number)))
 
 -- ---- by its course
 
-abbrev pub passed_by : World → Site → Class → Taken → Course → Option World
-passed_by w site class t (Forward lane) = forwarded w site class lane t
+abbrev pub passed_by : World → Site → Class → Taken → Forwarding → Option World
+passed_by w site class t (To output) = forwarded w site class output t
 passed_by w site class t (Stop report) = stopped w site class report t
-passed_by w site class t Stray = Some (strayed w site t)
+passed_by w site class t NoCase = Some (strayed w site t)
 
 abbrev pub passed : World → Site → Class → Taken → Option World
 passed w site class t = passed_by w site class t (course_of w.routes site.config t.frame.head)

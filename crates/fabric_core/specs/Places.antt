@@ -3,14 +3,14 @@ use Rattle.std.specs.Prelude.{◌≡◌, ℕ, ◌==◌, Bool, true, ◌&&◌, Li
 use Rattle.std.specs.List.{flat_map}
 use Rattle.frame_log.specs.Descriptor.{Descriptor}
 use Rattle.domain.specs.Domains.{DomainView}
-use Rattle.disposition.specs.Heads.{descriptor_of}
+use Rattle.request_handling.specs.Heads.{descriptor_of}
 use Rattle.domain.specs.Consumed.{AreConsumedOnce, times_waiting}
-use Rattle.disposition.specs.Emissions.{Emission}
+use Rattle.request_handling.specs.Emissions.{Emission}
 use Rattle.domain.specs.State.{item_at}
-use Rattle.edge.specs.Edges.{Outbox}
+use Rattle.agents.specs.Agents.{Outbox}
 use Rattle.link.specs.Channels.{Channel}
 use Rattle.port.specs.Turns.{PortView}
-pub use Rattle.tenants.specs.Aliens.{flown, flown_by}
+pub use Rattle.domains.specs.Aliens.{flown, flown_by}
 use Rattle.fabric_core.specs.World.{World, is_guarded}
 
 -- the packets of a direction, wherever in it they are
@@ -18,7 +18,7 @@ abbrev pub frames_on : Channel → List Descriptor
 frames_on c = c.egress ++ (c.wire ++ c.ingress)
 
 abbrev pub frames_from : List Channel → List Descriptor
-frames_from lanes = flat_map frames_on lanes
+frames_from outputs = flat_map frames_on outputs
 
 abbrev pub waiting_in : Outbox → List Descriptor
 waiting_in box = box.waiting
@@ -28,7 +28,7 @@ strays_of port = port.strays
 
 -- all packets of a fabric: on links, in outboxes, and those that nobody has a case for
 abbrev pub frames_of : World → List Descriptor
-frames_of w = flat_map frames_from w.channels ++ (flat_map waiting_in w.edge.outboxes ++ (flat_map strays_of w.ports ++ w.strays))
+frames_of w = flat_map frames_from w.channels ++ (flat_map waiting_in w.agents.outboxes ++ (flat_map strays_of w.ports ++ w.strays))
 
 -- is it the packet of this number of this domain?
 abbrev pub is_numbered : ℕ → ℕ → Descriptor → Bool
@@ -44,8 +44,8 @@ pub record IsFlown (domains : List DomainView) (frame : Descriptor) : Type 0 whe
 -- alien packets, which stay in flight at their homes for ever. In a guarded layout none is
 pub record ArePlaced (w : World) : Type 0 where
   pub lost : List Descriptor
-  pub once : (domain n : ℕ) → count_by (is_numbered domain n) (frames_of w ++ lost) ≡ times_waiting (flown w.edge.domains domain n)
-  pub flown : All (IsFlown w.edge.domains) (frames_of w ++ lost)
+  pub once : (domain n : ℕ) → count_by (is_numbered domain n) (frames_of w ++ lost) ≡ times_waiting (flown w.agents.domains domain n)
+  pub flown : All (IsFlown w.agents.domains) (frames_of w ++ lost)
   pub whole : is_guarded w ≡ true → lost ≡ []
 
 -- Each packet that a domain made is in flight, and stands in exactly one place; or exactly one entry of its journal
@@ -56,5 +56,5 @@ pub record HasPlaces (w : World) (d : DomainView) : Type 0 where
 
 -- so it is of the packets of every domain, and each shows what its bytes say of it
 pub record HaveOnePlace (w : World) : Type 0 where
-  pub each : (place : ℕ) (d : DomainView) → slice_get w.edge.domains place ≡ Some d → HasPlaces w d
-  pub shown : All (IsFlown w.edge.domains) (frames_of w)
+  pub each : (place : ℕ) (d : DomainView) → slice_get w.agents.domains place ≡ Some d → HasPlaces w d
+  pub shown : All (IsFlown w.agents.domains) (frames_of w)

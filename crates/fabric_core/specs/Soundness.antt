@@ -3,26 +3,26 @@ use Rattle.std.specs.Prelude.{◌≡◌, ◌≢◌, ℕ, List, [], All, length, 
 use Rattle.std.specs.List.{flat_map}
 use Rattle.std.specs.Option.{IfSome}
 use Rattle.fab_types.specs.declared.place.Direction.{Direction}
-use Rattle.fab_types.specs.declared.place.Origin.{Origin}
+use Rattle.fab_types.specs.declared.origin.Origin.{Origin}
 use Rattle.bridge.specs.Bridges.{of_platform}
-use Rattle.layout.specs.Platform.{Platform}
-use Rattle.layout.specs.Share.{Share}
+use Rattle.platform.specs.Platform.{Platform}
+use Rattle.platform.specs.Share.{Share}
 use Rattle.domain.specs.Domains.{DomainView}
 use Rattle.domain.specs.Machine.{replay}
-use Rattle.disposition.specs.Emissions.{Emission}
-use Rattle.disposition.specs.WellMade.{IsWellMade}
-use Rattle.edge.specs.Edges.{waiting_of}
+use Rattle.request_handling.specs.Emissions.{Emission}
+use Rattle.request_handling.specs.WellMade.{IsWellMade}
+use Rattle.agents.specs.Agents.{waiting_of}
 use Rattle.port.specs.Configs.{Config}
 use Rattle.port.specs.Turns.{PortView}
-use Rattle.tenants.specs.Tenants.{tenants_of}
+use Rattle.domains.specs.Domains.{starting_domains}
 use Rattle.topology.specs.Links.{sender_of}
 use Rattle.topology.specs.Topologies.{tree_of}
 use Rattle.topology.specs.declared.links.Link.{Link}
 use Rattle.topology.specs.declared.nodes.LinkEnd.{LinkEnd}
-use Rattle.hierarchy.specs.Moves.{channel_at}
-use Rattle.hierarchy.specs.Starts.{ports_of}
-use Rattle.passage.specs.Guarded.{IsGuarded}
-use Rattle.passage.specs.Sound.{IsSound}
+use Rattle.interconnect.specs.Moves.{channel_at}
+use Rattle.interconnect.specs.Starts.{ports_of}
+use Rattle.guarded_routes.specs.Guarded.{IsGuarded}
+use Rattle.guarded_routes.specs.Sound.{IsSound}
 use Rattle.fabric_core.specs.Events.{link_of}
 use Rattle.fabric_core.specs.Places.{frames_on, strays_of}
 use Rattle.fabric_core.specs.World.{World}
@@ -38,7 +38,7 @@ pub record IsOfPlatform (platform : Platform) (w : World) : Type 0 where
   pub tree : w.tree ≡ tree_of platform
   pub routes : w.routes ≡ of_platform platform
   pub configs : map config_of w.ports ≡ map config_of (ports_of platform)
-  pub shares : map share_of w.edge.domains ≡ map share_of (tenants_of platform)
+  pub shares : map share_of w.agents.domains ≡ map share_of (starting_domains platform)
 
 -- no direction of a link is sent from this end
 abbrev pub IsUnsent : List Link → LinkEnd → Type 0
@@ -48,7 +48,7 @@ IsUnsent links end = (direction : Direction) → sender_of links direction ≢ S
 pub record AreSound (platform : Platform) (w : World) : Type 0 where
   pub links : (direction : Direction) (end : LinkEnd) → sender_of w.tree.links direction ≡ Some end → All (IsSound platform direction) (frames_on (channel_at w.channels end))
   pub elsewhere : (end : LinkEnd) → IsUnsent w.tree.links end → frames_on (channel_at w.channels end) ≡ []
-  pub outboxes : (origin : Origin) → All (IsSound platform (link_of origin)) (waiting_of w.edge.outboxes origin)
+  pub outboxes : (origin : Origin) → All (IsSound platform (link_of origin)) (waiting_of w.agents.outboxes origin)
   pub ports : flat_map strays_of w.ports ≡ []
   pub strays : w.strays ≡ []
 
@@ -73,4 +73,4 @@ pub record IsGuardedFabric (w : World) : Type 0 where
   pub guarded : IsGuarded platform
   pub of_it : IsOfPlatform platform w
   pub sound : AreSound platform w
-  pub domains : All IsWellKept w.edge.domains
+  pub domains : All IsWellKept w.agents.domains

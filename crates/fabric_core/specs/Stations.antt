@@ -2,10 +2,10 @@
 use Rattle.std.specs.Prelude.{Bool, List, [], ◌∷◌, ◌++◌, map}
 use Rattle.fab_types.specs.declared.class.Class.{Class}
 use Rattle.fab_types.specs.declared.class.Class.TheVariants.{Posted, NonPosted, Completion}
-use Rattle.fab_types.specs.declared.place.Origin.TheVariants as origin
-use Rattle.edge.specs.Edges.{waiting_of}
-use Rattle.hierarchy.specs.Passes.{input_of}
-use Rattle.hierarchy.specs.Quiet.{is_quiet_at, none_received_at}
+use Rattle.fab_types.specs.declared.origin.Origin.TheVariants as origin
+use Rattle.agents.specs.Agents.{waiting_of}
+use Rattle.interconnect.specs.Passes.{input_of}
+use Rattle.interconnect.specs.Quiet.{is_quiet_at, none_received_at}
 use Rattle.link.specs.Quiet.{none_eligible}
 use Rattle.topology.specs.Links.{sender_of}
 use Rattle.fabric_core.specs.Aliens.{to_function, to_host}
@@ -37,8 +37,8 @@ events_at s = map (taking s) classes ++ others_at s
 
 -- no packet may leave there, and no credits are to be told
 abbrev pub is_quiet : World → Station → Bool
-is_quiet w (station.FunctionOutbox function) = none_eligible (waiting_of w.edge.outboxes (origin.Function function))
-is_quiet w (station.HostOutbox domain) = none_eligible (waiting_of w.edge.outboxes (origin.Host domain))
+is_quiet w (station.FunctionOutbox function) = none_eligible (waiting_of w.agents.outboxes (origin.Function function))
+is_quiet w (station.HostOutbox domain) = none_eligible (waiting_of w.agents.outboxes (origin.Host domain))
 is_quiet w (station.Port port) = none_received_at w.channels (input_of w.tree.places port)
 is_quiet w (station.Link direction) = is_quiet_at w.channels (sender_of w.tree.links direction)
 is_quiet w station.Host = none_received_at w.channels (sender_of w.tree.links to_host)

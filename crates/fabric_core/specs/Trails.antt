@@ -2,17 +2,17 @@
 use Rattle.std.specs.Prelude.{◌≡◌, ◌⊎◌, ℕ, Bool, true, false, ◌&&◌, ◌||◌, not, List, [], ◌∷◌, ◌++◌, All, Option, Some, None, option_map}
 use Rattle.std.specs.List.{flat_map}
 use Rattle.fab_types.specs.declared.place.Direction.{Direction}
-use Rattle.fab_types.specs.declared.place.Origin.TheVariants as origin
+use Rattle.fab_types.specs.declared.origin.Origin.TheVariants as origin
 use Rattle.fab_types.specs.declared.place.Place.{Place}
 use Rattle.fab_types.specs.declared.place.Place.TheVariants as place
 use Rattle.fab_types.specs.declared.place.Place.TheVariants.{Egress, Wire, Ingress}
 use Rattle.fab_types.specs.declared.place.Way.TheVariants.{Up, Down}
 use Rattle.frame_log.specs.Descriptor.{Descriptor}
-use Rattle.edge.specs.Edges.{Outbox, waiting_of}
+use Rattle.agents.specs.Agents.{Outbox, waiting_of}
 use Rattle.link.specs.Channels.{Channel}
 use Rattle.topology.specs.Links.{sender_of}
 use Rattle.topology.specs.declared.links.Link.{Link}
-use Rattle.hierarchy.specs.Moves.{channel_at}
+use Rattle.interconnect.specs.Moves.{channel_at}
 use Rattle.fabric_core.specs.World.{World}
 
 -- ---- where packets stand
@@ -40,7 +40,7 @@ standing_in links channels boxes (Wire direction) = wire_of (channel_in links ch
 standing_in links channels boxes (Ingress direction) = ingress_of (channel_in links channels direction)
 
 abbrev pub standing_at : World → Place → List Descriptor
-standing_at w place = standing_in w.tree.links w.channels w.edge.outboxes place
+standing_at w place = standing_in w.tree.links w.channels w.agents.outboxes place
 
 -- the packets at places that follow each other
 abbrev pub trail : World → List Place → List Descriptor
@@ -98,7 +98,7 @@ abbrev pub StandOn : (Place → List Descriptor) → List Place → (Descriptor 
 StandOn standing places is_one = (place : Place) → In place places ⊎ All (λ (x : Descriptor). is_one x ≡ false) (standing place)
 
 -- of these places alone, and with the first kind in front
-pub record InTurn (standing : Place → List Descriptor) (places : List Place) (first second : Descriptor → Bool) : Type 0 where
+pub record InOrderOnWay (standing : Place → List Descriptor) (places : List Place) (first second : Descriptor → Bool) : Type 0 where
   pub ahead : is_ahead first second (flat_map standing places) ≡ true
   pub first_on : StandOn standing places first
   pub second_on : StandOn standing places second

@@ -3,16 +3,16 @@
 use Rattle.std.specs.Prelude.{◌≡◌, ⊤, ℕ, false, Option, Some, None, IsSome, slice_index_or}
 use Rattle.fab_types.specs.declared.class.Class.{Class}
 use Rattle.domain.specs.declared.entry.Entry.TheVariants as entry
-use Rattle.edge.specs.Edges.{accessed, submitted}
+use Rattle.agents.specs.Agents.{accessed, submitted}
 use Rattle.port.specs.Courses.{course_of}
-use Rattle.port.specs.declared.course.Course.{Course}
-use Rattle.port.specs.declared.course.Course.TheVariants.{Forward, Stop, Stray}
-use Rattle.tenants.specs.Tenants.{Emits, made, made_at, place_of_function}
+use Rattle.port.specs.declared.course.Forwarding.{Forwarding}
+use Rattle.port.specs.declared.course.Forwarding.TheVariants.{To, Stop, NoCase}
+use Rattle.domains.specs.Domains.{Emits, made, made_at, place_of_function}
 use Rattle.topology.specs.declared.places.PortPlace.{PortPlace}
-use Rattle.hierarchy.specs.Passes.{index_of, no_place}
+use Rattle.interconnect.specs.Passes.{index_of, no_place}
 use Rattle.fabric_core.specs.declared.event.Event.{Event}
 use Rattle.fabric_core.specs.declared.event.Event.TheVariants.{Submit, Tick, Mmio, Enter, Pass, Send, Take, Credit, Root, Arrive}
-use Rattle.fabric_core.specs.Endings.{Ending, Relay, Carry, Deliver, Nobody, Taken, ending_at_function, ending_at_host, taken, taken_at, to_function, to_host}
+use Rattle.fabric_core.specs.Receipts.{Receipt, Relay, Carry, Deliver, Nobody, Taken, receipt_at_function, receipt_at_host, taken, taken_at, to_function, to_host}
 use Rattle.fabric_core.specs.Passing.{Site, may_pass, site_at}
 use Rattle.fabric_core.specs.Settling.{EntryWants, entry_by_function, entry_by_host}
 use Rattle.fabric_core.specs.World.{World}
@@ -24,11 +24,11 @@ OfTaken wants (Some t) = wants t
 
 -- ---- at a port: for an answer, for a report, or for a packet that is kept
 
-abbrev pub CourseWants : World → Site → Taken → Course → Type 0
-CourseWants w site t (Forward lane) = may_pass w site t.frame ≡ false
-CourseWants w site t (Stop None) = EntryWants (made w.edge.domains t.frame.domain (entry.Refuse t.frame.number))
+abbrev pub CourseWants : World → Site → Taken → Forwarding → Type 0
+CourseWants w site t (To output) = may_pass w site t.frame ≡ false
+CourseWants w site t (Stop None) = EntryWants (made w.agents.domains t.frame.domain (entry.Refuse t.frame.number))
 CourseWants w site t (Stop (Some report)) = ⊤
-CourseWants w site t Stray = ⊤
+CourseWants w site t NoCase = ⊤
 
 abbrev pub TurnWants : World → Site → Taken → Type 0
 TurnWants w site t = CourseWants w site t (course_of w.routes site.config t.frame.head)
@@ -43,24 +43,24 @@ NumberWants w class (Some i) = PlaceWants w class i (slice_index_or w.tree.place
 -- ---- at the host and at functions
 
 -- what the host sends down again wants none
-abbrev pub RootWantsBy : World → Taken → Ending → Type 0
+abbrev pub RootWantsBy : World → Taken → Receipt → Type 0
 RootWantsBy w t Relay = ⊥
-RootWantsBy w t Carry = EntryWants (entry_by_host w.edge.domains t.frame Carry)
-RootWantsBy w t Deliver = EntryWants (entry_by_host w.edge.domains t.frame Deliver)
+RootWantsBy w t Carry = EntryWants (entry_by_host w.agents.domains t.frame Carry)
+RootWantsBy w t Deliver = EntryWants (entry_by_host w.agents.domains t.frame Deliver)
 RootWantsBy w t Nobody = ⊤
 
 abbrev pub RootWants : World → Taken → Type 0
-RootWants w t = RootWantsBy w t (ending_at_host t.frame)
+RootWants w t = RootWantsBy w t (receipt_at_host t.frame)
 
 abbrev pub ArriveWants : World → ℕ → Taken → Type 0
-ArriveWants w function t = EntryWants (entry_by_function w.edge.domains function t.frame (ending_at_function w function t.frame))
+ArriveWants w function t = EntryWants (entry_by_function w.agents.domains function t.frame (receipt_at_function w function t.frame))
 
 -- ---- each event
 
 abbrev pub WantsMemory : World → Event → Type 0
-WantsMemory w (Submit function bytes) = IsSome (submitted w.edge function bytes)
-WantsMemory w (Tick function) = Emits (made_at w.edge.domains (entry.Tick function) (place_of_function w.edge.domains function))
-WantsMemory w (Mmio domain access) = IsSome (accessed w.edge domain access)
+WantsMemory w (Submit function bytes) = IsSome (submitted w.agents function bytes)
+WantsMemory w (Tick function) = Emits (made_at w.agents.domains (entry.Tick function) (place_of_function w.agents.domains function))
+WantsMemory w (Mmio domain access) = IsSome (accessed w.agents domain access)
 WantsMemory w (Enter origin class) = ⊥
 WantsMemory w (Pass port class) = NumberWants w class (index_of w.tree.places port)
 WantsMemory w (Send direction class) = ⊥

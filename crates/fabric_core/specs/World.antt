@@ -3,33 +3,33 @@ use Rattle.std.specs.Prelude.{Bool, List, ◌++◌, ◌∷◌, []}
 use Rattle.std.specs.List.{list_all}
 use Rattle.fab_types.specs.declared.violation.Violation.{Violation}
 use Rattle.frame_log.specs.Descriptor.{Descriptor}
-use Rattle.bridge.specs.Bridges.{Tree as Routes, of_platform}
-use Rattle.layout.specs.Platform.{Platform}
-use Rattle.layout.specs.Share.{is_guarded_port}
+use Rattle.bridge.specs.Bridges.{Routes, of_platform}
+use Rattle.platform.specs.Platform.{Platform}
+use Rattle.platform.specs.Share.{is_guarded_port}
 use Rattle.link.specs.Channels.{Channel}
 use Rattle.port.specs.Turns.{PortView}
 use Rattle.topology.specs.Topologies.{Tree, tree_of}
-use Rattle.hierarchy.specs.Starts.{nodes_of, ports_of}
-use Rattle.hierarchy.specs.Views.{HierarchyView, channels, channels_of}
-use Rattle.edge.specs.Edges.{EdgeView, edge_of}
+use Rattle.interconnect.specs.Starts.{nodes_of, ports_of}
+use Rattle.interconnect.specs.Views.{InterconnectView, channels, channels_of}
+use Rattle.agents.specs.Agents.{AgentsView, agents_of}
 
 pub record World : Type 0 where
   pub tree : Tree  -- the ends of each link, and the places of the ports
   pub routes : Routes  -- the switches and the downstream ports
   pub channels : List (List Channel)  -- each direction of a link, by the end that it is sent from
   pub ports : List PortView  -- in the order of the tree's places
-  pub edge : EdgeView  -- the domains, and what they have emitted
+  pub agents : AgentsView  -- the domains, and what they have emitted
   pub violations : List Violation  -- what ports reported, oldest first
   pub strays : List Descriptor  -- what the host or a function took and has no case for, oldest first
 
 -- the world of these parts
-abbrev pub world_over : HierarchyView → EdgeView → List Violation → List Descriptor → World
-world_over h edge violations strays = record {
+abbrev pub world_over : InterconnectView → AgentsView → List Violation → List Descriptor → World
+world_over h agents violations strays = record {
   tree = h.tree;
   routes = h.routes;
   channels = channels h;
   ports = h.ports;
-  edge = edge;
+  agents = agents;
   violations = violations;
   strays = strays;
 }
@@ -39,18 +39,18 @@ abbrev pub is_guarded : World → Bool
 is_guarded w = list_all is_guarded_port w.routes.ports
 
 abbrev pub with_channels : World → List (List Channel) → World
-with_channels w channels = record { tree = w.tree; routes = w.routes; channels = channels; ports = w.ports; edge = w.edge; violations = w.violations; strays = w.strays }
+with_channels w channels = record { tree = w.tree; routes = w.routes; channels = channels; ports = w.ports; agents = w.agents; violations = w.violations; strays = w.strays }
 
-abbrev pub with_edge : World → EdgeView → World
-with_edge w edge = record { tree = w.tree; routes = w.routes; channels = w.channels; ports = w.ports; edge = edge; violations = w.violations; strays = w.strays }
+abbrev pub with_agents : World → AgentsView → World
+with_agents w agents = record { tree = w.tree; routes = w.routes; channels = w.channels; ports = w.ports; agents = agents; violations = w.violations; strays = w.strays }
 
--- the directions and the edge are these
-abbrev pub with_both : World → List (List Channel) → EdgeView → World
-with_both w channels edge = with_edge (with_channels w channels) edge
+-- the directions and the agents are these
+abbrev pub with_both : World → List (List Channel) → AgentsView → World
+with_both w channels agents = with_agents (with_channels w channels) agents
 
 -- the packet was taken, which leaves these directions, and nobody has a case for it
 abbrev pub with_stray : World → List (List Channel) → Descriptor → World
-with_stray w channels frame = record { tree = w.tree; routes = w.routes; channels = channels; ports = w.ports; edge = w.edge; violations = w.violations; strays = w.strays ++ frame ∷ [] }
+with_stray w channels frame = record { tree = w.tree; routes = w.routes; channels = channels; ports = w.ports; agents = w.agents; violations = w.violations; strays = w.strays ++ frame ∷ [] }
 
 -- a layout's fabric, in which nothing was begun
 abbrev pub world_of : Platform → World
@@ -59,7 +59,7 @@ world_of platform = record {
   routes = of_platform platform;
   channels = channels_of (nodes_of platform);
   ports = ports_of platform;
-  edge = edge_of platform;
+  agents = agents_of platform;
   violations = [];
   strays = [];
 }

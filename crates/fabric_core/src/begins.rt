@@ -3,36 +3,36 @@
 ghost use Rattle.std.specs.Prelude.{List};
 ghost use Rattle.fab_types.specs.declared.violation.Violation.{Violation};
 ghost use Rattle.frame_log.specs.Descriptor.{Descriptor};
-ghost use Rattle.hierarchy.specs.Views.{HierarchyView};
+ghost use Rattle.interconnect.specs.Views.{InterconnectView};
 ghost use Rattle.fabric_core.specs.declared.event.Event.TheVariants.{Mmio, Submit, Tick};
 ghost use Rattle.fabric_core.specs.Events.{StepsTo};
 ghost use Rattle.fabric_core.specs.World.{world_over};
 
-use domain::HostAccess;
-use edge::Edge;
-use fab_types::{Bdf, BeginFault, DomainId, MmioFault, Outcome, SubmitFault, TickFault};
-use frame_log::PacketBytes;
+use agents::Agents;
+use fab_types::{
+    Bdf, BeginFault, DomainId, HostAccess, MmioFault, Outcome, PacketBytes, SubmitFault, TickFault,
+};
 use std::sync::Wait;
 
 pub(crate) fn submit<R: Wait>(
     rt: &R,
-    edge: &mut Edge,
+    agents: &mut Agents,
     function: Bdf,
     bytes: &PacketBytes,
 ) -> Outcome
-    ensures { (h : HierarchyView) (violations : List Violation) (strays : List Descriptor) → StepsTo (world_over h edge.old violations strays) (Submit function bytes.now) result (world_over h edge.new violations strays) }
+    ensures { (h : InterconnectView) (violations : List Violation) (strays : List Descriptor) → StepsTo (world_over h agents.old violations strays) (Submit function bytes.now) result (world_over h agents.new violations strays) }
 {
-    match edge.submit(rt, function, bytes.as_slice()) {
+    match agents.submit(rt, function, bytes.as_slice()) {
         Ok(()) => Outcome::Moved,
         Err(SubmitFault::NoMemory) => Outcome::NoMemory,
         Err(fault) => Outcome::Refused(BeginFault::Submit(fault)),
     }
 }
 
-pub(crate) fn tick<R: Wait>(rt: &R, edge: &mut Edge, function: Bdf) -> Outcome
-    ensures { (h : HierarchyView) (violations : List Violation) (strays : List Descriptor) → StepsTo (world_over h edge.old violations strays) (Tick function) result (world_over h edge.new violations strays) }
+pub(crate) fn tick<R: Wait>(rt: &R, agents: &mut Agents, function: Bdf) -> Outcome
+    ensures { (h : InterconnectView) (violations : List Violation) (strays : List Descriptor) → StepsTo (world_over h agents.old violations strays) (Tick function) result (world_over h agents.new violations strays) }
 {
-    match edge.tick(rt, function) {
+    match agents.tick(rt, function) {
         Ok(()) => Outcome::Moved,
         Err(TickFault::NoMemory) => Outcome::NoMemory,
         Err(fault) => Outcome::Refused(BeginFault::Tick(fault)),
@@ -41,13 +41,13 @@ pub(crate) fn tick<R: Wait>(rt: &R, edge: &mut Edge, function: Bdf) -> Outcome
 
 pub(crate) fn mmio<R: Wait>(
     rt: &R,
-    edge: &mut Edge,
+    agents: &mut Agents,
     domain: DomainId,
     access: &HostAccess,
 ) -> Outcome
-    ensures { (h : HierarchyView) (violations : List Violation) (strays : List Descriptor) → StepsTo (world_over h edge.old violations strays) (Mmio domain access.now) result (world_over h edge.new violations strays) }
+    ensures { (h : InterconnectView) (violations : List Violation) (strays : List Descriptor) → StepsTo (world_over h agents.old violations strays) (Mmio domain access.now) result (world_over h agents.new violations strays) }
 {
-    match edge.mmio(rt, domain, access) {
+    match agents.mmio(rt, domain, access) {
         Ok(()) => Outcome::Moved,
         Err(MmioFault::NoMemory) => Outcome::NoMemory,
         Err(fault) => Outcome::Refused(BeginFault::Mmio(fault)),

@@ -1,9 +1,9 @@
 //! Two runs, compared by the journal of one domain.
 
 ghost use Rattle.std.specs.Prelude.{◌≡◌, ◌↔◌, Err, IfOk, IsTrue, None, is_some};
-ghost use Rattle.edge.specs.Edges.{AreReplayed};
+ghost use Rattle.agents.specs.Agents.{AreReplayed};
 ghost use Rattle.fab_types.specs.declared.faults.runs.CompareFault.{CompareFault};
-ghost use Rattle.layout.specs.Owners.{owns_port};
+ghost use Rattle.platform.specs.Owners.{owns_port};
 ghost use Rattle.fabric_core.specs.Comparisons.{Compares, IsRun, journal_of};
 ghost use Rattle.fabric_core.specs.Isolation.{domain_of};
 ghost use Rattle.fabric_core.specs.World.{world_of};
@@ -11,7 +11,8 @@ ghost use Rattle.fabric_core.specs.World.{world_of};
 use crate::event::Event;
 use crate::fabric::Fabric;
 use fab_types::{CompareFault, DomainId, NoMemory};
-use layout::{Layout, PortLine};
+use layout::Layout;
+use platform::{DownstreamPort, owns_port};
 use std::alloc::Global;
 use std::sync::Wait;
 
@@ -25,18 +26,12 @@ pub enum Comparison {
     Equal(Fabric, Fabric),
 }
 
-fn owns_port(ports: &[PortLine], domain: DomainId) -> bool
-    ensures { result ≡ owns_port ports.now domain }
-{
-    ports.iter().any(|port| port.owner == domain)
-}
-
 /// Does the layout's fabric have the domain?
-#[tactic(auto, using(crate::proofs::Numbers::has_domain))]
+#[tactic(auto, using(crate::proofs::effect::Numbers::has_domain))]
 pub(crate) fn has_domain(layout: &Layout, domain: DomainId) -> bool
     ensures { result ≡ is_some (domain_of (world_of layout.now) domain) }
 {
-    // It tells that the number is 1 to 31.
+    // for the proof: the number is 1 to 31
     let _ = domain.get();
     owns_port(layout.ports(), domain)
 }
@@ -49,7 +44,7 @@ fn ran<R: Wait>(
     events: &[Event],
 ) -> Result<Fabric, NoMemory>
     ensures run { IfOk result (λ fabric. IsRun (world_of layout.now) events.now fabric) }
-    ensures alone { IfOk result (λ fabric. AreReplayed fabric.edge.domains) }
+    ensures alone { IfOk result (λ fabric. AreReplayed fabric.agents.domains) }
 {
     let mut fabric = Fabric::new(alloc, layout)?;
     let _outcomes = fabric.run(rt, alloc, events)?;

@@ -1,6 +1,4 @@
-use domain::HostAccess;
-use fab_types::{Bdf, Class, Direction, DomainId, Origin, PortId};
-use frame_log::PacketBytes;
+use fab_types::{Bdf, Class, Direction, DomainId, HostAccess, Origin, PacketBytes, PortId};
 
 /// What may happen next in a fabric.
 #[derive(Debug, Drop)]

@@ -3,10 +3,10 @@
 ghost use Rattle.std.specs.Prelude.{◌≡◌, All, IfOk, OnErr, option_map, true};
 ghost use Rattle.std.specs.List.{list_all};
 ghost use Rattle.std.specs.Option.{option_copied};
-ghost use Rattle.edge.specs.Edges.{AreReplayed};
+ghost use Rattle.agents.specs.Agents.{AreReplayed};
 ghost use Rattle.fab_types.specs.declared.outcome.Outcome.TheVariants.{Idle};
-ghost use Rattle.layout.specs.Share.{is_guarded_port};
-ghost use Rattle.tenants.specs.Tenants.{domain_at, place_of};
+ghost use Rattle.platform.specs.Share.{is_guarded_port};
+ghost use Rattle.domains.specs.Domains.{domain_at, place_of};
 ghost use Rattle.fabric_core.specs.Credits.{HasCredits, channel_of};
 ghost use Rattle.fabric_core.specs.Events.{StepsTo};
 ghost use Rattle.fabric_core.specs.Isolation.{AreApart, IsApart, home};
@@ -24,12 +24,12 @@ use crate::quiet::is_quiet;
 use crate::station::Station;
 use crate::step::step;
 use crate::whose::home;
+use agents::Agents;
 use credit::Limits;
 use domain::Domain;
-use edge::Edge;
 use fab_types::{Direction, DomainId, NoMemory, Outcome, Violation};
 use frame_log::Frame;
-use hierarchy::Hierarchy;
+use interconnect::Interconnect;
 use layout::Layout;
 use port::Reports;
 use std::alloc::Global;
@@ -40,8 +40,8 @@ use std::sync::Wait;
 /// its ports reported, and the packets that the host or a function has no case for. A contract sees a `World`.
 #[derive(Drop)]
 pub struct Fabric {
-    pub(crate) hierarchy: Hierarchy,
-    pub(crate) edge: Edge,
+    pub(crate) interconnect: Interconnect,
+    pub(crate) agents: Agents,
     pub(crate) reports: Reports,
     pub(crate) strays: Vec<Frame>,
 }
@@ -73,12 +73,12 @@ impl Fabric {
         ensures guarded { IfOk result (λ fabric. is_guarded fabric ≡ list_all is_guarded_port layout.now.ports) }
         ensures isolated { IfOk result (λ fabric. is_guarded fabric ≡ true → NoneCanTell fabric) }
     {
-        // What holds of every platform, and what no domain can tell, are laws.
+        // for the proof: what holds of every platform, and what no domain can tell
         let _ = layout.ports();
         other_domains_can_be_taken_out();
         Ok(Fabric {
-            hierarchy: Hierarchy::new(alloc, layout)?,
-            edge: Edge::new(alloc, layout)?,
+            interconnect: Interconnect::new(alloc, layout)?,
+            agents: Agents::new(alloc, layout)?,
             reports: Reports::new(alloc),
             strays: Vec::new(alloc),
         })
@@ -86,16 +86,16 @@ impl Fabric {
 
     /// The domain of this number, if it owns a port of the layout.
     pub fn domain(&self, number: DomainId) -> Option<&Domain>
-        ensures { option_copied result ≡ domain_at self.now.edge.domains (place_of self.now.edge.domains number) }
+        ensures { option_copied result ≡ domain_at self.now.agents.domains (place_of self.now.agents.domains number) }
     {
-        self.edge.domain(number)
+        self.agents.domain(number)
     }
 
     /// All domains, by rising number.
     pub fn domains(&self) -> &[Domain]
-        ensures { result.now ≡ self.now.edge.domains }
+        ensures { result.now ≡ self.now.agents.domains }
     {
-        self.edge.domains()
+        self.agents.domains()
     }
 
     /// The violations that ports reported (PCIe 4.0, 6.12.1), in the order of the events.
@@ -113,8 +113,8 @@ impl Fabric {
         ensures value { result ≡ option_map (λ channel. channel.left) (channel_of self.now direction) }
         ensures bounded { HasCredits self.now direction }
     {
-        let end = self.hierarchy.sender(direction)?;
-        Some(self.hierarchy.credits_at(end))
+        let end = self.interconnect.sender(direction)?;
+        Some(self.interconnect.credits_at(end))
     }
 
     /// The domain that an event is of, as the fabric stands. A begin is of the domain whose function or host begins it,
@@ -124,7 +124,7 @@ impl Fabric {
     pub fn home(&self, event: &Event) -> Option<DomainId>
         ensures { result ≡ home self.now event.now }
     {
-        home(&self.hierarchy, &self.edge, event)
+        home(&self.interconnect, &self.agents, event)
     }
 
     /// Can nothing move at this station, before something is put there? No packet may leave it, whatever its class, and
@@ -134,7 +134,7 @@ impl Fabric {
         ensures value { result ≡ is_quiet self.now station.now }
         ensures idle { result ≡ true → All (λ event. StepsTo self.now event Idle self.now) (events_at station.now) }
     {
-        is_quiet(&self.hierarchy, &self.edge, station)
+        is_quiet(&self.interconnect, &self.agents, station)
     }
 
     /// Makes one event, and says what came of it. `Moved`: the fabric did what the event does. `Idle`: there was
@@ -162,8 +162,8 @@ impl Fabric {
         every_event_keeps_a_fabric();
         step(
             rt,
-            &mut self.hierarchy,
-            &mut self.edge,
+            &mut self.interconnect,
+            &mut self.agents,
             &mut self.reports,
             &mut self.strays,
             event,
@@ -186,8 +186,8 @@ impl Fabric {
         events: &[Event],
     ) -> Result<Vec<Outcome>, NoMemory>
         ensures run { IfOk result (λ outcomes. Run self.old events.now outcomes.items self.new) }
-        ensures begins { IfOk result (λ outcomes. HaveBegun events.now outcomes.items self.old.edge.domains self.new.edge.domains) }
-        ensures alone { IfOk result (λ outcomes. AreReplayed self.new.edge.domains) }
+        ensures begins { IfOk result (λ outcomes. HaveBegun events.now outcomes.items self.old.agents.domains self.new.agents.domains) }
+        ensures alone { IfOk result (λ outcomes. AreReplayed self.new.agents.domains) }
         ensures controls { is_guarded self.new ≡ is_guarded self.old }
         ensures guarded { IfOk result (λ outcomes. is_guarded self.new ≡ true → IsOrderly self.new) }
         ensures apart { IfOk result (λ outcomes. is_guarded self.old ≡ true → AreApart self.old events.now outcomes.items self.new) }
@@ -200,8 +200,8 @@ impl Fabric {
             let outcome = self.step(rt, event);
             outcomes.push_reserved(outcome);
         }
-        // It tells that each state is the replay of its journal, and what a fabric keeps.
-        let _ = self.edge.domains();
+        // for the proof: each state is the replay of its journal, and what a fabric keeps
+        let _ = self.agents.domains();
         Ok(outcomes)
     }
 }

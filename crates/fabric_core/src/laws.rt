@@ -11,15 +11,15 @@ ghost use Rattle.domain.specs.Sent.{Sent, sent};
 ghost use Rattle.domain.specs.State.{item_at};
 ghost use Rattle.domain.specs.declared.entry.Entry.TheVariants.{Refuse};
 ghost use Rattle.domain.specs.Domains.{DomainView};
-ghost use Rattle.layout.specs.Platform.{Platform};
-ghost use Rattle.passage.specs.Guarded.{IsGuarded};
-ghost use Rattle.port.specs.Lanes.{class_of};
-ghost use Rattle.tenants.specs.Tenants.{Made, made};
+ghost use Rattle.platform.specs.Platform.{Platform};
+ghost use Rattle.guarded_routes.specs.Guarded.{IsGuarded};
+ghost use Rattle.lane.specs.Lanes.{class_of};
+ghost use Rattle.domains.specs.Domains.{Made, made};
 ghost use Rattle.fabric_core.specs.declared.event.Event.{Event};
 ghost use Rattle.fabric_core.specs.Events.{effect};
-ghost use Rattle.fabric_core.specs.Invariant.{IsFabric, IsKept};
+ghost use Rattle.fabric_core.specs.Invariant.{IsFabric, IsConsistent};
 ghost use Rattle.fabric_core.specs.Isolation.{IsApart};
-ghost use Rattle.fabric_core.specs.Orders.{AreOrdered, GoesBy, KeepsToWay, StayOrdered, TurnOf};
+ghost use Rattle.fabric_core.specs.Orders.{AreOrdered, GoesBy, KeepsToWay, StayOrdered, OrderOf};
 ghost use Rattle.fabric_core.specs.Places.{HaveOnePlace, IsFlown};
 ghost use Rattle.fabric_core.specs.Runs.{Run};
 ghost use Rattle.fabric_core.specs.Soundness.{IsGuardedFabric};
@@ -29,7 +29,7 @@ ghost use Rattle.fabric_core.specs.World.{World, is_guarded, world_of};
 /// Every event keeps what a fabric keeps: each packet in flight stands in exactly one place, or was lost as an alien
 /// packet, which in a guarded layout none is.
 pub fn every_event_keeps_the_invariant()
-    ensures { (old new : World) (event : Event) → IsKept old → effect old event ≡ Some new → IsKept new }
+    ensures { (old new : World) (event : Event) → IsConsistent old → effect old event ≡ Some new → IsConsistent new }
 {}
 
 /// A packet that its home has refused at a port is answered only where it is a non-posted request, and by a completion.
@@ -45,8 +45,9 @@ pub fn fabrics_start_sound()
 /// Every event keeps a guarded fabric: each packet goes on to where somebody has a case for it, and none is ever
 /// stray.
 pub fn guarded_fabrics_stay_sound()
-    ensures { (old new : World) (event : Event) → IsKept old → IsGuardedFabric old → effect old event ≡ Some new → IsGuardedFabric new }
+    ensures { (old new : World) (event : Event) → IsConsistent old → IsGuardedFabric old → effect old event ≡ Some new → IsGuardedFabric new }
 {
+    // for the proof: the law of the controls
     acs::guarded_requests_go_up();
 }
 
@@ -67,10 +68,11 @@ pub fn packets_have_one_place()
 /// No entry of the domain's journal consumes the second before one consumes the first.
 pub fn packets_keep_their_order()
     ensures { (old new : World) (event : Event) (fabric : IsFabric old) (guarded : is_guarded old ≡ true) → effect old event ≡ Some new
-        → (place : ℕ) (d d' : DomainView) → slice_get old.edge.domains place ≡ Some d → slice_get new.edge.domains place ≡ Some d'
+        → (place : ℕ) (d d' : DomainView) → slice_get old.agents.domains place ≡ Some d → slice_get new.agents.domains place ≡ Some d'
         → (n m : ℕ) (pair : AreOrdered d n m) → IsSome (item_at d.state.flight n) → (places : List Place) → GoesBy (fabric.guarded guarded).platform d.share.domain pair.first places
-        → TurnOf old d places n m → is_in_order n m d.journal ≡ true → StayOrdered new d' places n m }
+        → OrderOf old d places n m → is_in_order n m d.journal ≡ true → StayOrdered new d' places n m }
 {
+    // for the proof: the law of the controls
     acs::guarded_requests_go_up();
 }
 
@@ -78,11 +80,12 @@ pub fn packets_keep_their_order()
 /// flight.
 pub fn posted_packets_keep_to_their_way()
     ensures { (old new : World) (event : Event) (fabric : IsFabric old) (guarded : is_guarded old ≡ true) → effect old event ≡ Some new
-        → (place : ℕ) (d d' : DomainView) → slice_get old.edge.domains place ≡ Some d → slice_get new.edge.domains place ≡ Some d'
+        → (place : ℕ) (d d' : DomainView) → slice_get old.agents.domains place ≡ Some d → slice_get new.agents.domains place ≡ Some d'
         → (n : ℕ) (packet : Sent) → slice_get (sent d.share d.journal) n ≡ Some packet → IsPosted packet.emission → IsSome (item_at d.state.flight n)
         → (places : List Place) → GoesBy (fabric.guarded guarded).platform d.share.domain packet places → KeepsToWay old d places n
         → IsSome (item_at d'.state.flight n) → KeepsToWay new d' places n }
 {
+    // for the proof: the law of the controls
     acs::guarded_requests_go_up();
 }
 
@@ -90,10 +93,11 @@ pub fn posted_packets_keep_to_their_way()
 /// with it from the event on that makes it.
 pub fn new_packets_stand_behind()
     ensures { (old new : World) (event : Event) (fabric : IsFabric old) (guarded : is_guarded old ≡ true) → effect old event ≡ Some new
-        → (place : ℕ) (d d' : DomainView) → slice_get old.edge.domains place ≡ Some d → slice_get new.edge.domains place ≡ Some d'
+        → (place : ℕ) (d d' : DomainView) → slice_get old.agents.domains place ≡ Some d → slice_get new.agents.domains place ≡ Some d'
         → (n m : ℕ) (pair : AreOrdered d' n m) → length (sent d.share d.journal) ≤ m → IsSome (item_at d.state.flight n) → IsSome (item_at d'.state.flight n)
-        → (places : List Place) → GoesBy (fabric.guarded guarded).platform d.share.domain pair.first places → KeepsToWay old d places n → TurnOf new d places n m }
+        → (places : List Place) → GoesBy (fabric.guarded guarded).platform d.share.domain pair.first places → KeepsToWay old d places n → OrderOf new d places n m }
 {
+    // for the proof: the law of the controls
     acs::guarded_requests_go_up();
 }
 
@@ -103,6 +107,7 @@ pub fn new_packets_stand_behind()
 pub fn every_event_keeps_a_fabric()
     ensures { (old new : World) (event : Event) → IsFabric old → effect old event ≡ Some new → IsFabric new }
 {
+    // for the proof: the law of the controls
     acs::guarded_requests_go_up();
 }
 
@@ -113,6 +118,7 @@ pub fn other_domains_can_be_taken_out()
     ensures { (platform : Platform) → IsGuarded platform → (events : List Event) (outcomes : List Outcome) (first : World)
         → Run (world_of platform) events outcomes first → (d : ℕ) → CannotTell d (world_of platform) events outcomes first }
 {
+    // for the proof: the law of the controls
     acs::guarded_requests_go_up();
 }
 
@@ -122,5 +128,6 @@ pub fn what_is_left_can_be_run()
     ensures { (platform : Platform) → IsGuarded platform → (events : List Event) (outcomes : List Outcome) (first : World)
         → Run (world_of platform) events outcomes first → (d : ℕ) → CanBeLeft d (world_of platform) events outcomes }
 {
+    // for the proof: the law of the controls
     acs::guarded_requests_go_up();
 }

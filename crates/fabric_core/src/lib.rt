@@ -3,7 +3,6 @@
 
 mod begins;
 mod comparison;
-mod ending;
 mod ends;
 mod event;
 mod fabric;
@@ -12,6 +11,7 @@ mod lose;
 mod pass;
 mod purge;
 mod quiet;
+mod receipt;
 mod receivers;
 mod station;
 mod step;

@@ -84,7 +84,7 @@ pub fn purge_run<R: Wait>(
             return Err(CompareFault::NoMemory);
         };
     }
-    // What holds of every platform, and what a domain has of what is left, are laws.
+    // for the proof: what holds of every platform, and what a domain has of what is left
     let _ = layout.ports();
     other_domains_can_be_taken_out();
     Ok((first, second))

@@ -3,45 +3,45 @@
 ghost use Rattle.std.specs.Prelude.{◌≡◌, List, is_none};
 ghost use Rattle.fab_types.specs.declared.violation.Violation.{Violation};
 ghost use Rattle.frame_log.specs.Descriptor.{Descriptor};
-ghost use Rattle.edge.specs.Edges.{waiting_of};
+ghost use Rattle.agents.specs.Agents.{waiting_of};
 ghost use Rattle.link.specs.Quiet.{none_eligible};
-ghost use Rattle.port.specs.Lanes.{eligible};
+ghost use Rattle.lane.specs.Lanes.{eligible};
 ghost use Rattle.fabric_core.specs.Stations.{is_quiet};
 ghost use Rattle.fabric_core.specs.World.{world_over};
 
 use crate::ends::top_link;
 use crate::station::Station;
-use edge::Edge;
+use agents::Agents;
 use fab_types::{Class, Direction, Origin, Way};
-use hierarchy::Hierarchy;
+use interconnect::Interconnect;
 
-fn has_none_of(edge: &Edge, origin: &Origin, class: Class) -> bool
-    ensures { result ≡ is_none (eligible class (waiting_of edge.now.outboxes origin.now)) }
+fn has_none_of(agents: &Agents, origin: &Origin, class: Class) -> bool
+    ensures { result ≡ is_none (eligible class (waiting_of agents.now.outboxes origin.now)) }
 {
-    edge.home(*origin, class).is_none()
+    agents.home(*origin, class).is_none()
 }
 
 /// May no packet leave the outbox of this origin, whatever its class?
-fn has_none_emitted(edge: &Edge, origin: &Origin) -> bool
-    ensures { result ≡ none_eligible (waiting_of edge.now.outboxes origin.now) }
+fn has_none_emitted(agents: &Agents, origin: &Origin) -> bool
+    ensures { result ≡ none_eligible (waiting_of agents.now.outboxes origin.now) }
 {
-    has_none_of(edge, origin, Class::Posted)
-        && has_none_of(edge, origin, Class::NonPosted)
-        && has_none_of(edge, origin, Class::Completion)
+    has_none_of(agents, origin, Class::Posted)
+        && has_none_of(agents, origin, Class::NonPosted)
+        && has_none_of(agents, origin, Class::Completion)
 }
 
-pub(crate) fn is_quiet(hierarchy: &Hierarchy, edge: &Edge, station: &Station) -> bool
-    ensures { (violations : List Violation) (strays : List Descriptor) → result ≡ is_quiet (world_over hierarchy.now edge.now violations strays) station.now }
+pub(crate) fn is_quiet(interconnect: &Interconnect, agents: &Agents, station: &Station) -> bool
+    ensures { (violations : List Violation) (strays : List Descriptor) → result ≡ is_quiet (world_over interconnect.now agents.now violations strays) station.now }
 {
     match station {
         Station::FunctionOutbox(function) => {
-            has_none_emitted(edge, &Origin::Function(*function))
+            has_none_emitted(agents, &Origin::Function(*function))
         }
-        Station::HostOutbox(domain) => has_none_emitted(edge, &Origin::Host(*domain)),
-        Station::Port(port) => hierarchy.has_none_passing(*port),
-        Station::Link(direction) => hierarchy.is_quiet(*direction),
-        Station::Host => hierarchy.has_none_received(top_link(Way::Up)),
-        Station::Function(function) => hierarchy.has_none_received(Direction {
+        Station::HostOutbox(domain) => has_none_emitted(agents, &Origin::Host(*domain)),
+        Station::Port(port) => interconnect.has_none_passing(*port),
+        Station::Link(direction) => interconnect.is_quiet(*direction),
+        Station::Host => interconnect.has_none_received(top_link(Way::Up)),
+        Station::Function(function) => interconnect.has_none_received(Direction {
             lower: *function,
             way: Way::Down,
         }),

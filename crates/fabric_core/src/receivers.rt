@@ -3,33 +3,33 @@
 ghost use Rattle.std.specs.Prelude.{◌≡◌};
 ghost use Rattle.fabric_core.specs.Aliens.{addressed_to, receiver_at_host, receiver_by};
 
-use edge::Edge;
+use agents::Agents;
 use fab_types::{AddressType, Bdf, DomainId, Header};
 use frame_log::Frame;
-use hierarchy::Hierarchy;
+use interconnect::Interconnect;
 
 /// How many bytes a frame of memory has.
 const FRAME: u64 = 4096;
 
 /// A memory request: the owner of its Requester ID, or of the frame of memory whose number is its page.
 fn addressed_to(
-    hierarchy: &Hierarchy,
-    edge: &Edge,
+    interconnect: &Interconnect,
+    agents: &Agents,
     requester: Bdf,
     address_type: AddressType,
     address: u64,
 ) -> Option<DomainId>
-    ensures { result ≡ addressed_to (hierarchy.now.routes).ports edge.now.domains requester address_type address }
+    ensures { result ≡ addressed_to (interconnect.now.routes).ports agents.now.domains requester address_type address }
 {
     match address_type {
-        AddressType::Untranslated => hierarchy.owner(requester),
-        AddressType::Translated => edge.owner_of_frame(address / FRAME),
+        AddressType::Untranslated => interconnect.owner(requester),
+        AddressType::Translated => agents.owner_of_frame(address / FRAME),
         AddressType::TranslationRequest | AddressType::Reserved => None,
     }
 }
 
-fn receiver_by(hierarchy: &Hierarchy, edge: &Edge, header: Header) -> Option<DomainId>
-    ensures { result ≡ receiver_by (hierarchy.now.routes).ports edge.now.domains header }
+fn receiver_by(interconnect: &Interconnect, agents: &Agents, header: Header) -> Option<DomainId>
+    ensures { result ≡ receiver_by (interconnect.now.routes).ports agents.now.domains header }
 {
     match header {
         Header::Malformed => None,
@@ -37,17 +37,21 @@ fn receiver_by(hierarchy: &Hierarchy, edge: &Edge, header: Header) -> Option<Dom
             requester,
             address_type,
             address,
-        } => addressed_to(hierarchy, edge, requester, address_type, address),
+        } => addressed_to(interconnect, agents, requester, address_type, address),
         Header::OtherRequest { .. } => None,
-        Header::Completion { target, .. } => hierarchy.owner(target),
+        Header::Completion { target, .. } => interconnect.owner(target),
     }
 }
 
 /// The domain that a packet at the host is for, or else its home.
-pub(crate) fn receiver_at_host(hierarchy: &Hierarchy, edge: &Edge, frame: &Frame) -> DomainId
-    ensures { result ≡ receiver_at_host (hierarchy.now.routes).ports edge.now.domains frame.now }
+pub(crate) fn receiver_at_host(
+    interconnect: &Interconnect,
+    agents: &Agents,
+    frame: &Frame,
+) -> DomainId
+    ensures { result ≡ receiver_at_host (interconnect.now.routes).ports agents.now.domains frame.now }
 {
-    match receiver_by(hierarchy, edge, frame.head().header) {
+    match receiver_by(interconnect, agents, frame.head().header) {
         Some(receiver) => receiver,
         None => frame.domain(),
     }

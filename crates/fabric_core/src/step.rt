@@ -1,42 +1,49 @@
 //! What each event does, over the parts of a fabric.
 
 ghost use Rattle.fabric_core.specs.Events.{StepsTo};
-ghost use Rattle.fabric_core.specs.Invariant.{IsKept};
+ghost use Rattle.fabric_core.specs.Invariant.{IsConsistent};
 ghost use Rattle.fabric_core.specs.World.{world_over};
 
 use crate::begins::{mmio, submit, tick};
 use crate::ends::{arrive, root};
 use crate::event::Event;
 use crate::pass::pass;
-use crate::wires::{enter, receive, send, tell};
-use edge::Edge;
+use crate::wires::{deliver, enter, send, update_fc};
+use agents::Agents;
 use fab_types::Outcome;
 use frame_log::Frame;
-use hierarchy::Hierarchy;
+use interconnect::Interconnect;
 use port::Reports;
 use std::sync::Wait;
 
 pub(crate) fn step<R: Wait>(
     rt: &R,
-    hierarchy: &mut Hierarchy,
-    edge: &mut Edge,
+    interconnect: &mut Interconnect,
+    agents: &mut Agents,
     reports: &mut Reports,
     strays: &mut Vec<Frame>,
     event: &Event,
 ) -> Outcome
-    requires { IsKept (world_over hierarchy.old edge.old reports.old.violations strays.old.items) }
-    ensures { StepsTo (world_over hierarchy.old edge.old reports.old.violations strays.old.items) event.now result (world_over hierarchy.new edge.new reports.new.violations strays.new.items) }
+    requires { IsConsistent (world_over interconnect.old agents.old reports.old.violations strays.old.items) }
+    ensures { StepsTo (world_over interconnect.old agents.old reports.old.violations strays.old.items) event.now result (world_over interconnect.new agents.new reports.new.violations strays.new.items) }
 {
     match event {
-        Event::Submit(function, bytes) => submit(rt, edge, *function, bytes),
-        Event::Tick(function) => tick(rt, edge, *function),
-        Event::Mmio(domain, access) => mmio(rt, edge, *domain, access),
-        Event::Enter(origin, class) => enter(hierarchy, edge, *origin, *class),
-        Event::Pass(port, class) => pass(rt, hierarchy, edge, reports, *port, *class),
-        Event::Send(direction, class) => send(hierarchy, *direction, *class),
-        Event::Take(direction) => receive(hierarchy, *direction),
-        Event::Credit(direction) => tell(hierarchy, *direction),
-        Event::Root(class) => root(rt, hierarchy, edge, strays, *class),
-        Event::Arrive(function, class) => arrive(rt, hierarchy, edge, strays, *function, *class),
+        Event::Submit(function, bytes) => submit(rt, agents, *function, bytes),
+        Event::Tick(function) => tick(rt, agents, *function),
+        Event::Mmio(domain, access) => mmio(rt, agents, *domain, access),
+        Event::Enter(origin, class) => enter(interconnect, agents, *origin, *class),
+        Event::Pass(port, class) => pass(rt, interconnect, agents, reports, *port, *class),
+        Event::Send(direction, class) => send(interconnect, *direction, *class),
+        Event::Take(direction) => deliver(interconnect, *direction),
+        Event::Credit(direction) => update_fc(interconnect, *direction),
+        Event::Root(class) => root(rt, interconnect, agents, strays, *class),
+        Event::Arrive(function, class) => arrive(
+            rt,
+            interconnect,
+            agents,
+            strays,
+            *function,
+            *class,
+        ),
     }
 }

@@ -6,12 +6,12 @@ ghost use Rattle.fab_types.specs.declared.outcome.Outcome.TheVariants.{Idle, Mov
 ghost use Rattle.frame_log.specs.Descriptor.{Descriptor};
 ghost use Rattle.fabric_core.specs.declared.event.Event.TheVariants.{Credit, Enter, Send, Take};
 ghost use Rattle.fabric_core.specs.Events.{StepsTo, link_of};
-ghost use Rattle.edge.specs.Edges.{EdgeView};
+ghost use Rattle.agents.specs.Agents.{AgentsView};
 ghost use Rattle.fabric_core.specs.World.{world_over};
 
-use edge::Edge;
+use agents::Agents;
 use fab_types::{Bdf, Class, Direction, Origin, Outcome, Way};
-use hierarchy::Hierarchy;
+use interconnect::Interconnect;
 
 /// The link between the host and the top switch.
 pub(crate) const TOP_SWITCH: u16 = 0x0100;
@@ -34,23 +34,23 @@ fn link_of(origin: Origin) -> Direction
 
 /// What this origin emitted goes to the sender of its link.
 pub(crate) fn enter(
-    hierarchy: &mut Hierarchy,
-    edge: &mut Edge,
+    interconnect: &mut Interconnect,
+    agents: &mut Agents,
     origin: Origin,
     class: Class,
 ) -> Outcome
-    ensures { (violations : List Violation) (strays : List Descriptor) → StepsTo (world_over hierarchy.old edge.old violations strays) (Enter origin class) result (world_over hierarchy.new edge.new violations strays) }
+    ensures { (violations : List Violation) (strays : List Descriptor) → StepsTo (world_over interconnect.old agents.old violations strays) (Enter origin class) result (world_over interconnect.new agents.new violations strays) }
 {
     let from = origin;
-    let Some(end) = hierarchy.sender(link_of(from)) else {
+    let Some(end) = interconnect.sender(link_of(from)) else {
         return Outcome::Idle;
     };
-    if hierarchy.is_full_at(end, class) {
+    if interconnect.is_full_at(end, class) {
         return Outcome::Idle;
     }
-    match edge.take(origin, class) {
+    match agents.take(origin, class) {
         Some(frame) => {
-            hierarchy.put_at(end, frame);
+            interconnect.put_at(end, frame);
             Outcome::Moved
         }
         None => Outcome::Idle,
@@ -67,20 +67,20 @@ fn moved_if(has_moved: bool) -> Outcome
     }
 }
 
-pub(crate) fn send(hierarchy: &mut Hierarchy, direction: Direction, class: Class) -> Outcome
-    ensures { (edge : EdgeView) (violations : List Violation) (strays : List Descriptor) → StepsTo (world_over hierarchy.old edge violations strays) (Send direction class) result (world_over hierarchy.new edge violations strays) }
+pub(crate) fn send(interconnect: &mut Interconnect, direction: Direction, class: Class) -> Outcome
+    ensures { (agents : AgentsView) (violations : List Violation) (strays : List Descriptor) → StepsTo (world_over interconnect.old agents violations strays) (Send direction class) result (world_over interconnect.new agents violations strays) }
 {
-    moved_if(hierarchy.send(direction, class))
+    moved_if(interconnect.send(direction, class))
 }
 
-pub(crate) fn receive(hierarchy: &mut Hierarchy, direction: Direction) -> Outcome
-    ensures { (edge : EdgeView) (violations : List Violation) (strays : List Descriptor) → StepsTo (world_over hierarchy.old edge violations strays) (Take direction) result (world_over hierarchy.new edge violations strays) }
+pub(crate) fn deliver(interconnect: &mut Interconnect, direction: Direction) -> Outcome
+    ensures { (agents : AgentsView) (violations : List Violation) (strays : List Descriptor) → StepsTo (world_over interconnect.old agents violations strays) (Take direction) result (world_over interconnect.new agents violations strays) }
 {
-    moved_if(hierarchy.receive(direction))
+    moved_if(interconnect.deliver(direction))
 }
 
-pub(crate) fn tell(hierarchy: &mut Hierarchy, direction: Direction) -> Outcome
-    ensures { (edge : EdgeView) (violations : List Violation) (strays : List Descriptor) → StepsTo (world_over hierarchy.old edge violations strays) (Credit direction) result (world_over hierarchy.new edge violations strays) }
+pub(crate) fn update_fc(interconnect: &mut Interconnect, direction: Direction) -> Outcome
+    ensures { (agents : AgentsView) (violations : List Violation) (strays : List Descriptor) → StepsTo (world_over interconnect.old agents violations strays) (Credit direction) result (world_over interconnect.new agents violations strays) }
 {
-    moved_if(hierarchy.tell(direction))
+    moved_if(interconnect.update_fc(direction))
 }

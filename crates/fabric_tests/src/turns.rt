@@ -2,7 +2,7 @@
 
 ghost use Rattle.std.specs.Prelude.{⊤, ℕ, true, false};
 ghost use Rattle.domain.specs.Domains.{DomainView};
-ghost use Rattle.port.specs.Queues.{frames_of};
+ghost use Rattle.lane.specs.Queues.{frames_of};
 
 use crate::domains::domain_of;
 use bridge::Bridge;
@@ -10,8 +10,9 @@ use domain::Domain;
 use fab_types::Class::{Completion, NonPosted, Posted};
 use fab_types::{Bdf, Class, NoMemory, Outcome, PortId, Violation};
 use frame_log::{Frame, FrameFault};
+use lane::{FrameQueue, LaneIn, LaneOut};
 use layout::Layout;
-use port::{Desk, FrameQueue, LaneIn, LaneOut, Lanes, Port, Reporter, Reports};
+use port::{Desk, Port, Reporter, Reports, TurnParts};
 use std::alloc::Global;
 use std::sync::Wait;
 
@@ -214,7 +215,7 @@ impl Scene {
         if self.outs.len() != self.port.lanes() {
             return None;
         }
-        let mut lanes = Lanes {
+        let mut lanes = TurnParts {
             bridge: &self.bridge,
             input: &mut self.input,
             outs: self.outs.as_mut_slice(),

@@ -1,5 +1,4 @@
-use crate::packet_bytes::PacketBytes;
-use fab_types::DomainId;
+use fab_types::{DomainId, PacketBytes};
 
 /// What a log keeps of a packet (a TLP: PCIe 4.0, 2.1).
 #[derive(Debug, PartialEq, Eq, Drop)]

@@ -6,12 +6,10 @@ mod entry;
 mod fault;
 mod frame;
 mod log;
-mod packet_bytes;
 mod token;
 
 pub use entry::TlpEntry;
 pub use fault::FrameFault;
 pub use frame::Frame;
 pub use log::Log;
-pub use packet_bytes::PacketBytes;
 pub use token::Token;

@@ -2,9 +2,8 @@ ghost use Rattle.std.specs.Prelude.{◌≡◌, ◌≤◌, IfOk, length};
 
 use crate::entry::TlpEntry;
 use crate::frame::Frame;
-use crate::packet_bytes::PacketBytes;
 use crate::token::Token;
-use fab_types::{DomainId, Head, NoMemory};
+use fab_types::{DomainId, Head, NoMemory, PacketBytes};
 use std::alloc::Global;
 use std::sync::Wait;
 

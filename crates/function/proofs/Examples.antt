@@ -1,7 +1,7 @@
 -- The definitions on small inputs: the table at its edges, writes of CTRL, lines and what they send, and
 -- completions.
 use Rattle.std.proofs.Common.{◌≡◌, ℕ, true, false, List, [], ◌∷◌, Some, None, refl}
-use Rattle.fab_types.specs.declared.place.Origin.TheVariants.{Function, Host}
+use Rattle.fab_types.specs.declared.origin.Origin.TheVariants.{Function, Host}
 use Rattle.fab_types.specs.declared.status.Status.TheVariants.{SC, UR}
 use Rattle.tlp_view.specs.Requests.{packet_bytes, write_request}
 use Rattle.function.specs.declared.line.Operation.TheVariants.{Write, Read}
@@ -10,9 +10,10 @@ use Rattle.function.specs.declared.registers.Register.TheVariants.{Control, Prog
 use Rattle.function.specs.declared.tags.OpenTag.{OpenTag}
 use Rattle.function.specs.declared.tags.TagUse.TheVariants.{Raw, Line}
 use Rattle.function.specs.Registers.{register_at, write_bytes}
-use Rattle.function.specs.Program.{head_of, is_good, line_from, long_at, read_of}
+use Rattle.function.specs.Program.{head_of, is_good, line_from, le_u64_at, read_of}
 use Rattle.function.specs.Plans.{advanced}
-use Rattle.function.specs.Closings.{closed, overwritten}
+use Rattle.function.specs.Closings.{closed}
+use Rattle.fab_types.specs.Bytes.{overwritten}
 use Rattle.function.specs.Tags.{awaits_line, free_tag}
 
 ctrl_there : register_at 0x004 ≡ Some Control
@@ -60,7 +61,7 @@ abbrev write_line : ProgramLine
 write_line = record { operation = Write; count = 1; offset = 0; relaxed_ordering = false; address = 0x1000 }
 
 its_fields : line_from (1 ∷ 1 ∷ 0 ∷ 0 ∷ 0 ∷ 0 ∷ 0 ∷ 0 ∷ 0 ∷ 0x10 ∷ 0 ∷ 0 ∷ 0 ∷ 0 ∷ 0 ∷ 0 ∷ []) 0 ≡ write_line
-unfolding long_at
+unfolding le_u64_at
 its_fields = refl
 
 its_request : packet_bytes (write_request (head_of 0x0300 0 write_line) (0xca ∷ 0xfe ∷ 1 ∷ 2 ∷ []))
@@ -72,7 +73,7 @@ abbrev read_line : ProgramLine
 read_line = record { operation = Read; count = 2; offset = 0x208; relaxed_ordering = true; address = 0x1_0000_0ff8 }
 
 fields_of_a_read : line_from (2 ∷ 2 ∷ 8 ∷ 2 ∷ 1 ∷ 0 ∷ 0 ∷ 0 ∷ 0xf8 ∷ 0x0f ∷ 0 ∷ 0 ∷ 1 ∷ 0 ∷ 0 ∷ 0 ∷ []) 0 ≡ read_line
-unfolding long_at
+unfolding le_u64_at
 fields_of_a_read = refl
 
 request_of_a_read : packet_bytes (read_of 0x0300 7 read_line) ≡ 0x20 ∷ 0 ∷ 0x20 ∷ 2 ∷ 3 ∷ 0 ∷ 7 ∷ 0xff ∷ 0 ∷ 0 ∷ 0 ∷ 1 ∷ 0 ∷ 0 ∷ 0x0f ∷ 0xf8 ∷ []

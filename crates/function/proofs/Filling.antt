@@ -3,7 +3,8 @@ use Rattle.std.proofs.Common.{◌≡◌, ℕ, ◌+◌, ◌-◌, ◌≤◌, List,
 use Rattle.std.proofs.Math.Seq.{drop-drop}
 use Rattle.std.proofs.lemmas.Bool.{cases_lt}
 use Rattle.std.proofs.lemmas.List.{same_lists, places}
-use Rattle.function.specs.Closings.{overwritten, filled}
+use Rattle.function.specs.Closings.{filled}
+use Rattle.fab_types.specs.Bytes.{overwritten}
 use borrow.Rule.Slice.PartMut.{put_mid}
 
 overwritten_by : (cells bytes : List ℕ) (offset n : ℕ) → offset ≤ length cells → n ≡ min (length bytes) (length cells - offset)

@@ -11,7 +11,8 @@ use Rattle.function.specs.declared.tags.TagUse.{TagUse}
 use Rattle.function.specs.declared.tags.TagUse.TheVariants.{Raw, Line}
 use Rattle.function.specs.Registers.{register_at, write_register, write_byte, write_bytes, write_page, with_status}
 use Rattle.function.specs.Plans.{page_after}
-use Rattle.function.specs.Closings.{overwritten, filled, closed_by}
+use Rattle.function.specs.Closings.{filled, closed_by}
+use Rattle.fab_types.specs.Bytes.{overwritten}
 use Rattle.function.specs.Laws.{IsFixed}
 use Rattle.function.proofs.Running.{at_status, at_counter, below_buffer}
 

@@ -1,7 +1,7 @@
 -- The Tag of a read line is the lowest that is free.
 use Rattle.std.proofs.Common.{◌≡◌, ℕ, ◌+◌, ◌<◌, Bool, true, false, not, cond, List, [], ◌∷◌, Option, Some, None, refl, below_more, arith}
 use Rattle.std.specs.List.{find}
-use Rattle.fab_types.specs.declared.place.Origin.TheVariants.{Function}
+use Rattle.fab_types.specs.declared.origin.Origin.TheVariants.{Function}
 use Rattle.function.specs.declared.tags.OpenTag.{OpenTag}
 use Rattle.function.specs.Tags.{is_open, free_tag}
 use Rattle.function.specs.Laws.{IsLowest}

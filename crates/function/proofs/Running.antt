@@ -6,7 +6,8 @@ use Rattle.fab_types.specs.declared.status.Status.{Status}
 use Rattle.function.specs.declared.registers.Register.{Register}
 use Rattle.function.specs.declared.registers.Register.TheVariants.{Id, Control, Status as StatusRegister, ProgramCounter, Program, Buffer}
 use Rattle.function.specs.Registers.{register_at, write_register, write_byte, write_bytes, write_page, with_status}
-use Rattle.function.specs.Closings.{overwritten, filled, closed}
+use Rattle.function.specs.Closings.{filled, closed}
+use Rattle.fab_types.specs.Bytes.{overwritten}
 use Rattle.function.specs.Pages.{Runs}
 
 pub at_status : register_at 8 ≡ Some StatusRegister

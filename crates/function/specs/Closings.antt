@@ -1,5 +1,6 @@
 -- What a completion does to the page of the function whose Tag it closes. This is the project's own.
 use Rattle.std.specs.Prelude.{ℕ, ◌+◌, ◌*◌, ◌==◌, Bool, true, false, ◌&&◌, List, ◌++◌, length, take, drop, slice_range, if◌then◌else◌}
+use Rattle.fab_types.specs.Bytes.{overwritten}
 use Rattle.fab_types.specs.declared.status.Status.{Status}
 use Rattle.fab_types.specs.declared.status.Status.TheVariants.{SC, UR, CRS, CA}
 use Rattle.function.specs.declared.tags.TagUse.{TagUse}
@@ -11,10 +12,6 @@ is_success SC = true
 is_success UR = false
 is_success CRS = false
 is_success CA = false
-
--- these bytes over others from offset on. What would lie past the end is cut off
-abbrev pub overwritten : List ℕ → ℕ → List ℕ → List ℕ
-overwritten cells offset bytes = take (length cells) (take offset cells ++ bytes ++ drop (offset + length bytes) cells)
 
 -- the page with these bytes in its buffer
 abbrev pub filled : List ℕ → ℕ → List ℕ → List ℕ

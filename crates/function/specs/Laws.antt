@@ -1,6 +1,6 @@
 -- What the definitions of a register page come to.
 use Rattle.std.specs.Prelude.{◌≡◌, ◌<◌, ℕ, true, false, List, Option, Some, None}
-use Rattle.fab_types.specs.declared.place.Origin.TheVariants.{Function}
+use Rattle.fab_types.specs.declared.origin.Origin.TheVariants.{Function}
 use Rattle.function.specs.declared.registers.Register.{Register}
 use Rattle.function.specs.declared.registers.Register.TheVariants.{Id, Control, Status, ProgramCounter, Program, Buffer}
 use Rattle.function.specs.declared.tags.OpenTag.{OpenTag}

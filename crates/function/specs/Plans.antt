@@ -1,6 +1,6 @@
 -- A tick of a function: what it does, from the page and the open Tags alone. This is the project's own.
 use Rattle.std.specs.Prelude.{◌≡◌, ℕ, ◌+◌, ◌==◌, List, Option, Some, None, slice_set, if◌then◌else◌}
-use Rattle.fab_types.specs.declared.place.Origin.TheVariants.{Function}
+use Rattle.fab_types.specs.declared.origin.Origin.TheVariants.{Function}
 use Rattle.function.specs.declared.line.Operation.{Operation}
 use Rattle.function.specs.declared.line.Operation.TheVariants.{Halt as HaltLine, Write, Read, Fence, Unknown}
 use Rattle.function.specs.declared.line.ProgramLine.{ProgramLine}

@@ -10,11 +10,11 @@ use Rattle.tlp_view.specs.Packet.{Packet}
 use Rattle.tlp_view.specs.Requests.{all_enabled, read_request, write_request}
 
 -- numbers of 16 and 64 bits, the low byte first
-abbrev pub word_at : List ℕ → ℕ → ℕ
-word_at page at = from_le_bytes w16 (slice_index page at ∷ slice_index page (at + 1) ∷ [])
+abbrev pub le_u16_at : List ℕ → ℕ → ℕ
+le_u16_at page at = from_le_bytes w16 (slice_index page at ∷ slice_index page (at + 1) ∷ [])
 
-unfoldable pub long_at : List ℕ → ℕ → ℕ
-long_at page at = from_le_bytes w64 (slice_index page at ∷ slice_index page (at + 1) ∷ slice_index page (at + 2) ∷ slice_index page (at + 3) ∷ slice_index page (at + 4) ∷ slice_index page (at + 5) ∷ slice_index page (at + 6) ∷ slice_index page (at + 7) ∷ [])
+unfoldable pub le_u64_at : List ℕ → ℕ → ℕ
+le_u64_at page at = from_le_bytes w64 (slice_index page at ∷ slice_index page (at + 1) ∷ slice_index page (at + 2) ∷ slice_index page (at + 3) ∷ slice_index page (at + 4) ∷ slice_index page (at + 5) ∷ slice_index page (at + 6) ∷ slice_index page (at + 7) ∷ [])
 
 abbrev pub operation_of : ℕ → Operation
 operation_of code = if code == 0 then Halt else (if code == 1 then Write else (if code == 2 then Read else (if code == 3 then Fence else Unknown)))
@@ -24,9 +24,9 @@ abbrev pub line_from : List ℕ → ℕ → ProgramLine
 line_from page at = record {
   operation = operation_of (slice_index page at);
   count = slice_index page (at + 1);
-  offset = word_at page (at + 2);
+  offset = le_u16_at page (at + 2);
   relaxed_ordering = slice_index page (at + 4) % 2 == 1;
-  address = long_at page (at + 8);
+  address = le_u64_at page (at + 8);
 }
 
 -- the program begins at 100h

@@ -1,17 +1,12 @@
 -- The Tags that requesters have open (PCIe 4.0, 2.2.6.2), and those that the read lines of a program take.
 use Rattle.std.specs.Prelude.{ℕ, ◌==◌, Bool, true, false, ◌&&◌, not, List, [], ◌∷◌, Option}
 use Rattle.std.specs.List.{list_any, find}
-use Rattle.fab_types.specs.declared.place.Origin.{Origin}
-use Rattle.fab_types.specs.declared.place.Origin.TheVariants.{Function, Host}
+use Rattle.fab_types.specs.declared.origin.Origin.{Origin}
+use Rattle.fab_types.specs.declared.origin.Origin.TheVariants.{Function}
+use Rattle.fab_types.specs.Origins.{same_origin}
 use Rattle.function.specs.declared.tags.OpenTag.{OpenTag}
 use Rattle.function.specs.declared.tags.TagUse.{TagUse}
 use Rattle.function.specs.declared.tags.TagUse.TheVariants.{Raw, Line}
-
-abbrev pub same_origin : Origin → Origin → Bool
-same_origin (Function f) (Function g) = f == g
-same_origin (Function f) (Host d) = false
-same_origin (Host d) (Function g) = false
-same_origin (Host d) (Host e) = d == e
 
 abbrev pub is_open : List OpenTag → Origin → ℕ → Bool
 is_open tags owner tag = list_any (λ open_tag. same_origin open_tag.owner owner && (open_tag.tag == tag)) tags

@@ -1,7 +1,8 @@
 //! The buffer of a page, into which completions are copied.
 
 ghost use Rattle.std.specs.Prelude.{◌≡◌, ◌+◌, ◌*◌, length};
-ghost use Rattle.function.specs.Closings.{closed, filled, is_success, overwritten};
+ghost use Rattle.function.specs.Closings.{closed, filled, is_success};
+ghost use Rattle.fab_types.specs.Bytes.{overwritten};
 
 use crate::registers::{BUFFER, BUFFER_END, FAULT, STATUS};
 use fab_types::Status;

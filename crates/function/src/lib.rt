@@ -13,4 +13,4 @@ mod tags;
 pub use function::Function;
 pub use laws::{fixed_bytes_stay, lowest_free_tag_is_taken};
 pub use plan::{Plan, Tick};
-pub use tags::{OpenTag, TagUse, is_open, same_origin};
+pub use tags::{OpenTag, TagUse, is_open};

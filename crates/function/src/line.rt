@@ -1,7 +1,7 @@
 //! One line of a DMA program, and the request that it makes.
 
 ghost use Rattle.std.specs.Prelude.{◌≡◌, ◌+◌, ◌<◌, ◌≤◌, true, length};
-ghost use Rattle.function.specs.Program.{head_of, is_good, IsGood, line_at, operation_of, read_of, word_at, long_at, write_of};
+ghost use Rattle.function.specs.Program.{head_of, is_good, IsGood, line_at, operation_of, read_of, le_u16_at, le_u64_at, write_of};
 ghost use Rattle.tlp_view.specs.Requests.{RequestFits};
 
 use crate::registers::{BUFFER, PROGRAM};
@@ -51,18 +51,18 @@ fn operation_of(code: u8) -> Operation
 }
 
 /// The 16 bits at this place, the low byte first.
-fn word_at(page: &[u8], at: usize) -> u16
+fn le_u16_at(page: &[u8], at: usize) -> u16
     requires { at + 2 ≤ length page.now }
-    ensures { result ≡ word_at page.now at }
+    ensures { result ≡ le_u16_at page.now at }
 {
     u16::from_le_bytes([page[at], page[at + 1]])
 }
 
 /// The 64 bits at this place, the low byte first.
-#[tactic(auto, unfolding(crate::specs::Program::long_at))]
-fn long_at(page: &[u8], at: usize) -> u64
+#[tactic(auto, unfolding(crate::specs::Program::le_u64_at))]
+fn le_u64_at(page: &[u8], at: usize) -> u64
     requires { at + 8 ≤ length page.now }
-    ensures { result ≡ long_at page.now at }
+    ensures { result ≡ le_u64_at page.now at }
 {
     u64::from_le_bytes([
         page[at],
@@ -86,9 +86,9 @@ pub(crate) fn line_at(page: &[u8], number: usize) -> ProgramLine
     ProgramLine {
         operation: operation_of(page[at]),
         count: page[at + 1],
-        offset: word_at(page, at + 2),
+        offset: le_u16_at(page, at + 2),
         relaxed_ordering: page[at + 4] % 2 == 1,
-        address: long_at(page, at + 8),
+        address: le_u64_at(page, at + 8),
     }
 }
 

@@ -1,9 +1,9 @@
 //! Tags that wait for completions.
 
 ghost use Rattle.std.specs.Prelude.{◌≡◌};
-ghost use Rattle.function.specs.Tags.{awaits_line, free_tag, is_line, is_open, same_origin};
+ghost use Rattle.function.specs.Tags.{awaits_line, free_tag, is_line, is_open};
 
-use fab_types::{Bdf, Origin};
+use fab_types::{Bdf, Origin, same_origin};
 
 /// What a Tag was opened for.
 #[derive(Clone, Copy, Debug, PartialEq, Eq)]
@@ -21,22 +21,6 @@ pub struct OpenTag {
     pub owner: Origin,
     pub tag: u8,
     pub usage: TagUse,
-}
-
-/// Are both the same function, or hosts of the same domain?
-pub fn same_origin(one: Origin, other: Origin) -> bool
-    ensures { result ≡ same_origin one other }
-{
-    match one {
-        Origin::Function(f) => match other {
-            Origin::Function(g) => f == g,
-            Origin::Host(_) => false,
-        },
-        Origin::Host(d) => match other {
-            Origin::Function(_) => false,
-            Origin::Host(e) => d == e,
-        },
-    }
 }
 
 /// Does this owner have this Tag open?

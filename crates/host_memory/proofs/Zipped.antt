@@ -3,7 +3,8 @@ use Rattle.std.proofs.Common.{◌≡◌, ℕ, suc, zero, ◌<◌, List, [], ◌�
 use Rattle.std.specs.List.{zip}
 use Rattle.std.specs.List.Sorted.{IsStrictlyIncreasing}
 use Rattle.std.proofs.lemmas.Bool.{ne_eqb}
-use Rattle.host_memory.specs.Pages.{page_of, written, overwritten}
+use Rattle.host_memory.specs.Pages.{page_of, written}
+use Rattle.fab_types.specs.Bytes.{overwritten}
 use Rattle.host_memory.proofs.Rising.{IsAbsent, IsOnlyAt, only_at}
 
 -- the places after the first

@@ -7,6 +7,6 @@ use Rattle.host_memory.specs.declared.memory.HostMemory.TheInside.{Inside}
 abbrev pub pages_of : Inside → List (ℕ × List ℕ)
 pages_of m = zip m.numbers.items m.pages.items
 
-pub record IsKept (m : Inside) : Type 0 where
+pub record IsMemory (m : Inside) : Type 0 where
   pub rising : IsStrictlyIncreasing m.numbers.items
   pub paired : vec_len m.pages ≡ vec_len m.numbers

@@ -1,7 +1,7 @@
 -- What becomes of a page of which a part was lent to be written.
 use Rattle.std.specs.Prelude.{ℕ, List}
 use Rattle.std.specs.Borrow.{Lends, MutBor, Fml, Array, u8}
-use Rattle.host_memory.specs.Pages.{overwritten}
+use Rattle.fab_types.specs.Bytes.{overwritten}
 use Rattle.host_memory.specs.contracts.page.Page.{the_row}
 
 -- the page ends with what was left in the part, from start on

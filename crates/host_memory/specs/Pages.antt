@@ -1,6 +1,7 @@
 -- Pages of 4,096 bytes, each under its number.
-use Rattle.std.specs.Prelude.{ℕ, ◌+◌, ◌==◌, nat_le, ◌&&◌, List, ◌++◌, length, take, drop, map, replicate, Option, Some, None, option_map, option_and_then, if◌then◌else◌, slice_range}
+use Rattle.std.specs.Prelude.{ℕ, ◌==◌, nat_le, ◌&&◌, List, map, replicate, Option, Some, None, option_map, option_and_then, if◌then◌else◌, slice_range}
 use Rattle.std.specs.List.{find}
+use Rattle.fab_types.specs.Bytes.{overwritten}
 
 -- so many zero bytes
 unfoldable pub zeros : ℕ → List ℕ
@@ -21,10 +22,6 @@ range_of start end page = if nat_le start end && nat_le end 4096 then Some (slic
 -- the bytes from start to end in the page of this number
 abbrev pub part_of : List (ℕ × List ℕ) → ℕ → ℕ → ℕ → Option (List ℕ)
 part_of pages k start end = option_and_then (range_of start end) (page_of pages k)
-
--- a page with these bytes from offset on. What would lie past its end is cut off.
-abbrev pub overwritten : List ℕ → ℕ → List ℕ → List ℕ
-overwritten page offset bytes = take (length page) (take offset page ++ bytes ++ drop (offset + length bytes) page)
 
 -- the pages with these bytes in the page of this number from offset on
 abbrev pub written : List (ℕ × List ℕ) → ℕ → ℕ → List ℕ → List (ℕ × List ℕ)

@@ -27,11 +27,11 @@ impl Model for HostMemory {
 
     ghost Value = { List (ℕ × List ℕ) };
 
-    ghost use Rattle.host_memory.specs.Memory.{pages_of, IsKept};
+    ghost use Rattle.host_memory.specs.Memory.{pages_of, IsMemory};
 
     ghost view = { pages_of };
 
-    ghost invariant = { IsKept };
+    ghost invariant = { IsMemory };
 }
 
 // Where a number stands among numbers that rise.

@@ -2,7 +2,8 @@
 
 ghost use Rattle.std.specs.Prelude.{◌≡◌, ◌+◌, ◌≤◌, IfOk, length, slice_range, vec_len};
 ghost use Rattle.std.specs.Borrow.{sem};
-ghost use Rattle.host_memory.specs.Pages.{zeros, overwritten};
+ghost use Rattle.host_memory.specs.Pages.{zeros};
+ghost use Rattle.fab_types.specs.Bytes.{overwritten};
 
 use fab_types::NoMemory;
 use std::alloc::Global;

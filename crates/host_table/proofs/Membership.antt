@@ -3,9 +3,9 @@ use Rattle.std.proofs.Common.{◌≡◌, ℕ, zero, suc, ◌<◌, Bool, true, fa
 use Rattle.std.specs.Prelude.{Any, AllPairs, IsTrue}
 use Rattle.std.specs.List.{find}
 use Rattle.std.proofs.lemmas.Bool.{eqb-true, false≢true}
-use Rattle.layout.specs.declared.lines.MapLine.{MapLine}
-use Rattle.layout.specs.declared.lines.MapTarget.{MapTarget}
-use Rattle.layout.specs.declared.lines.Access.{Access}
+use Rattle.platform.specs.declared.parts.Mapping.{Mapping}
+use Rattle.platform.specs.declared.parts.MapTarget.{MapTarget}
+use Rattle.platform.specs.declared.parts.Access.{Access}
 use Rattle.layout.specs.Tables.{fits, allows}
 use Rattle.host_table.specs.Target.{MapsOnce}
 
@@ -14,47 +14,47 @@ both_parts true b both = (refl, both)
 both_parts false b both = absurd (false≢true both)
 
 -- a line that fits is of this page of this requester
-key_of_fit : (requester page : ℕ) (access : Access) (line : MapLine) → fits requester page access line ≡ true → (line.requester ≡ requester) × (line.page ≡ page)
+key_of_fit : (requester page : ℕ) (access : Access) (line : Mapping) → fits requester page access line ≡ true → (line.requester ≡ requester) × (line.page ≡ page)
 key_of_fit requester page access line fit =
     let keys = both_parts _ _ (both_parts _ (allows line.rights access) fit).0 in
     (eqb-true line.requester requester keys.0, eqb-true line.page page keys.1)
 
 -- the line passes and has this target
-abbrev Leads : (MapLine → Bool) → MapTarget → MapLine → Type 0
+abbrev Leads : (Mapping → Bool) → MapTarget → Mapping → Type 0
 Leads p target line = IsTrue (p line) × (line.target ≡ target)
 
 -- a line that leads there, behind one more line
-behind : (p : MapLine → Bool) (target : MapTarget) (line : MapLine) (lines : List MapLine) → Any (Leads p target) lines → Any (Leads p target) (line ∷ lines)
+behind : (p : Mapping → Bool) (target : MapTarget) (line : Mapping) (lines : List Mapping) → Any (Leads p target) lines → Any (Leads p target) (line ∷ lines)
 behind p target line lines any = (suc any.0, any.1, omega (arith, any.2), any.3, any.4)
 
 -- what is found leads there
-found_first : (p : MapLine → Bool) (target : MapTarget) (line : MapLine) (lines : List MapLine) (b : Bool) → p line ≡ b → (option_map (λ x. x.target) (find p lines) ≡ Some target → Any (Leads p target) lines) → option_map (λ x. x.target) (cond b (Some line) (find p lines)) ≡ Some target → Any (Leads p target) (line ∷ lines)
+found_first : (p : Mapping → Bool) (target : MapTarget) (line : Mapping) (lines : List Mapping) (b : Bool) → p line ≡ b → (option_map (λ x. x.target) (find p lines) ≡ Some target → Any (Leads p target) lines) → option_map (λ x. x.target) (cond b (Some line) (find p lines)) ≡ Some target → Any (Leads p target) (line ∷ lines)
 found_first p target line lines true passes rest here = (0, line, omega arith, refl, (passes, cc))
 found_first p target line lines false fails rest later = behind p target line lines (rest later)
 
-pub found_leads : (p : MapLine → Bool) (target : MapTarget) (lines : List MapLine) → option_map (λ x. x.target) (find p lines) ≡ Some target → Any (Leads p target) lines
+pub found_leads : (p : Mapping → Bool) (target : MapTarget) (lines : List Mapping) → option_map (λ x. x.target) (find p lines) ≡ Some target → Any (Leads p target) lines
 found_leads p target [] found = cc
 found_leads p target (line ∷ lines) found = found_first p target line lines (p line) refl (found_leads p target lines) found
 
 -- where no two lines pass, a line that leads there is what is found
-abbrev OnePasses : (MapLine → Bool) → List MapLine → Type 0
+abbrev OnePasses : (Mapping → Bool) → List Mapping → Type 0
 OnePasses p lines = AllPairs (λ a b. p a ≡ true → p b ≡ true → ⊥) lines
 
-first_found : (p : MapLine → Bool) (target : MapTarget) (line : MapLine) (lines : List MapLine) (b : Bool) → p line ≡ b → OnePasses p (line ∷ lines) → (k : ℕ) (x : MapLine) → k < length (line ∷ lines) → slice_index_or (line ∷ lines) k x ≡ x → Leads p target x → (Any (Leads p target) lines → option_map (λ x. x.target) (find p lines) ≡ Some target) → option_map (λ x. x.target) (cond b (Some line) (find p lines)) ≡ Some target
+first_found : (p : Mapping → Bool) (target : MapTarget) (line : Mapping) (lines : List Mapping) (b : Bool) → p line ≡ b → OnePasses p (line ∷ lines) → (k : ℕ) (x : Mapping) → k < length (line ∷ lines) → slice_index_or (line ∷ lines) k x ≡ x → Leads p target x → (Any (Leads p target) lines → option_map (λ x. x.target) (find p lines) ≡ Some target) → option_map (λ x. x.target) (cond b (Some line) (find p lines)) ≡ Some target
 first_found p target line lines true passes one zero x within here leads rest = ap Some (ap (λ l. l.target) here ∙ leads.1)
 first_found p target line lines true passes one (suc k) x within here leads rest =
     absurd (one 0 (suc k) x (omega arith) within passes (rw here leads.0))
 first_found p target line lines false fails one zero x within here leads rest = absurd (false≢true (sym fails ∙ ap p here ∙ leads.0))
 first_found p target line lines false fails one (suc k) x within here leads rest = rest (k, x, omega (arith, within), here, leads)
 
-pub leads_found : (p : MapLine → Bool) (target : MapTarget) (lines : List MapLine) → OnePasses p lines → Any (Leads p target) lines → option_map (λ x. x.target) (find p lines) ≡ Some target
+pub leads_found : (p : Mapping → Bool) (target : MapTarget) (lines : List Mapping) → OnePasses p lines → Any (Leads p target) lines → option_map (λ x. x.target) (find p lines) ≡ Some target
 leads_found p target [] one any = absurd (omega (arith, any.2))
 leads_found p target (line ∷ lines) one any =
     let later : OnePasses p lines = λ i j d below within. one (suc i) (suc j) d (omega (arith, below)) (omega (arith, within)) in
     first_found p target line lines (p line) refl one any.0 any.1 any.2 any.3 any.4 (leads_found p target lines later)
 
 -- lines that map each page once do not fit together
-pub one_fits : (maps : List MapLine) (requester page : ℕ) (access : Access) → MapsOnce maps → OnePasses (fits requester page access) maps
+pub one_fits : (maps : List Mapping) (requester page : ℕ) (access : Access) → MapsOnce maps → OnePasses (fits requester page access) maps
 one_fits maps requester page access once i j d below within first second =
     let a = key_of_fit requester page access (slice_index_or maps i d) first in
     let b = key_of_fit requester page access (slice_index_or maps j d) second in

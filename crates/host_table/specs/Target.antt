@@ -1,8 +1,8 @@
 -- What a table answers, and when a table is a set.
 use Rattle.std.specs.Prelude.{◌≡◌, List, Option, Some, None, AllPairs}
-use Rattle.layout.specs.declared.lines.MapLine.{MapLine}
-use Rattle.layout.specs.declared.lines.MapTarget.{MapTarget}
-use Rattle.layout.specs.declared.lines.MapTarget.TheVariants as line
+use Rattle.platform.specs.declared.parts.Mapping.{Mapping}
+use Rattle.platform.specs.declared.parts.MapTarget.{MapTarget}
+use Rattle.platform.specs.declared.parts.MapTarget.TheVariants as line
 use Rattle.host_table.specs.declared.target.Target.{Target}
 use Rattle.host_table.specs.declared.target.Target.TheVariants as table
 
@@ -13,5 +13,5 @@ mapped_to (table.Peer function) = Some (line.Peer function)
 mapped_to table.None = None
 
 -- no two lines map one page of one requester
-abbrev pub MapsOnce : List MapLine → Type 0
+abbrev pub MapsOnce : List Mapping → Type 0
 MapsOnce maps = AllPairs (λ a b. a.requester ≡ b.requester → a.page ≡ b.page → ⊥) maps

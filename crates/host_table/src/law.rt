@@ -5,12 +5,12 @@ ghost use Rattle.layout.specs.Tables.{target_of, fits};
 ghost use Rattle.host_table.specs.Target.{MapsOnce};
 
 use fab_types::Bdf;
-use layout::{Access, MapLine, MapTarget};
+use platform::{Access, MapTarget, Mapping};
 
 /// Where no two lines map one page of one requester, the target of an access is that of the one line
 /// that fits, wherever it stands. This is proved, and does nothing.
 pub fn lookup_is_membership(
-    maps: &[MapLine],
+    maps: &[Mapping],
     requester: Bdf,
     page: u64,
     access: Access,

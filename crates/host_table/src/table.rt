@@ -4,21 +4,22 @@ ghost use Rattle.host_table.specs.Target.{mapped_to};
 
 use crate::target::Target;
 use fab_types::{Bdf, NoMemory};
-use layout::{Access, MapLine, MapTarget, Rights, Start};
+use layout::Start;
+use platform::{Access, MapTarget, Mapping, Rights};
 use std::alloc::Global;
 use std::marker::Model;
 
 /// The mappings of a domain's functions. A contract sees the list of their lines.
 #[derive(Debug, Drop)]
 pub struct HostTable {
-    lines: Vec<MapLine>,
+    lines: Vec<Mapping>,
 }
 
 impl Model for HostTable {
     ghost use Rattle.std.specs.Prelude.{List};
-    ghost use Rattle.layout.specs.declared.lines.MapLine.{MapLine};
+    ghost use Rattle.platform.specs.declared.parts.Mapping.{Mapping};
 
-    ghost Value = { List MapLine };
+    ghost Value = { List Mapping };
 
     ghost view = { λ t. t.lines.items };
 }
@@ -32,7 +33,7 @@ fn is_allowed(rights: Rights, access: Access) -> bool
     }
 }
 
-fn is_fit(line: &MapLine, requester: Bdf, page: u64, access: Access) -> bool
+fn is_fit(line: &Mapping, requester: Bdf, page: u64, access: Access) -> bool
     ensures { result ≡ fits requester page access line.now }
 {
     line.requester == requester && line.page == page && is_allowed(line.rights, access)

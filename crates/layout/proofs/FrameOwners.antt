@@ -2,22 +2,22 @@
 use Rattle.std.proofs.Common.{◌≡◌, ℕ, ◌==◌, Bool, true, false, cond, List, [], ◌∷◌, Option, Some, None, refl, sym, ap, ◌∙◌, eqb-true, eq-eqb}
 use Rattle.std.specs.Prelude.{◌&&◌, ◌||◌, not}
 use Rattle.std.specs.List.{list_all, list_any, find}
-use Rattle.layout.specs.declared.lines.PortLine.{PortLine}
-use Rattle.layout.specs.declared.lines.MapTarget.{MapTarget}
-use Rattle.layout.specs.declared.lines.MapTarget.TheVariants as mapped
-use Rattle.layout.specs.declared.lines.MapLine.{MapLine}
-use Rattle.layout.specs.Tree.{domain_of}
+use Rattle.platform.specs.declared.parts.DownstreamPort.{DownstreamPort}
+use Rattle.platform.specs.declared.parts.MapTarget.{MapTarget}
+use Rattle.platform.specs.declared.parts.MapTarget.TheVariants as mapped
+use Rattle.platform.specs.declared.parts.Mapping.{Mapping}
+use Rattle.platform.specs.Tree.{domain_of}
 use Rattle.layout.specs.Rules.{is_mapping_of, is_foreign_frame}
 use Rattle.layout.specs.Laws.{each_pair, is_own_frame, share_no_frame}
 use Rattle.layout.proofs.Bools.{and-first, and-second}
 
 -- is the first mapping that was found of another domain?
-abbrev pub is_foreign_line : List PortLine → ℕ → Option MapLine → Bool
+abbrev pub is_foreign_line : List DownstreamPort → ℕ → Option Mapping → Bool
 is_foreign_line ports domain None = false
 is_foreign_line ports domain (Some line) = not (domain_of ports line.requester == domain)
 
 -- two lines that map one frame are of one domain
-same_domain : (ports : List PortLine) (one : MapLine) (frame domain : ℕ) (t : MapTarget) → is_mapping_of frame one.target ≡ true → is_mapping_of frame t ≡ true
+same_domain : (ports : List DownstreamPort) (one : Mapping) (frame domain : ℕ) (t : MapTarget) → is_mapping_of frame one.target ≡ true → is_mapping_of frame t ≡ true
     → is_own_frame ports one domain t ≡ true → domain_of ports one.requester ≡ domain
 same_domain ports one frame domain (mapped.Frame k) maps other own =
     let same : k ≡ frame = eqb-true k frame other in
@@ -30,13 +30,13 @@ same_domain ports one frame domain (mapped.Frame k) maps other own =
 same_domain ports one frame domain (mapped.Peer peer) maps other own = absurd cc
 
 -- is the line one of another domain that maps the frame?
-abbrev is_other : List PortLine → ℕ → ℕ → MapLine → Bool
+abbrev is_other : List DownstreamPort → ℕ → ℕ → Mapping → Bool
 is_other ports domain frame line = is_mapping_of frame line.target && not (domain_of ports line.requester == domain)
 
 clash : (a b : Bool) → a ≡ true → a ≡ false → false ≡ true
 clash a b e f = sym f ∙ e
 
-not_other : (ports : List PortLine) (one line : MapLine) (frame domain : ℕ) (m e rest : Bool) → m ≡ is_mapping_of frame line.target → e ≡ (domain_of ports line.requester == domain) → is_mapping_of frame one.target ≡ true
+not_other : (ports : List DownstreamPort) (one line : Mapping) (frame domain : ℕ) (m e rest : Bool) → m ≡ is_mapping_of frame line.target → e ≡ (domain_of ports line.requester == domain) → is_mapping_of frame one.target ≡ true
     → domain_of ports one.requester ≡ domain → share_no_frame ports one line ≡ true → rest ≡ false → (m && not e) || rest ≡ false
 not_other ports one line frame domain false e rest m i first of own later = later
 not_other ports one line frame domain true true rest m i first of own later = later
@@ -46,7 +46,7 @@ not_other ports one line frame domain true false rest m i first of own later =
     absurd (let no_way : false ≡ true = i ∙ is in cc)
 
 -- none is of another domain where the first is of this one
-none_other : (ports : List PortLine) (one : MapLine) (frame domain : ℕ) (maps : List MapLine) → is_mapping_of frame one.target ≡ true → domain_of ports one.requester ≡ domain → list_all (share_no_frame ports one) maps ≡ true
+none_other : (ports : List DownstreamPort) (one : Mapping) (frame domain : ℕ) (maps : List Mapping) → is_mapping_of frame one.target ≡ true → domain_of ports one.requester ≡ domain → list_all (share_no_frame ports one) maps ≡ true
     → list_any (is_other ports domain frame) maps ≡ false
 none_other ports one frame domain [] first of all = refl
 none_other ports one frame domain (line ∷ maps) first of all =
@@ -54,21 +54,21 @@ none_other ports one frame domain (line ∷ maps) first of all =
     (none_other ports one frame domain maps first of (and-second _ _ all))
 
 -- the first line that maps the frame tells, if it is this one or a later one
-tells : (ports : List PortLine) (line : MapLine) (frame domain : ℕ) (maps : List MapLine) (m e : Bool) → m ≡ is_mapping_of frame line.target → e ≡ (domain_of ports line.requester == domain) → list_all (share_no_frame ports line) maps ≡ true
+tells : (ports : List DownstreamPort) (line : Mapping) (frame domain : ℕ) (maps : List Mapping) (m e : Bool) → m ≡ is_mapping_of frame line.target → e ≡ (domain_of ports line.requester == domain) → list_all (share_no_frame ports line) maps ≡ true
     → is_foreign_line ports domain (find (λ l. is_mapping_of frame l.target) maps) ≡ list_any (is_other ports domain frame) maps
     → is_foreign_line ports domain (cond m (Some line) (find (λ l. is_mapping_of frame l.target) maps)) ≡ ((m && not e) || list_any (is_other ports domain frame) maps)
 tells ports line frame domain maps false e m i all rest = rest
 tells ports line frame domain maps true false m i all rest = ap not (sym i)
 tells ports line frame domain maps true true m i all rest = ap not (sym i) ∙ sym (none_other ports line frame domain maps (sym m) (eqb-true _ _ (sym i)) all)
 
-any_tells : (ports : List PortLine) (domain frame : ℕ) (maps : List MapLine) → each_pair (share_no_frame ports) maps ≡ true
+any_tells : (ports : List DownstreamPort) (domain frame : ℕ) (maps : List Mapping) → each_pair (share_no_frame ports) maps ≡ true
     → is_foreign_line ports domain (find (λ line. is_mapping_of frame line.target) maps) ≡ list_any (is_other ports domain frame) maps
 any_tells ports domain frame [] pairs = refl
 any_tells ports domain frame (line ∷ maps) pairs =
     tells ports line frame domain maps (is_mapping_of frame line.target) (domain_of ports line.requester == domain) refl refl (and-first _ _ pairs)
     (any_tells ports domain frame maps (and-second _ _ pairs))
 
-pub first_tells : (ports : List PortLine) (domain frame : ℕ) (maps : List MapLine) → each_pair (share_no_frame ports) maps ≡ true
+pub first_tells : (ports : List DownstreamPort) (domain frame : ℕ) (maps : List Mapping) → each_pair (share_no_frame ports) maps ≡ true
     → is_foreign_line ports domain (find (λ line. is_mapping_of frame line.target) maps) ≡ is_foreign_frame ports maps domain frame
 unfolding is_foreign_frame
 first_tells ports domain frame maps pairs = any_tells ports domain frame maps pairs

@@ -4,19 +4,20 @@ use Rattle.std.specs.Prelude.{◌&&◌, ◌||◌, not, nat_le, nat_lt, count_by}
 use Rattle.std.specs.List.{list_all}
 use Rattle.fab_types.specs.Id.{bus_of, id_of}
 use Rattle.fab_types.specs.declared.faults.layout.LayoutCause.TheVariants as cause
-use Rattle.layout.specs.declared.lines.SwitchLine.{SwitchLine}
-use Rattle.layout.specs.declared.lines.PortLine.{PortLine}
-use Rattle.layout.specs.declared.lines.FunctionLine.{FunctionLine}
-use Rattle.layout.specs.declared.lines.MapLine.{MapLine}
-use Rattle.statement.specs.declared.lines.SwitchText.{SwitchText}
-use Rattle.statement.specs.declared.lines.PortText.{PortText}
-use Rattle.statement.specs.declared.lines.MapText.{MapText}
-use Rattle.statement.specs.declared.lines.BudgetText.{BudgetText}
-use Rattle.statement.specs.declared.lines.CreditText.{CreditText}
-use Rattle.layout.specs.Owners.{is_function}
-use Rattle.layout.specs.Platform.{Platform}
-use Rattle.layout.specs.Tree.{port_at, port_over, domain_of, switch_on, port_above, is_third_level, is_taken, id_below}
-use Rattle.layout.specs.Rules.{is_within, frames_fault, root_fault, switch_fault, switch_fault_below, port_fault, port_fault_on, port_fault_below, is_past_port_limits, is_on_bus, function_fault, function_fault_below, map_fault, has_full_table, is_of_requester, budget_fault, has_good_credits, credit_fault, is_known_target, is_past_frames, is_foreign, is_mapped}
+use Rattle.platform.specs.declared.parts.Switch.{Switch}
+use Rattle.platform.specs.declared.parts.DownstreamPort.{DownstreamPort}
+use Rattle.platform.specs.declared.parts.EndpointFunction.{EndpointFunction}
+use Rattle.platform.specs.declared.parts.Mapping.{Mapping}
+use Rattle.layout_line.specs.declared.lines.SwitchText.{SwitchText}
+use Rattle.layout_line.specs.declared.lines.PortText.{PortText}
+use Rattle.layout_line.specs.declared.lines.MapText.{MapText}
+use Rattle.layout_line.specs.declared.lines.BudgetText.{BudgetText}
+use Rattle.layout_line.specs.declared.lines.CreditText.{CreditText}
+use Rattle.platform.specs.Owners.{is_function}
+use Rattle.platform.specs.Platform.{Platform}
+use Rattle.platform.specs.Tree.{port_at, port_leading_to, domain_of, switch_on, port_above, is_third_level, is_taken, id_below}
+use Rattle.layout.specs.Rules.{is_within, frames_fault, root_fault, switch_fault, switch_fault_below, port_fault, port_fault_on, port_fault_below, is_past_port_limits, function_fault, function_fault_below, map_fault, has_full_table, is_of_requester, budget_fault, has_good_credits, credit_fault, is_known_target, is_past_frames, is_foreign, is_mapped}
+use Rattle.platform.specs.Tree.{is_on_bus}
 use Rattle.layout.specs.Additions.{root_line, switch_line, port_line, map_line, budget_line, credit_line}
 use Rattle.layout.specs.Laws.{IsPlatform, is_good_budget, is_good_credit, are_apart, is_nested, has_domain, ends_low, is_hung, is_hung_below, is_level, is_level_below, is_placed, is_placed_below, AreAlone, is_no_switch, is_known_map, is_home_map, share_no_frame}
 use Rattle.layout.proofs.Nesting.{nested-stays, nested-among, nested-new, hung-stays, placed-stays, apart-new}
@@ -27,13 +28,13 @@ use Rattle.layout.proofs.Sharing.{home-stays, unshared-stays, known-new, home-ne
 use Rattle.layout.proofs.NoFault.{none-first, none-rest, three-none, four-none}
 use Rattle.layout.proofs.Bools.{and-second, and-both, or-first, or-second, not-false, all-more, all-weaker, all-weaker-among, all-found, all-none, pair-more, pair-weaker, count-kept}
 
-room : (requester : ℕ) (maps : List MapLine) (map : MapText) → has_full_table maps map.requester ≡ false → is_of_requester requester (map_line map) ≡ true → count_by (is_of_requester requester) maps < 64
+room : (requester : ℕ) (maps : List Mapping) (map : MapText) → has_full_table maps map.requester ≡ false → is_of_requester requester (map_line map) ≡ true → count_by (is_of_requester requester) maps < 64
 unfolding has_full_table
 room requester maps map few same =
     let e : map.requester ≡ requester = eqb-true map.requester requester same in
     rw (← e) (leb-false _ _ few)
 
-place : (bus : ℕ) (ports : List PortLine) (port : PortText) → is_past_port_limits ports port ≡ false → is_on_bus bus (port_line port) ≡ true → count_by (is_on_bus bus) ports < 8
+place : (bus : ℕ) (ports : List DownstreamPort) (port : PortText) → is_past_port_limits ports port ≡ false → is_on_bus bus (port_line port) ≡ true → count_by (is_on_bus bus) ports < 8
 unfolding is_past_port_limits
 place bus ports port few same =
     let e : bus_of port.id ≡ bus = eqb-true (bus_of port.id) bus same in
@@ -124,15 +125,15 @@ keeps-map p map h none =
     }
 
 -- a port
-pub below-none : (p : Platform) (port : PortText) (switch : Option SwitchLine) → None ≡ port_fault_on p port switch → (s : SwitchLine) × (switch ≡ Some s) × (None ≡ port_fault_below p.ports (port_above p.ports s) port)
+pub below-none : (p : Platform) (port : PortText) (switch : Option Switch) → None ≡ port_fault_on p port switch → (s : Switch) × (switch ≡ Some s) × (None ≡ port_fault_below p.ports (port_above p.ports s) port)
 below-none p port None e = absurd cc
 below-none p port (Some s) e = (s, refl, e)
 
-pub limits-kept : (ports : List PortLine) (above : Option PortLine) (port : PortText) → None ≡ port_fault_below ports above port → is_past_port_limits ports port ≡ false
+pub limits-kept : (ports : List DownstreamPort) (above : Option DownstreamPort) (port : PortText) → None ≡ port_fault_below ports above port → is_past_port_limits ports port ≡ false
 unfolding port_fault_below
 limits-kept ports above port none = none-first _ _ _ (none-rest _ _ _ none)
 
-owner-new : (ports : List PortLine) (port : PortText) → is_past_port_limits ports port ≡ false → has_domain (port_line port) ≡ true
+owner-new : (ports : List DownstreamPort) (port : PortText) → is_past_port_limits ports port ≡ false → has_domain (port_line port) ≡ true
 unfolding is_past_port_limits
 owner-new ports port few = not-false (is_within 1 31 port.owner) (or-first _ _ few)
 
@@ -167,25 +168,25 @@ keeps-port p port h low none =
       unshared = pair-weaker (is_known_map p.functions p.frames) (share_no_frame p.ports) (share_no_frame (p.ports ++ port_line port ∷ [])) p.maps (λ one other. unshared-stays p.ports (port_line port ∷ []) p.functions p.frames one other h.placed) h.known h.unshared;
     }
 
-placed-new : (p : Platform) (function : FunctionLine) (above : Option PortLine) → None ≡ function_fault_below p function above → is_placed_below above function ≡ true
+placed-new : (p : Platform) (function : EndpointFunction) (above : Option DownstreamPort) → None ≡ function_fault_below p function above → is_placed_below above function ≡ true
 placed-new p function None none = absurd cc
 placed-new p function (Some port) none =
     let fits = none-first _ _ _ (none-rest _ _ _ none) in
     and-both _ _ (not-false (function.bar % 4096 == 0) (or-first _ _ fits)) (not-false (nat_le port.base function.bar && nat_le (function.bar + 4095) port.limit) (or-second _ _ fits))
 
 -- a function
-alone-below : (p : Platform) (function : FunctionLine) (above : Option PortLine) → port_over p.ports function.id ≡ above → AreAlone p.switches p.ports p.functions → None ≡ function_fault_below p function above → AreAlone p.switches p.ports (p.functions ++ function ∷ [])
+alone-below : (p : Platform) (function : EndpointFunction) (above : Option DownstreamPort) → port_leading_to p.ports function.id ≡ above → AreAlone p.switches p.ports p.functions → None ≡ function_fault_below p function above → AreAlone p.switches p.ports (p.functions ++ function ∷ [])
 alone-below p function None over h none = absurd cc
 alone-below p function (Some port) over h none = alone-function p.switches p.ports p.functions function port over (none-first _ _ _ none) h
 
-free-below : (p : Platform) (function : FunctionLine) (above : Option PortLine) → None ≡ function_fault_below p function above → is_no_switch p.switches function ≡ true
+free-below : (p : Platform) (function : EndpointFunction) (above : Option DownstreamPort) → None ≡ function_fault_below p function above → is_no_switch p.switches function ≡ true
 free-below p function None none = absurd cc
 free-below p function (Some port) none = free-function p.switches p.functions function (none-first _ _ _ none)
 
-pub keeps-function : (p : Platform) (function : FunctionLine) → IsPlatform p → None ≡ function_fault p function → IsPlatform (record p { functions = p.functions ++ function ∷ [] })
+pub keeps-function : (p : Platform) (function : EndpointFunction) → IsPlatform p → None ≡ function_fault p function → IsPlatform (record p { functions = p.functions ++ function ∷ [] })
 unfolding function_fault
 keeps-function p function h none =
-    let alone = alone-below p function (port_over p.ports function.id) refl h.alone none in
+    let alone = alone-below p function (port_leading_to p.ports function.id) refl h.alone none in
     record {
       limits = record {
         frames = h.limits.frames;
@@ -202,20 +203,20 @@ keeps-function p function h none =
       windows = h.windows;
       hung = h.hung;
       levels = h.levels;
-      placed = all-more (is_placed p.ports) p.functions function h.placed (placed-new p function (port_over p.ports function.id) none);
+      placed = all-more (is_placed p.ports) p.functions function h.placed (placed-new p function (port_leading_to p.ports function.id) none);
       alone = alone;
-      free = all-more (is_no_switch p.switches) p.functions function h.free (free-below p function (port_over p.ports function.id) none);
+      free = all-more (is_no_switch p.switches) p.functions function h.free (free-below p function (port_leading_to p.ports function.id) none);
       known = all-weaker (is_known_map p.functions p.frames) (is_known_map (p.functions ++ function ∷ []) p.frames) p.maps (known-stays p.functions (function ∷ []) p.frames) h.known;
       home = h.home;
       unshared = h.unshared;
     }
 
 -- a switch
-few-switches : (p : Platform) (id : ℕ) (above : Option PortLine) → None ≡ switch_fault_below p id above → nat_le 8 (length p.switches) ≡ false
+few-switches : (p : Platform) (id : ℕ) (above : Option DownstreamPort) → None ≡ switch_fault_below p id above → nat_le 8 (length p.switches) ≡ false
 few-switches p id None none = absurd cc
 few-switches p id (Some port) none = or-first _ _ (none-first _ _ _ (none-rest _ _ _ none))
 
-hung-new : (p : Platform) (switch : SwitchText) (above : Option PortLine) → None ≡ switch_fault_below p switch.id above → is_hung_below above (switch_line switch) ≡ true
+hung-new : (p : Platform) (switch : SwitchText) (above : Option DownstreamPort) → None ≡ switch_fault_below p switch.id above → is_hung_below above (switch_line switch) ≡ true
 hung-new p switch None none = absurd cc
 hung-new p switch (Some port) none =
     let rules = three-none (not (switch.id == id_below port) || is_taken p.switches p.functions switch.id) (nat_le 8 (length p.switches) || is_third_level p.switches p.ports (bus_of port.id)) (nat_lt port.subordinate (port.secondary + 1))
@@ -223,20 +224,20 @@ hung-new p switch (Some port) none =
     let room : port.secondary + 1 ≤ port.subordinate = ltb-false port.subordinate (port.secondary + 1) rules.2 in
     and-both _ _ (not-false (switch.id == id_below port) (or-first _ _ rules.0)) (lt-ltb port.secondary port.subordinate (omega arith))
 
-level-hung : (p : Platform) (switch : SwitchText) (above : Option PortLine) → IsPlatform p → ((port : PortLine) → above ≡ Some port → is_nested p.switches p.ports port ≡ true) → None ≡ switch_fault_below p switch.id above → is_level_below (p.switches ++ switch_line switch ∷ []) p.ports above ≡ true
+level-hung : (p : Platform) (switch : SwitchText) (above : Option DownstreamPort) → IsPlatform p → ((port : DownstreamPort) → above ≡ Some port → is_nested p.switches p.ports port ≡ true) → None ≡ switch_fault_below p switch.id above → is_level_below (p.switches ++ switch_line switch ∷ []) p.ports above ≡ true
 level-hung p switch None h nested none = refl
 level-hung p switch (Some port) h nested none =
     let rules = three-none (not (switch.id == id_below port) || is_taken p.switches p.functions switch.id) (nat_le 8 (length p.switches) || is_third_level p.switches p.ports (bus_of port.id)) (nat_lt port.subordinate (port.secondary + 1))
     cause.Line cause.Limit cause.BusOutside none in
     level-new p.switches (switch_line switch ∷ []) p.ports port h.nested (nested port refl) (or-second (nat_le 8 (length p.switches)) (is_third_level p.switches p.ports (bus_of port.id)) rules.1)
 
-alone-hung : (p : Platform) (switch : SwitchText) (above : Option PortLine) → port_at p.ports switch.above ≡ above → AreAlone p.switches p.ports p.functions → None ≡ switch_fault_below p switch.id above → AreAlone (p.switches ++ switch_line switch ∷ []) p.ports p.functions
+alone-hung : (p : Platform) (switch : SwitchText) (above : Option DownstreamPort) → port_at p.ports switch.above ≡ above → AreAlone p.switches p.ports p.functions → None ≡ switch_fault_below p switch.id above → AreAlone (p.switches ++ switch_line switch ∷ []) p.ports p.functions
 alone-hung p switch None at_port h none = absurd cc
 alone-hung p switch (Some port) at_port h none =
     let rule = none-first (not (switch.id == id_below port) || is_taken p.switches p.functions switch.id) _ _ none in
-    alone-switch p.switches p.ports p.functions (switch_line switch) (λ (other : PortLine). other.id == switch.above) port at_port (eqb-true switch.id (id_below port) (not-false _ (or-first _ _ rule))) (or-second _ _ rule) h
+    alone-switch p.switches p.ports p.functions (switch_line switch) (λ (other : DownstreamPort). other.id == switch.above) port at_port (eqb-true switch.id (id_below port) (not-false _ (or-first _ _ rule))) (or-second _ _ rule) h
 
-free-hung : (p : Platform) (switch : SwitchText) (above : Option PortLine) → list_all (is_no_switch p.switches) p.functions ≡ true → None ≡ switch_fault_below p switch.id above → list_all (is_no_switch (p.switches ++ switch_line switch ∷ [])) p.functions ≡ true
+free-hung : (p : Platform) (switch : SwitchText) (above : Option DownstreamPort) → list_all (is_no_switch p.switches) p.functions ≡ true → None ≡ switch_fault_below p switch.id above → list_all (is_no_switch (p.switches ++ switch_line switch ∷ [])) p.functions ≡ true
 free-hung p switch None h none = absurd cc
 free-hung p switch (Some port) h none =
     free-switch p.switches p.functions (switch_line switch) (or-second (not (switch.id == id_below port)) (is_taken p.switches p.functions switch.id) (none-first _ _ _ none)) h
@@ -260,7 +261,7 @@ keeps-switch p switch h none = record {
   hung = all-more (is_hung p.ports) p.switches (switch_line switch) h.hung (hung-new p switch (port_at p.ports switch.above) none);
   levels = all-more (is_level (p.switches ++ switch_line switch ∷ []) p.ports) p.switches (switch_line switch)
       (all-weaker (is_level p.switches p.ports) (is_level (p.switches ++ switch_line switch ∷ []) p.ports) p.switches (λ other. level-among p.switches (switch_line switch ∷ []) p.ports other h.nested) h.levels)
-      (level-hung p switch (port_at p.ports switch.above) h (λ port e. all-found (λ (other : PortLine). other.id == switch.above) (is_nested p.switches p.ports) p.ports port e h.nested) none);
+      (level-hung p switch (port_at p.ports switch.above) h (λ port e. all-found (λ (other : DownstreamPort). other.id == switch.above) (is_nested p.switches p.ports) p.ports port e h.nested) none);
   placed = h.placed;
   alone = alone-hung p switch (port_at p.ports switch.above) refl h.alone none;
   free = free-hung p switch (port_at p.ports switch.above) h.free none;

@@ -1,4 +1,3 @@
-pub mod OwnerLemmas
 pub mod Pieces
 pub mod Bools
 pub mod Counts

@@ -3,8 +3,8 @@ use Rattle.std.proofs.Common.{◌≡◌, Bool, true, false, cond, List, Option, 
 use Rattle.std.specs.Prelude.{nat_lt}
 use Rattle.fab_types.specs.declared.faults.layout.LayoutCause.{LayoutCause}
 use Rattle.fab_types.specs.declared.faults.layout.LayoutCause.TheVariants as cause
-use Rattle.layout.specs.declared.lines.PortLine.{PortLine}
-use Rattle.statement.specs.declared.lines.PortText.{PortText}
+use Rattle.platform.specs.declared.parts.DownstreamPort.{DownstreamPort}
+use Rattle.layout_line.specs.declared.lines.PortText.{PortText}
 use Rattle.layout.specs.Rules.{port_fault_below, has_bad_fields, is_past_port_limits, buses_meet, buses_are_outside, windows_meet, window_is_outside, owner_differs}
 
 pub none-first : (b : Bool) (refusal : LayoutCause) (rest : Option LayoutCause) → None ≡ cond b (Some refusal) rest → b ≡ false
@@ -36,7 +36,7 @@ four-rest false false false true x y z w rest e = absurd cc
 four-rest false false false false x y z w rest e = (refl, refl, refl, refl, e)
 
 -- none of the rules for a port is broken
-pub record IsGoodPort (ports : List PortLine) (above : Option PortLine) (port : PortText) : Type 0 where
+pub record IsGoodPort (ports : List DownstreamPort) (above : Option DownstreamPort) (port : PortText) : Type 0 where
   pub fields : has_bad_fields ports port ≡ false
   pub limits : is_past_port_limits ports port ≡ false
   pub buses : buses_meet ports port ≡ false
@@ -45,7 +45,7 @@ pub record IsGoodPort (ports : List PortLine) (above : Option PortLine) (port : 
   pub window : window_is_outside above port ≡ false
   pub owner : owner_differs above port ≡ false
 
-pub good-port : (ports : List PortLine) (above : Option PortLine) (port : PortText) → None ≡ port_fault_below ports above port → IsGoodPort ports above port
+pub good-port : (ports : List DownstreamPort) (above : Option DownstreamPort) (port : PortText) → None ≡ port_fault_below ports above port → IsGoodPort ports above port
 unfolding port_fault_below
 good-port ports above port none =
     let first = four-rest (has_bad_fields ports port) (is_past_port_limits ports port) (buses_meet ports port) (buses_are_outside above port) cause.Line cause.Limit cause.BusOverlap cause.BusOutside

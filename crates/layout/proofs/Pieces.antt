@@ -7,7 +7,7 @@ use Rattle.fab_types.specs.declared.faults.layout.LayoutCause.TheVariants as cau
 use Rattle.fab_types.specs.declared.faults.layout.LayoutFault.{LayoutFault}
 use Rattle.text.specs.Text.{cut, pieces}
 use Rattle.text.proofs.Pieces.{pieces-cut, pieces-no_cut, some-piece}
-use Rattle.layout.specs.Platform.{Platform, no_lines}
+use Rattle.platform.specs.Platform.{Platform, no_lines}
 use Rattle.layout.specs.Reading.{with_line, read_from, next_number, fault_at, ended, reading, IsReading}
 
 -- a line that is no last piece is read, and then the rest

@@ -5,7 +5,7 @@ use Rattle.fab_types.specs.declared.faults.layout.LayoutCause.{LayoutCause}
 use Rattle.fab_types.specs.declared.faults.layout.LayoutCause.TheVariants as cause
 use Rattle.fab_types.specs.declared.faults.layout.LayoutFault.{LayoutFault}
 use Rattle.text.specs.Text.{is_last}
-use Rattle.layout.specs.Platform.{Platform}
+use Rattle.platform.specs.Platform.{Platform}
 use Rattle.layout.specs.Reading.{with_line, read_from, next_number, fault_at, ended, and_on, is_reached}
 
 here : (n : ℕ) → nat_le n n ≡ true

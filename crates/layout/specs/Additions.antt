@@ -1,42 +1,42 @@
 -- A platform with one line more.
 use Rattle.std.specs.Prelude.{ℕ, [], ◌∷◌, ◌++◌, Some, None}
-use Rattle.layout.specs.declared.lines.SwitchLine.{SwitchLine}
-use Rattle.layout.specs.declared.lines.PortLine.{PortLine}
-use Rattle.layout.specs.declared.lines.FunctionLine.{FunctionLine}
-use Rattle.layout.specs.declared.lines.Rights.{Rights}
-use Rattle.layout.specs.declared.lines.MapTarget.{MapTarget}
-use Rattle.layout.specs.declared.lines.MapTarget.TheVariants as mapped
-use Rattle.layout.specs.declared.lines.MapLine.{MapLine}
-use Rattle.layout.specs.declared.lines.BudgetLine.{BudgetLine}
-use Rattle.layout.specs.declared.lines.CreditLimits.{CreditLimits}
-use Rattle.layout.specs.declared.lines.CreditLine.{CreditLine}
+use Rattle.platform.specs.declared.parts.Switch.{Switch}
+use Rattle.platform.specs.declared.parts.DownstreamPort.{DownstreamPort}
+use Rattle.platform.specs.declared.parts.EndpointFunction.{EndpointFunction}
+use Rattle.platform.specs.declared.parts.Rights.{Rights}
+use Rattle.platform.specs.declared.parts.MapTarget.{MapTarget}
+use Rattle.platform.specs.declared.parts.MapTarget.TheVariants as mapped
+use Rattle.platform.specs.declared.parts.Mapping.{Mapping}
+use Rattle.platform.specs.declared.parts.BudgetLine.{BudgetLine}
+use Rattle.platform.specs.declared.parts.CreditLimits.{CreditLimits}
+use Rattle.platform.specs.declared.parts.CreditLine.{CreditLine}
 use Rattle.fab_types.specs.declared.controls.AcsControl.{AcsControl}
-use Rattle.statement.specs.declared.lines.SwitchText.{SwitchText}
-use Rattle.statement.specs.declared.lines.PortText.{PortText}
-use Rattle.statement.specs.declared.lines.FunctionText.{FunctionText}
-use Rattle.statement.specs.declared.lines.RightsText.{RightsText}
-use Rattle.statement.specs.declared.lines.MapText.{MapText}
-use Rattle.statement.specs.declared.lines.TargetText.{TargetText}
-use Rattle.statement.specs.declared.lines.TargetText.TheVariants as target
-use Rattle.statement.specs.declared.lines.BudgetText.{BudgetText}
-use Rattle.statement.specs.declared.lines.CreditText.{CreditText}
-use Rattle.statement.specs.declared.lines.Statement.{Statement}
-use Rattle.statement.specs.declared.lines.Statement.TheVariants.{Frames, Root, Switch, Port, Function, Map, Budget, Credit}
-use Rattle.layout.specs.Platform.{Platform}
+use Rattle.layout_line.specs.declared.lines.SwitchText.{SwitchText}
+use Rattle.layout_line.specs.declared.lines.PortText.{PortText}
+use Rattle.layout_line.specs.declared.lines.FunctionText.{FunctionText}
+use Rattle.layout_line.specs.declared.lines.RightsText.{RightsText}
+use Rattle.layout_line.specs.declared.lines.MapText.{MapText}
+use Rattle.layout_line.specs.declared.lines.TargetText.{TargetText}
+use Rattle.layout_line.specs.declared.lines.TargetText.TheVariants as target
+use Rattle.layout_line.specs.declared.lines.BudgetText.{BudgetText}
+use Rattle.layout_line.specs.declared.lines.CreditText.{CreditText}
+use Rattle.layout_line.specs.declared.lines.LayoutLine.{LayoutLine}
+use Rattle.layout_line.specs.declared.lines.LayoutLine.TheVariants.{Frames, Root, Port, Function, Map, Budget, Credit}
+use Rattle.platform.specs.Platform.{Platform}
 
-abbrev pub root_line : ℕ → SwitchLine
+abbrev pub root_line : ℕ → Switch
 root_line id = record { id = id; above = None }
 
-abbrev pub switch_line : SwitchText → SwitchLine
+abbrev pub switch_line : SwitchText → Switch
 switch_line switch = record { id = switch.id; above = Some switch.above }
 
 abbrev pub controls_of : ℕ → AcsControl
 controls_of bits = record { 0 = bits }
 
-abbrev pub port_line : PortText → PortLine
+abbrev pub port_line : PortText → DownstreamPort
 port_line port = record { id = port.id; secondary = port.secondary; subordinate = port.subordinate; base = port.base; limit = port.limit; controls = controls_of port.controls; owner = port.owner }
 
-abbrev pub function_line : FunctionText → FunctionLine
+abbrev pub function_line : FunctionText → EndpointFunction
 function_line function = record { id = function.id; bar = function.bar }
 
 abbrev pub target_of_text : TargetText → MapTarget
@@ -46,7 +46,7 @@ target_of_text (target.Peer peer) = mapped.Peer peer
 abbrev pub rights_of_text : RightsText → Rights
 rights_of_text rights = record { read = rights.read; write = rights.write }
 
-abbrev pub map_line : MapText → MapLine
+abbrev pub map_line : MapText → Mapping
 map_line map = record { requester = map.requester; page = map.page; target = target_of_text map.target; rights = rights_of_text map.rights }
 
 abbrev pub budget_line : BudgetText → BudgetLine
@@ -58,10 +58,10 @@ limits_of_text credit = record { posted_headers = credit.posted_headers; posted_
 abbrev pub credit_line : CreditText → CreditLine
 credit_line credit = record { id = credit.id; limits = limits_of_text credit }
 
-abbrev pub add : Platform → Statement → Platform
+abbrev pub add : Platform → LayoutLine → Platform
 add platform (Frames count) = record platform { frames = count }
 add platform (Root id) = record platform { switches = platform.switches ++ root_line id ∷ [] }
-add platform (Switch switch) = record platform { switches = platform.switches ++ switch_line switch ∷ [] }
+add platform (LayoutLine.Switch switch) = record platform { switches = platform.switches ++ switch_line switch ∷ [] }
 add platform (Port port) = record platform { ports = platform.ports ++ port_line port ∷ [] }
 add platform (Function function) = record platform { functions = platform.functions ++ function_line function ∷ [] }
 add platform (Map map) = record platform { maps = platform.maps ++ map_line map ∷ [] }

@@ -2,18 +2,19 @@
 use Rattle.std.specs.Prelude.{◌≡◌, ℕ, ◌+◌, ◌-◌, ◌%◌, ◌^◌, ◌==◌, ◌≤◌, Bool, true, false, ◌&&◌, not, nat_le, nat_lt, List, [], ◌∷◌, length, count_by, Option, Some, None}
 use Rattle.std.specs.List.{list_all}
 use Rattle.fab_types.specs.Id.{bus_of, id_of}
-use Rattle.layout.specs.declared.lines.SwitchLine.{SwitchLine}
-use Rattle.layout.specs.declared.lines.PortLine.{PortLine}
-use Rattle.layout.specs.declared.lines.FunctionLine.{FunctionLine}
-use Rattle.layout.specs.declared.lines.MapTarget.{MapTarget}
-use Rattle.layout.specs.declared.lines.MapTarget.TheVariants as mapped
-use Rattle.layout.specs.declared.lines.MapLine.{MapLine}
-use Rattle.layout.specs.declared.lines.BudgetLine.{BudgetLine}
-use Rattle.layout.specs.declared.lines.CreditLine.{CreditLine}
-use Rattle.layout.specs.Platform.{Platform}
-use Rattle.layout.specs.Owners.{is_function}
-use Rattle.layout.specs.Tree.{port_at, port_over, port_above, switch_on, id_below, is_switch, is_third_level, is_taken, domain_of}
-use Rattle.layout.specs.Rules.{is_within, is_on_bus, is_of_requester, is_mapping_of}
+use Rattle.platform.specs.declared.parts.Switch.{Switch}
+use Rattle.platform.specs.declared.parts.DownstreamPort.{DownstreamPort}
+use Rattle.platform.specs.declared.parts.EndpointFunction.{EndpointFunction}
+use Rattle.platform.specs.declared.parts.MapTarget.{MapTarget}
+use Rattle.platform.specs.declared.parts.MapTarget.TheVariants as mapped
+use Rattle.platform.specs.declared.parts.Mapping.{Mapping}
+use Rattle.platform.specs.declared.parts.BudgetLine.{BudgetLine}
+use Rattle.platform.specs.declared.parts.CreditLine.{CreditLine}
+use Rattle.platform.specs.Platform.{Platform}
+use Rattle.platform.specs.Owners.{is_function}
+use Rattle.platform.specs.Tree.{port_at, port_leading_to, port_above, switch_on, id_below, is_switch, is_third_level, is_taken, domain_of}
+use Rattle.layout.specs.Rules.{is_within, is_of_requester, is_mapping_of}
+use Rattle.platform.specs.Tree.{is_on_bus}
 
 abbrev pub is_good_budget : BudgetLine → Bool
 is_good_budget line = is_within 1 16384 line.begins
@@ -41,7 +42,7 @@ each_pair fit (x ∷ xs) = list_all (fit x) xs && each_pair fit xs
 
 -- two ports have different IDs; if they are ports of one switch, neither their buses nor their windows
 -- meet
-abbrev pub are_apart : PortLine → PortLine → Bool
+abbrev pub are_apart : DownstreamPort → DownstreamPort → Bool
 are_apart one other =
     not (one.id == other.id)
     && not (is_on_bus (bus_of other.id) one && nat_le one.secondary other.subordinate && nat_le other.secondary one.subordinate)
@@ -49,89 +50,89 @@ are_apart one other =
 
 -- a port's buses come after its own, and those and its window are inside those of the port above its
 -- switch, whose owner it shares
-abbrev pub is_inside : Option PortLine → PortLine → Bool
+abbrev pub is_inside : Option DownstreamPort → DownstreamPort → Bool
 is_inside None port = nat_lt (bus_of port.id) port.secondary
 is_inside (Some above) port =
     nat_lt (bus_of port.id) port.secondary && nat_le port.subordinate above.subordinate
     && (nat_le above.base port.base && nat_le port.limit above.limit) && (port.owner == above.owner)
 
-abbrev pub is_nested_on : List PortLine → Option SwitchLine → PortLine → Bool
+abbrev pub is_nested_on : List DownstreamPort → Option Switch → DownstreamPort → Bool
 is_nested_on ports None port = false
 is_nested_on ports (Some switch) port = nat_le port.secondary port.subordinate && nat_lt port.base port.limit && is_inside (port_above ports switch) port
 
 -- a port stands on the internal bus of a switch, inside the port above
-abbrev pub is_nested : List SwitchLine → List PortLine → PortLine → Bool
+abbrev pub is_nested : List Switch → List DownstreamPort → DownstreamPort → Bool
 is_nested switches ports port = is_nested_on ports (switch_on switches (bus_of port.id)) port
 
-abbrev pub has_domain : PortLine → Bool
+abbrev pub has_domain : DownstreamPort → Bool
 has_domain port = is_within 1 31 port.owner
 
 -- addresses of windows have 32 bits
-abbrev pub ends_low : PortLine → Bool
+abbrev pub ends_low : DownstreamPort → Bool
 ends_low port = nat_lt port.limit (2 ^ 32)
 
-abbrev pub is_hung_below : Option PortLine → SwitchLine → Bool
+abbrev pub is_hung_below : Option DownstreamPort → Switch → Bool
 is_hung_below None switch = false
 is_hung_below (Some port) switch = (switch.id == id_below port) && nat_lt port.secondary port.subordinate
 
-abbrev pub is_hung_by : List PortLine → Option ℕ → SwitchLine → Bool
+abbrev pub is_hung_by : List DownstreamPort → Option ℕ → Switch → Bool
 is_hung_by ports None switch = switch.id == id_of 1 0 0
 is_hung_by ports (Some above) switch = is_hung_below (port_at ports above) switch
 
 -- a switch is the top one, 01:00.0, or stands directly below a port that has a bus left for its ports
-abbrev pub is_hung : List PortLine → SwitchLine → Bool
+abbrev pub is_hung : List DownstreamPort → Switch → Bool
 is_hung ports switch = is_hung_by ports switch.above switch
 
-abbrev pub is_level_below : List SwitchLine → List PortLine → Option PortLine → Bool
+abbrev pub is_level_below : List Switch → List DownstreamPort → Option DownstreamPort → Bool
 is_level_below switches ports None = true
 is_level_below switches ports (Some port) = not (is_third_level switches ports (bus_of port.id))
 
 -- at most two switches stand above a switch
-abbrev pub is_level : List SwitchLine → List PortLine → SwitchLine → Bool
+abbrev pub is_level : List Switch → List DownstreamPort → Switch → Bool
 is_level switches ports switch = is_level_below switches ports (port_above ports switch)
 
-abbrev pub is_placed_below : Option PortLine → FunctionLine → Bool
+abbrev pub is_placed_below : Option DownstreamPort → EndpointFunction → Bool
 is_placed_below None function = false
 is_placed_below (Some port) function = (function.bar % 4096 == 0) && (nat_le port.base function.bar && nat_le (function.bar + 4095) port.limit)
 
 -- a function stands directly below a port, and its page is in that port's window
-abbrev pub is_placed : List PortLine → FunctionLine → Bool
-is_placed ports function = is_placed_below (port_over ports function.id) function
+abbrev pub is_placed : List DownstreamPort → EndpointFunction → Bool
+is_placed ports function = is_placed_below (port_leading_to ports function.id) function
 
 -- does something stand directly below the port?
-abbrev pub is_used : List SwitchLine → List FunctionLine → PortLine → Bool
+abbrev pub is_used : List Switch → List EndpointFunction → DownstreamPort → Bool
 is_used switches functions port = is_taken switches functions (id_below port)
 
 -- functions, and switches but the top one, stand alone below ports: there are no more of them than ports
 -- with something below
-abbrev pub AreAlone : List SwitchLine → List PortLine → List FunctionLine → Type 0
+abbrev pub AreAlone : List Switch → List DownstreamPort → List EndpointFunction → Type 0
 AreAlone switches ports functions = length functions + (length switches - 1) ≤ count_by (is_used switches functions) ports
 
-abbrev pub is_no_switch : List SwitchLine → FunctionLine → Bool
+abbrev pub is_no_switch : List Switch → EndpointFunction → Bool
 is_no_switch switches function = not (is_switch switches function.id)
 
-abbrev pub is_known : List FunctionLine → ℕ → MapTarget → Bool
+abbrev pub is_known : List EndpointFunction → ℕ → MapTarget → Bool
 is_known functions frames (mapped.Frame frame) = nat_lt frame frames
 is_known functions frames (mapped.Peer peer) = is_function functions peer
 
 -- a mapping is of a function, and leads to a frame that there is or to a function
-abbrev pub is_known_map : List FunctionLine → ℕ → MapLine → Bool
+abbrev pub is_known_map : List EndpointFunction → ℕ → Mapping → Bool
 is_known_map functions frames line = is_function functions line.requester && is_known functions frames line.target
 
-abbrev pub is_home_target : List PortLine → ℕ → MapTarget → Bool
+abbrev pub is_home_target : List DownstreamPort → ℕ → MapTarget → Bool
 is_home_target ports domain (mapped.Frame frame) = true
 is_home_target ports domain (mapped.Peer peer) = domain_of ports peer == domain
 
 -- a mapping that leads to a function stays in its domain
-abbrev pub is_home_map : List PortLine → MapLine → Bool
+abbrev pub is_home_map : List DownstreamPort → Mapping → Bool
 is_home_map ports line = is_home_target ports (domain_of ports line.requester) line.target
 
-abbrev pub is_own_frame : List PortLine → MapLine → ℕ → MapTarget → Bool
+abbrev pub is_own_frame : List DownstreamPort → Mapping → ℕ → MapTarget → Bool
 is_own_frame ports one domain (mapped.Frame frame) = not (is_mapping_of frame one.target && not (domain_of ports one.requester == domain))
 is_own_frame ports one domain (mapped.Peer peer) = true
 
 -- two mappings of one frame are of one domain
-abbrev pub share_no_frame : List PortLine → MapLine → MapLine → Bool
+abbrev pub share_no_frame : List DownstreamPort → Mapping → Mapping → Bool
 share_no_frame ports one other = is_own_frame ports one (domain_of ports other.requester) other.target
 
 -- what holds of every platform

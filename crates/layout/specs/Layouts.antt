@@ -1,7 +1,7 @@
 -- What a clause sees of a `Layout`.
-use Rattle.layout.specs.Platform.{Platform}
+use Rattle.platform.specs.Platform.{Platform}
 use Rattle.layout.specs.Laws.{IsPlatform}
-use Rattle.layout.specs.declared.platform.Layout.TheInside.{Inside}
+use Rattle.layout.specs.declared.layout.Layout.TheInside.{Inside}
 
 abbrev pub platform_of : Inside → Platform
 platform_of s = record {
@@ -14,5 +14,5 @@ platform_of s = record {
   credits = s.credits.items;
 }
 
-pub record IsKept (s : Inside) : Type 0 where
+pub record IsLayout (s : Inside) : Type 0 where
   pub platform : IsPlatform (platform_of s)

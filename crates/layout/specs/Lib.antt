@@ -1,15 +1,11 @@
-pub mod Platform
-pub mod Tree
 pub mod Rules
 pub mod Additions
 pub mod Reading
 pub mod Views
 pub mod Laws
 pub mod Layouts
-pub mod Share
-pub mod Owners
 pub mod Reach
 pub mod Tables
 pub mod Starts
 pub mod First
-pub use Rattle.statement.specs.Statements
+pub use Rattle.layout_line.specs.LayoutLines

@@ -2,19 +2,19 @@
 use Rattle.std.specs.Prelude.{ℕ, ◌==◌, Bool, false, List, Option, Some, None, option_map, if◌then◌else◌}
 use Rattle.std.specs.List.{find}
 use Rattle.fab_types.specs.Id.{bus_of, host_of}
-use Rattle.fab_types.specs.declared.place.Origin.{Origin}
-use Rattle.fab_types.specs.declared.place.Origin.TheVariants.{Function, Host}
-use Rattle.layout.specs.declared.lines.PortLine.{PortLine}
-use Rattle.layout.specs.declared.lines.FunctionLine.{FunctionLine}
-use Rattle.layout.specs.Owners.{first_port, holds_bus}
-use Rattle.layout.specs.Share.{Share}
+use Rattle.fab_types.specs.declared.origin.Origin.{Origin}
+use Rattle.fab_types.specs.declared.origin.Origin.TheVariants.{Function, Host}
+use Rattle.platform.specs.declared.parts.DownstreamPort.{DownstreamPort}
+use Rattle.platform.specs.declared.parts.EndpointFunction.{EndpointFunction}
+use Rattle.platform.specs.Owners.{first_port, holds_bus}
+use Rattle.platform.specs.Share.{Share}
 
-abbrev pub holds_bus_if_any : Option PortLine → ℕ → Bool
+abbrev pub holds_bus_if_any : Option DownstreamPort → ℕ → Bool
 holds_bus_if_any None bus = false
 holds_bus_if_any (Some port) bus = holds_bus port bus
 
 -- the function whose first port has the bus below it
-abbrev pub function_at : List PortLine → List FunctionLine → ℕ → Option ℕ
+abbrev pub function_at : List DownstreamPort → List EndpointFunction → ℕ → Option ℕ
 function_at ports functions bus = option_map (λ line. line.id) (find (λ line. holds_bus_if_any (first_port ports line.id) bus) functions)
 
 -- an ID leads to the domain's host, if it is that host's, or by its bus to a function

@@ -4,11 +4,11 @@ use Rattle.std.specs.Str.{bytes_eq}
 use Rattle.fab_types.specs.declared.faults.layout.LayoutCause.{LayoutCause}
 use Rattle.fab_types.specs.declared.faults.layout.LayoutCause.TheVariants as cause
 use Rattle.fab_types.specs.declared.faults.layout.LayoutFault.{LayoutFault}
-use Rattle.statement.specs.declared.lines.Statement.{Statement}
+use Rattle.layout_line.specs.declared.lines.LayoutLine.{LayoutLine}
 use Rattle.text.specs.Text.{pieces, is_last, is_comment}
-use Rattle.statement.specs.Statements.{statement_of}
-use Rattle.layout.specs.Platform.{Platform, no_lines}
-use Rattle.layout.specs.Tree.{has_root}
+use Rattle.layout_line.specs.LayoutLines.{layout_line_of}
+use Rattle.platform.specs.Platform.{Platform, no_lines}
+use Rattle.platform.specs.Tree.{has_root}
 use Rattle.layout.specs.Rules.{fault_of}
 use Rattle.layout.specs.Additions.{add}
 
@@ -17,16 +17,16 @@ unless_faulty None platform = Ok platform
 unless_faulty (Some refusal) platform = Err refusal
 
 -- a line that says this is added, if nothing is wrong with it. A line of no form is faulty.
-unfoldable pub with_statement : Platform → Statement → Result Platform LayoutCause
-with_statement platform statement = unless_faulty (fault_of platform statement) (add platform statement)
+unfoldable pub with_layout_line : Platform → LayoutLine → Result Platform LayoutCause
+with_layout_line platform statement = unless_faulty (fault_of platform statement) (add platform statement)
 
-abbrev pub with_form : Platform → Option Statement → Result Platform LayoutCause
+abbrev pub with_form : Platform → Option LayoutLine → Result Platform LayoutCause
 with_form platform None = Err cause.Line
-with_form platform (Some statement) = with_statement platform statement
+with_form platform (Some statement) = with_layout_line platform statement
 
 -- a comment says nothing
 unfoldable pub with_line : Platform → List ℕ → Result Platform LayoutCause
-with_line platform line = if is_comment line then Ok platform else with_form platform (statement_of line)
+with_line platform line = if is_comment line then Ok platform else with_form platform (layout_line_of line)
 
 abbrev pub fault_at : ℕ → LayoutCause → LayoutFault
 fault_at number refusal = record { cause = refusal; line = number }

@@ -4,24 +4,24 @@ use Rattle.std.specs.List.{list_any}
 use Rattle.fab_types.specs.Id.{id_of, bus_of, function_of}
 use Rattle.fab_types.specs.declared.faults.layout.LayoutCause.{LayoutCause}
 use Rattle.fab_types.specs.declared.faults.layout.LayoutCause.TheVariants as cause
-use Rattle.layout.specs.declared.lines.SwitchLine.{SwitchLine}
-use Rattle.layout.specs.declared.lines.PortLine.{PortLine}
-use Rattle.layout.specs.declared.lines.FunctionLine.{FunctionLine}
-use Rattle.layout.specs.declared.lines.MapTarget.{MapTarget}
-use Rattle.layout.specs.declared.lines.MapTarget.TheVariants as mapped
-use Rattle.layout.specs.declared.lines.MapLine.{MapLine}
-use Rattle.statement.specs.declared.lines.SwitchText.{SwitchText}
-use Rattle.statement.specs.declared.lines.PortText.{PortText}
-use Rattle.statement.specs.declared.lines.MapText.{MapText}
-use Rattle.statement.specs.declared.lines.TargetText.{TargetText}
-use Rattle.statement.specs.declared.lines.TargetText.TheVariants as target
-use Rattle.statement.specs.declared.lines.BudgetText.{BudgetText}
-use Rattle.statement.specs.declared.lines.CreditText.{CreditText}
-use Rattle.statement.specs.declared.lines.Statement.{Statement}
-use Rattle.statement.specs.declared.lines.Statement.TheVariants.{Frames, Root, Switch, Port, Function, Map, Budget, Credit}
-use Rattle.layout.specs.Owners.{is_function, owns_port}
-use Rattle.layout.specs.Tree.{port_at, port_over, id_below, switch_on, port_above, is_third_level, is_taken, domain_of}
-use Rattle.layout.specs.Platform.{Platform}
+use Rattle.platform.specs.declared.parts.Switch.{Switch}
+use Rattle.platform.specs.declared.parts.DownstreamPort.{DownstreamPort}
+use Rattle.platform.specs.declared.parts.EndpointFunction.{EndpointFunction}
+use Rattle.platform.specs.declared.parts.MapTarget.{MapTarget}
+use Rattle.platform.specs.declared.parts.MapTarget.TheVariants as mapped
+use Rattle.platform.specs.declared.parts.Mapping.{Mapping}
+use Rattle.layout_line.specs.declared.lines.SwitchText.{SwitchText}
+use Rattle.layout_line.specs.declared.lines.PortText.{PortText}
+use Rattle.layout_line.specs.declared.lines.MapText.{MapText}
+use Rattle.layout_line.specs.declared.lines.TargetText.{TargetText}
+use Rattle.layout_line.specs.declared.lines.TargetText.TheVariants as target
+use Rattle.layout_line.specs.declared.lines.BudgetText.{BudgetText}
+use Rattle.layout_line.specs.declared.lines.CreditText.{CreditText}
+use Rattle.layout_line.specs.declared.lines.LayoutLine.{LayoutLine}
+use Rattle.layout_line.specs.declared.lines.LayoutLine.TheVariants.{Frames, Root, Port, Function, Map, Budget, Credit}
+use Rattle.platform.specs.Owners.{is_function, owns_port}
+use Rattle.platform.specs.Tree.{port_at, port_leading_to, id_below, switch_on, is_on_bus, port_above, is_third_level, is_taken, domain_of}
+use Rattle.platform.specs.Platform.{Platform}
 use Rattle.layout.specs.Additions.{function_line}
 
 -- the first cause whose condition holds
@@ -43,7 +43,7 @@ unfoldable pub root_fault : Platform → ℕ → Option LayoutCause
 root_fault platform id = first_of ((not (id == id_of 1 0 0) || not (length platform.switches == 0), cause.Line) ∷ [])
 
 -- `switch ID PORT`: directly below an earlier port below which nothing stands; 8 switches, 3 levels
-abbrev pub switch_fault_below : Platform → ℕ → Option PortLine → Option LayoutCause
+abbrev pub switch_fault_below : Platform → ℕ → Option DownstreamPort → Option LayoutCause
 switch_fault_below platform id None = Some cause.Line
 switch_fault_below platform id (Some port) = first_of (
     (not (id == id_below port) || is_taken platform.switches platform.functions id, cause.Line)
@@ -54,45 +54,42 @@ unfoldable pub switch_fault : Platform → SwitchText → Option LayoutCause
 switch_fault platform switch = switch_fault_below platform switch.id (port_at platform.ports switch.above)
 
 -- a port's ID is of function 0 and new; its buses and its window are in order, the window in whole MB
-unfoldable pub has_bad_fields : List PortLine → PortText → Bool
+unfoldable pub has_bad_fields : List DownstreamPort → PortText → Bool
 has_bad_fields ports port =
     not (function_of port.id == 0) || is_some (port_at ports port.id) || nat_lt port.subordinate port.secondary
     || not (port.base % 0x100000 == 0) || not (port.limit % 0x100000 == 0xfffff) || nat_le port.limit port.base
 
-abbrev pub is_on_bus : ℕ → PortLine → Bool
-is_on_bus bus port = bus_of port.id == bus
-
 -- 31 domains, 8 ports of a switch
-unfoldable pub is_past_port_limits : List PortLine → PortText → Bool
+unfoldable pub is_past_port_limits : List DownstreamPort → PortText → Bool
 is_past_port_limits ports port = not (is_within 1 31 port.owner) || nat_le 8 (count_by (is_on_bus (bus_of port.id)) ports)
 
 -- the buses of another port of the switch meet those of this one
-unfoldable pub buses_meet : List PortLine → PortText → Bool
+unfoldable pub buses_meet : List DownstreamPort → PortText → Bool
 buses_meet ports port =
     list_any (λ other. is_on_bus (bus_of port.id) other && nat_le other.secondary port.subordinate && nat_le port.secondary other.subordinate) ports
 
-unfoldable pub windows_meet : List PortLine → PortText → Bool
+unfoldable pub windows_meet : List DownstreamPort → PortText → Bool
 windows_meet ports port =
     list_any (λ other. is_on_bus (bus_of port.id) other && nat_le other.base port.limit && nat_le port.base other.limit) ports
 
-abbrev pub last_bus : Option PortLine → ℕ
+abbrev pub last_bus : Option DownstreamPort → ℕ
 last_bus None = 255
 last_bus (Some above) = above.subordinate
 
 -- the buses below a port come after its own, and are among those of the port above its switch
-abbrev pub buses_are_outside : Option PortLine → PortText → Bool
+abbrev pub buses_are_outside : Option DownstreamPort → PortText → Bool
 buses_are_outside above port = not (nat_lt (bus_of port.id) port.secondary && nat_le port.subordinate (last_bus above))
 
-abbrev pub window_is_outside : Option PortLine → PortText → Bool
+abbrev pub window_is_outside : Option DownstreamPort → PortText → Bool
 window_is_outside None port = false
 window_is_outside (Some above) port = not (nat_le above.base port.base && nat_le port.limit above.limit)
 
-abbrev pub owner_differs : Option PortLine → PortText → Bool
+abbrev pub owner_differs : Option DownstreamPort → PortText → Bool
 owner_differs None port = false
 owner_differs (Some above) port = not (port.owner == above.owner)
 
 -- `port ID SEC SUB BASE LIMIT ACS OWNER`: on the internal bus of an earlier switch
-unfoldable pub port_fault_below : List PortLine → Option PortLine → PortText → Option LayoutCause
+unfoldable pub port_fault_below : List DownstreamPort → Option DownstreamPort → PortText → Option LayoutCause
 port_fault_below ports above port = first_of (
     (has_bad_fields ports port, cause.Line)
     ∷ (is_past_port_limits ports port, cause.Limit)
@@ -103,7 +100,7 @@ port_fault_below ports above port = first_of (
     ∷ (owner_differs above port, cause.OwnerMixed)
     ∷ (nat_lt 31 port.controls, cause.AcsUnknown) ∷ [])
 
-abbrev pub port_fault_on : Platform → PortText → Option SwitchLine → Option LayoutCause
+abbrev pub port_fault_on : Platform → PortText → Option Switch → Option LayoutCause
 port_fault_on platform port None = Some cause.Line
 port_fault_on platform port (Some switch) = port_fault_below platform.ports (port_above platform.ports switch) port
 
@@ -112,16 +109,16 @@ port_fault platform port = port_fault_on platform port (switch_on platform.switc
 
 -- `function ID BAR`: directly below an earlier port below which nothing stands; its page is in the
 -- port's window
-abbrev pub function_fault_below : Platform → FunctionLine → Option PortLine → Option LayoutCause
+abbrev pub function_fault_below : Platform → EndpointFunction → Option DownstreamPort → Option LayoutCause
 function_fault_below platform function None = Some cause.Line
 function_fault_below platform function (Some port) = first_of (
     (is_taken platform.switches platform.functions function.id, cause.Line)
     ∷ (not (function.bar % 4096 == 0) || not (nat_le port.base function.bar && nat_le (function.bar + 4095) port.limit), cause.BarOutside) ∷ [])
 
-unfoldable pub function_fault : Platform → FunctionLine → Option LayoutCause
-function_fault platform function = function_fault_below platform function (port_over platform.ports function.id)
+unfoldable pub function_fault : Platform → EndpointFunction → Option LayoutCause
+function_fault platform function = function_fault_below platform function (port_leading_to platform.ports function.id)
 
-abbrev pub is_known_target : List FunctionLine → TargetText → Bool
+abbrev pub is_known_target : List EndpointFunction → TargetText → Bool
 is_known_target functions (target.Frame frame) = true
 is_known_target functions (target.Peer peer) = is_function functions peer
 
@@ -134,22 +131,22 @@ is_mapping_of frame (mapped.Frame k) = k == frame
 is_mapping_of frame (mapped.Peer peer) = false
 
 -- a function of another domain mapped the frame
-unfoldable pub is_foreign_frame : List PortLine → List MapLine → ℕ → ℕ → Bool
+unfoldable pub is_foreign_frame : List DownstreamPort → List Mapping → ℕ → ℕ → Bool
 is_foreign_frame ports maps domain frame =
     list_any (λ line. is_mapping_of frame line.target && not (domain_of ports line.requester == domain)) maps
 
 -- a frame or a function of another domain
-abbrev pub is_foreign : List PortLine → List MapLine → ℕ → TargetText → Bool
+abbrev pub is_foreign : List DownstreamPort → List Mapping → ℕ → TargetText → Bool
 is_foreign ports maps domain (target.Frame frame) = is_foreign_frame ports maps domain frame
 is_foreign ports maps domain (target.Peer peer) = not (domain_of ports peer == domain)
 
-abbrev pub is_of_requester : ℕ → MapLine → Bool
+abbrev pub is_of_requester : ℕ → Mapping → Bool
 is_of_requester requester line = line.requester == requester
 
-unfoldable pub is_mapped : List MapLine → ℕ → ℕ → Bool
+unfoldable pub is_mapped : List Mapping → ℕ → ℕ → Bool
 is_mapped maps requester page = list_any (λ line. is_of_requester requester line && (line.page == page)) maps
 
-unfoldable pub has_full_table : List MapLine → ℕ → Bool
+unfoldable pub has_full_table : List Mapping → ℕ → Bool
 has_full_table maps requester = nat_le 64 (count_by (is_of_requester requester) maps)
 
 -- `map ID PAGE frame K ACCESS`, `map ID PAGE peer ID2 ACCESS`: 64 lines of a requester
@@ -180,10 +177,10 @@ credit_fault platform credit = first_of (
     ∷ (not (has_good_credits credit), cause.CreditRange) ∷ [])
 
 -- the least number that applies to a line after these
-abbrev pub fault_of : Platform → Statement → Option LayoutCause
+abbrev pub fault_of : Platform → LayoutLine → Option LayoutCause
 fault_of platform (Frames count) = frames_fault platform count
 fault_of platform (Root id) = root_fault platform id
-fault_of platform (Switch switch) = switch_fault platform switch
+fault_of platform (LayoutLine.Switch switch) = switch_fault platform switch
 fault_of platform (Port port) = port_fault platform port
 fault_of platform (Function function) = function_fault platform (function_line function)
 fault_of platform (Map map) = map_fault platform map

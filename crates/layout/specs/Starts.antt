@@ -1,5 +1,5 @@
 -- What a clause sees of a `Start`.
-use Rattle.layout.specs.Share.{Share, IsShare}
+use Rattle.platform.specs.Share.{Share, IsShare}
 use Rattle.layout.specs.declared.start.Start.TheInside.{Inside}
 
 abbrev pub share_of : Inside → Share
@@ -13,5 +13,5 @@ share_of s = record {
   functions = s.functions.items;
 }
 
-pub record IsKept (s : Inside) : Type 0 where
+pub record IsStart (s : Inside) : Type 0 where
   pub share : IsShare (share_of s)

@@ -1,15 +1,15 @@
 -- What a platform gives: credits of a link, and the share of a domain.
 use Rattle.std.specs.Prelude.{ℕ, ◌==◌, Bool, List, Option, Some, None, if◌then◌else◌}
 use Rattle.std.specs.List.{find, filter, list_any, range_with_len}
-use Rattle.layout.specs.declared.lines.MapLine.{MapLine}
-use Rattle.layout.specs.declared.lines.BudgetLine.{BudgetLine}
-use Rattle.layout.specs.declared.lines.CreditLimits.{CreditLimits}
-use Rattle.layout.specs.declared.lines.CreditLine.{CreditLine}
-use Rattle.layout.specs.declared.lines.PortLine.{PortLine}
-use Rattle.layout.specs.Share.{Share}
-use Rattle.layout.specs.Owners.{owns_port}
-use Rattle.layout.specs.Platform.{Platform}
-use Rattle.layout.specs.Tree.{is_taken, domain_of}
+use Rattle.platform.specs.declared.parts.Mapping.{Mapping}
+use Rattle.platform.specs.declared.parts.BudgetLine.{BudgetLine}
+use Rattle.platform.specs.declared.parts.CreditLimits.{CreditLimits}
+use Rattle.platform.specs.declared.parts.CreditLine.{CreditLine}
+use Rattle.platform.specs.declared.parts.DownstreamPort.{DownstreamPort}
+use Rattle.platform.specs.Share.{Share}
+use Rattle.platform.specs.Owners.{owns_port}
+use Rattle.platform.specs.Platform.{Platform}
+use Rattle.platform.specs.Tree.{is_taken, domain_of}
 use Rattle.layout.specs.Rules.{is_mapping_of}
 
 -- the credits of a link without a `credit` line
@@ -34,17 +34,17 @@ abbrev pub budget_of : List BudgetLine → ℕ → ℕ
 budget_of budgets domain = begins_or_usual (find (λ line. line.domain == domain) budgets)
 
 -- the mappings of a domain's functions
-abbrev pub is_map_of : List PortLine → ℕ → MapLine → Bool
+abbrev pub is_map_of : List DownstreamPort → ℕ → Mapping → Bool
 is_map_of ports domain line = domain_of ports line.requester == domain
 
-abbrev pub maps_of : Platform → ℕ → List MapLine
+abbrev pub maps_of : Platform → ℕ → List Mapping
 maps_of platform domain = filter (is_map_of platform.ports domain) platform.maps
 
-abbrev pub is_frame_of : List MapLine → ℕ → Bool
+abbrev pub is_frame_of : List Mapping → ℕ → Bool
 is_frame_of maps frame = list_any (λ line. is_mapping_of frame line.target) maps
 
 -- the numbers of the frames that these mappings lead to, rising
-abbrev pub frames_of : ℕ → List MapLine → List ℕ
+abbrev pub frames_of : ℕ → List Mapping → List ℕ
 frames_of frames maps = filter (is_frame_of maps) (range_with_len 0 frames)
 
 -- what a domain starts from, if it owns a port

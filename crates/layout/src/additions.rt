@@ -3,23 +3,23 @@
 ghost use Rattle.std.specs.Prelude.{◌≡◌, ◌≤◌, ◌<◌, ◌^◌, ◌==◌, true, false, option_map};
 ghost use Rattle.std.specs.List.{find};
 ghost use Rattle.layout.specs.Rules.{has_good_credits, is_past_frames};
-ghost use Rattle.layout.specs.Owners.{owns_port};
+ghost use Rattle.platform.specs.Owners.{owns_port};
 ghost use Rattle.layout.specs.Additions.{port_line, function_line, target_of_text, rights_of_text, limits_of_text};
-ghost use Rattle.layout.specs.Reading.{with_statement, with_form, with_line, IsStep};
+ghost use Rattle.layout.specs.Reading.{with_layout_line, with_form, with_line, IsStep};
 
-use crate::lines::{
-    BudgetLine, CreditLimits, CreditLine, FunctionLine, MapLine, MapTarget, PortLine, Rights,
-    SwitchLine,
-};
-use crate::platform::Layout;
+use crate::layout::Layout;
 use fab_types::{AcsControl, Bdf, DomainId, LayoutCause, PortId};
-use statement::{
-    BudgetText, CreditText, FunctionText, MapText, PortText, RightsText, Statement, SwitchText,
-    TargetText, statement_of,
+use layout_line::{
+    BudgetText, CreditText, FunctionText, LayoutLine, MapText, PortText, RightsText, SwitchText,
+    TargetText, layout_line_of,
+};
+use platform::{
+    BudgetLine, CreditLimits, CreditLine, DownstreamPort, EndpointFunction, MapTarget, Mapping,
+    Rights, Switch,
 };
 use text::is_comment;
 
-fn port_line(port: &PortText) -> PortLine
+fn port_line(port: &PortText) -> DownstreamPort
     requires owner { (1 ≤ port.now.owner) × (port.now.owner ≤ 31) }
     requires controls { port.now.controls < 32 }
     ensures value { result ≡ port_line port.now }
@@ -27,7 +27,7 @@ fn port_line(port: &PortText) -> PortLine
 {
     // a copy has the range of its type
     let port = *port;
-    PortLine {
+    DownstreamPort {
         id: PortId::new(port.id),
         secondary: port.secondary,
         subordinate: port.subordinate,
@@ -63,10 +63,10 @@ fn target_of_text(target: &TargetText) -> MapTarget
     }
 }
 
-fn function_line(function: &FunctionText) -> FunctionLine
+fn function_line(function: &FunctionText) -> EndpointFunction
     ensures { result ≡ function_line function.now }
 {
-    FunctionLine {
+    EndpointFunction {
         id: function.id,
         bar: function.bar,
     }
@@ -81,7 +81,7 @@ fn rights_of_text(rights: &RightsText) -> Rights
     }
 }
 
-fn find_owner(ports: &[PortLine], domain: u32) -> Option<DomainId>
+fn find_owner(ports: &[DownstreamPort], domain: u32) -> Option<DomainId>
     ensures { result ≡ option_map (λ port. port.owner) (find (λ port. port.owner == domain) ports.now) }
 {
     ports
@@ -91,7 +91,7 @@ fn find_owner(ports: &[PortLine], domain: u32) -> Option<DomainId>
 }
 
 // The domain of this number, which owns a port.
-fn owner_of_number(ports: &[PortLine], domain: u32) -> DomainId
+fn owner_of_number(ports: &[DownstreamPort], domain: u32) -> DomainId
     requires { owns_port ports.now domain ≡ true }
     ensures { result ≡ domain }
 {
@@ -99,9 +99,9 @@ fn owner_of_number(ports: &[PortLine], domain: u32) -> DomainId
 }
 
 impl Layout {
-    #[tactic(auto, unfolding(crate::specs::Reading::with_statement))]
+    #[tactic(auto, unfolding(crate::specs::Reading::with_layout_line))]
     fn take_frames(&mut self, count: u32) -> Result<(), LayoutCause>
-        ensures { IsStep (with_statement self.old (Statement.Frames count)) result self.new }
+        ensures { IsStep (with_layout_line self.old (LayoutLine.Frames count)) result self.new }
     {
         if let Some(cause) = self.frames_fault(count) {
             return Err(cause);
@@ -110,28 +110,28 @@ impl Layout {
         Ok(())
     }
 
-    #[tactic(auto, unfolding(crate::specs::Reading::with_statement))]
+    #[tactic(auto, unfolding(crate::specs::Reading::with_layout_line))]
     fn take_root(&mut self, id: Bdf) -> Result<(), LayoutCause>
-        ensures { IsStep (with_statement self.old (Statement.Root id)) result self.new }
+        ensures { IsStep (with_layout_line self.old (LayoutLine.Root id)) result self.new }
     {
         if let Some(cause) = self.root_fault(id) {
             return Err(cause);
         }
-        let line = SwitchLine { id, above: None };
+        let line = Switch { id, above: None };
         match self.switches.push(line) {
             Ok(()) => Ok(()),
             Err(_) => Err(LayoutCause::NoMemory),
         }
     }
 
-    #[tactic(auto, unfolding(crate::specs::Reading::with_statement))]
+    #[tactic(auto, unfolding(crate::specs::Reading::with_layout_line))]
     fn take_switch(&mut self, switch: &SwitchText) -> Result<(), LayoutCause>
-        ensures { IsStep (with_statement self.old (Statement.Switch switch.now)) result self.new }
+        ensures { IsStep (with_layout_line self.old (LayoutLine.Switch switch.now)) result self.new }
     {
         if let Some(cause) = self.switch_fault(switch) {
             return Err(cause);
         }
-        let line = SwitchLine {
+        let line = Switch {
             id: switch.id,
             above: Some(PortId::new(switch.above)),
         };
@@ -141,9 +141,9 @@ impl Layout {
         }
     }
 
-    #[tactic(auto, unfolding(crate::specs::Reading::with_statement))]
+    #[tactic(auto, unfolding(crate::specs::Reading::with_layout_line))]
     fn take_port(&mut self, port: &PortText) -> Result<(), LayoutCause>
-        ensures { IsStep (with_statement self.old (Statement.Port port.now)) result self.new }
+        ensures { IsStep (with_layout_line self.old (LayoutLine.Port port.now)) result self.new }
     {
         if let Some(cause) = self.port_fault(port) {
             return Err(cause);
@@ -154,9 +154,9 @@ impl Layout {
         }
     }
 
-    #[tactic(auto, unfolding(crate::specs::Reading::with_statement))]
+    #[tactic(auto, unfolding(crate::specs::Reading::with_layout_line))]
     fn take_function(&mut self, function: &FunctionText) -> Result<(), LayoutCause>
-        ensures { IsStep (with_statement self.old (Statement.Function function.now)) result self.new }
+        ensures { IsStep (with_layout_line self.old (LayoutLine.Function function.now)) result self.new }
     {
         let line = function_line(function);
         if let Some(cause) = self.function_fault(&line) {
@@ -168,14 +168,14 @@ impl Layout {
         }
     }
 
-    #[tactic(auto, unfolding(crate::specs::Reading::with_statement))]
+    #[tactic(auto, unfolding(crate::specs::Reading::with_layout_line))]
     fn take_map(&mut self, map: &MapText) -> Result<(), LayoutCause>
-        ensures { IsStep (with_statement self.old (Statement.Map map.now)) result self.new }
+        ensures { IsStep (with_layout_line self.old (LayoutLine.Map map.now)) result self.new }
     {
         if let Some(cause) = self.map_fault(map) {
             return Err(cause);
         }
-        let line = MapLine {
+        let line = Mapping {
             requester: map.requester,
             page: map.page,
             target: target_of_text(&map.target),
@@ -187,9 +187,9 @@ impl Layout {
         }
     }
 
-    #[tactic(auto, unfolding(crate::specs::Reading::with_statement))]
+    #[tactic(auto, unfolding(crate::specs::Reading::with_layout_line))]
     fn take_budget(&mut self, budget: &BudgetText) -> Result<(), LayoutCause>
-        ensures { IsStep (with_statement self.old (Statement.Budget budget.now)) result self.new }
+        ensures { IsStep (with_layout_line self.old (LayoutLine.Budget budget.now)) result self.new }
     {
         if let Some(cause) = self.budget_fault(budget) {
             return Err(cause);
@@ -204,9 +204,9 @@ impl Layout {
         }
     }
 
-    #[tactic(auto, unfolding(crate::specs::Reading::with_statement))]
+    #[tactic(auto, unfolding(crate::specs::Reading::with_layout_line))]
     fn take_credit(&mut self, credit: &CreditText) -> Result<(), LayoutCause>
-        ensures { IsStep (with_statement self.old (Statement.Credit credit.now)) result self.new }
+        ensures { IsStep (with_layout_line self.old (LayoutLine.Credit credit.now)) result self.new }
     {
         if let Some(cause) = self.credit_fault(credit) {
             return Err(cause);
@@ -221,18 +221,18 @@ impl Layout {
         }
     }
 
-    fn take_statement(&mut self, statement: &Statement) -> Result<(), LayoutCause>
-        ensures { IsStep (with_statement self.old statement.now) result self.new }
+    fn take_layout_line(&mut self, statement: &LayoutLine) -> Result<(), LayoutCause>
+        ensures { IsStep (with_layout_line self.old statement.now) result self.new }
     {
         match statement {
-            Statement::Frames(count) => self.take_frames(*count),
-            Statement::Root(id) => self.take_root(*id),
-            Statement::Switch(switch) => self.take_switch(switch),
-            Statement::Port(port) => self.take_port(port),
-            Statement::Function(function) => self.take_function(function),
-            Statement::Map(map) => self.take_map(map),
-            Statement::Budget(budget) => self.take_budget(budget),
-            Statement::Credit(credit) => self.take_credit(credit),
+            LayoutLine::Frames(count) => self.take_frames(*count),
+            LayoutLine::Root(id) => self.take_root(*id),
+            LayoutLine::Switch(switch) => self.take_switch(switch),
+            LayoutLine::Port(port) => self.take_port(port),
+            LayoutLine::Function(function) => self.take_function(function),
+            LayoutLine::Map(map) => self.take_map(map),
+            LayoutLine::Budget(budget) => self.take_budget(budget),
+            LayoutLine::Credit(credit) => self.take_credit(credit),
         }
     }
 
@@ -244,8 +244,8 @@ impl Layout {
         if is_comment(line) {
             return Ok(());
         }
-        match statement_of(line) {
-            Some(statement) => self.take_statement(&statement),
+        match layout_line_of(line) {
+            Some(statement) => self.take_layout_line(&statement),
             None => Err(LayoutCause::Line),
         }
     }

@@ -2,24 +2,23 @@
 
 ghost use Rattle.std.specs.Prelude.{◌≡◌};
 ghost use Rattle.layout.specs.Reach.{function_at, holds_bus_if_any, reach};
-ghost use Rattle.layout.specs.Owners.{first_port};
+ghost use Rattle.platform.specs.Owners.{first_port};
 
-use crate::lines::{FunctionLine, PortLine};
-use crate::owners::port_above;
 use crate::start::Start;
 use fab_types::{Bdf, Origin};
+use platform::{DownstreamPort, EndpointFunction, port_with_secondary};
 
 /// Is the bus below the function's first port?
-fn is_reached(ports: &[PortLine], line: &FunctionLine, bus: u8) -> bool
+fn is_reached(ports: &[DownstreamPort], line: &EndpointFunction, bus: u8) -> bool
     ensures { result ≡ holds_bus_if_any (first_port ports.now line.now.id) bus }
 {
-    match port_above(ports, line.id.bus()) {
+    match port_with_secondary(ports, line.id.bus()) {
         Some(port) => port.holds_bus(bus),
         None => false,
     }
 }
 
-fn function_at(ports: &[PortLine], functions: &[FunctionLine], bus: u8) -> Option<Bdf>
+fn function_at(ports: &[DownstreamPort], functions: &[EndpointFunction], bus: u8) -> Option<Bdf>
     ensures { result ≡ function_at ports.now functions.now bus }
 {
     functions

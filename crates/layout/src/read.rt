@@ -2,22 +2,22 @@
 
 ghost use Rattle.std.specs.Prelude.{◌≡◌, IfOk};
 ghost use Rattle.text.specs.Text.{pieces};
-ghost use Rattle.layout.specs.Platform.{no_lines};
+ghost use Rattle.platform.specs.Platform.{no_lines};
 ghost use Rattle.layout.specs.Laws.{IsPlatform};
 ghost use Rattle.layout.specs.Reading.{ended, read_from, reading, IsReading};
 
-use crate::platform::Layout;
-use crate::rules::tree::has_root;
+use crate::layout::Layout;
 use fab_types::{LayoutCause, LayoutFault};
+use platform::has_root;
 use std::alloc::Global;
-use text::{cut, is_word};
+use text::{cut, is_keyword};
 
 // Behind the last line feed stands nothing, and by then there is a switch below the root port.
 fn ended(layout: Layout, line: u32, rest: &[u8]) -> Result<Layout, LayoutFault>
     ensures value { result ≡ ended layout line rest.now }
     ensures laws { IfOk result (λ layout. IsPlatform layout) }
 {
-    if is_word(rest, "") && has_root(layout.switches()) {
+    if is_keyword(rest, "") && has_root(layout.switches()) {
         return Ok(layout);
     }
     let cause = LayoutCause::Line;
@@ -55,7 +55,7 @@ impl Layout {
     {
         match cut(text.as_bytes(), b'\n') {
             Some(first) => {
-                if is_word(first.before, "pciefab 1") {
+                if is_keyword(first.before, "pciefab 1") {
                     return read_lines(alloc, first.after);
                 }
             }

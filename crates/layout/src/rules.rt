@@ -3,4 +3,3 @@
 pub(crate) mod links;
 pub(crate) mod mappings;
 pub(crate) mod ports;
-pub(crate) mod tree;

@@ -2,13 +2,13 @@
 
 ghost use Rattle.std.specs.Prelude.{◌≡◌, ◌≤◌, IfOk, [], ◌∷◌};
 ghost use Rattle.std.specs.List.Sorted.{IsStrictlyIncreasing};
-ghost use Rattle.layout.specs.Share.{Share, IsShare, is_guarded};
+ghost use Rattle.platform.specs.Share.{Share, IsShare, is_guarded};
 ghost use Rattle.layout.specs.First.{first_share};
 
-use crate::lines::{FunctionLine, MapLine, MapTarget, PortLine, Rights, SwitchLine};
-use crate::platform::Layout;
+use crate::layout::Layout;
 use crate::views::are_guarded;
 use fab_types::{AcsControl, Bdf, DomainId, NoMemory, PortId};
+use platform::{DownstreamPort, EndpointFunction, MapTarget, Mapping, Rights, Switch};
 use std::alloc::Global;
 use std::marker::Model;
 
@@ -18,22 +18,22 @@ pub struct Start {
     domain: DomainId,
     budget: u32,
     frames: Vec<u16>,
-    maps: Vec<MapLine>,
-    switches: Vec<SwitchLine>,
-    ports: Vec<PortLine>,
-    functions: Vec<FunctionLine>,
+    maps: Vec<Mapping>,
+    switches: Vec<Switch>,
+    ports: Vec<DownstreamPort>,
+    functions: Vec<EndpointFunction>,
 }
 
 impl Model for Start {
-    ghost use Rattle.layout.specs.Share.{Share};
+    ghost use Rattle.platform.specs.Share.{Share};
 
     ghost Value = { Share };
 
-    ghost use Rattle.layout.specs.Starts.{share_of, IsKept};
+    ghost use Rattle.layout.specs.Starts.{share_of, IsStart};
 
     ghost view = { share_of };
 
-    ghost invariant = { IsKept };
+    ghost invariant = { IsStart };
 }
 
 impl Start {
@@ -43,7 +43,7 @@ impl Start {
     pub fn first(alloc: Global) -> Result<Start, NoMemory>
         ensures { IfOk result (λ start. start ≡ first_share) }
     {
-        let port = PortLine {
+        let port = DownstreamPort {
             id: PortId::new(Bdf::from_bits(0x0200)),
             secondary: 3,
             subordinate: 3,
@@ -52,11 +52,11 @@ impl Start {
             controls: AcsControl::from_register(0x1f).unwrap(),
             owner: DomainId::new(1).unwrap(),
         };
-        let function = FunctionLine {
+        let function = EndpointFunction {
             id: Bdf::from_bits(0x0300),
             bar: 0x9000_0000,
         };
-        let map = MapLine {
+        let map = Mapping {
             requester: function.id,
             page: 1,
             target: MapTarget::Frame(0),
@@ -65,7 +65,7 @@ impl Start {
                 write: true,
             },
         };
-        let switch = SwitchLine {
+        let switch = Switch {
             id: Bdf::from_bits(0x0100),
             above: None,
         };
@@ -88,7 +88,7 @@ impl Start {
         domain: DomainId,
         budget: u32,
         frames: Vec<u16>,
-        maps: Vec<MapLine>,
+        maps: Vec<Mapping>,
     ) -> Result<Start, NoMemory>
         requires least { 1 ≤ budget }
         requires most { budget ≤ 16384 }
@@ -145,7 +145,7 @@ impl Start {
     }
 
     /// The mappings of the domain's functions.
-    pub fn maps(&self) -> &[MapLine]
+    pub fn maps(&self) -> &[Mapping]
         ensures { result.now ≡ self.now.maps }
     {
         &self.maps
@@ -159,21 +159,21 @@ impl Start {
     }
 
     /// All switches of the layout.
-    pub fn switches(&self) -> &[SwitchLine]
+    pub fn switches(&self) -> &[Switch]
         ensures { result.now ≡ self.now.switches }
     {
         &self.switches
     }
 
     /// All downstream ports of the layout.
-    pub fn ports(&self) -> &[PortLine]
+    pub fn ports(&self) -> &[DownstreamPort]
         ensures { result.now ≡ self.now.ports }
     {
         &self.ports
     }
 
     /// All functions of the layout.
-    pub fn functions(&self) -> &[FunctionLine]
+    pub fn functions(&self) -> &[EndpointFunction]
         ensures { result.now ≡ self.now.functions }
     {
         &self.functions

@@ -4,19 +4,19 @@ ghost use Rattle.std.specs.Prelude.{◌≡◌, ◌≤◌, ◌==◌, IfOk, true};
 ghost use Rattle.std.specs.List.{find, list_all};
 ghost use Rattle.std.specs.List.Sorted.{IsStrictlyIncreasing};
 ghost use Rattle.std.specs.Option.{option_copied};
-ghost use Rattle.layout.specs.Share.{is_guarded_port};
-ghost use Rattle.layout.specs.Owners.{domain_above, owner_of};
+ghost use Rattle.platform.specs.Share.{is_guarded_port};
+ghost use Rattle.platform.specs.Owners.{domain_above, owner_of};
 ghost use Rattle.layout.specs.Laws.{is_good_budget};
 ghost use Rattle.layout.specs.Views.{usual_limits, limits_or_usual, credits_of, begins_or_usual, budget_of, is_map_of, maps_of, is_frame_of, frames_of, share_of_owner};
 
-use crate::lines::{BudgetLine, CreditLimits, CreditLine, MapLine, PortLine};
-use crate::owners::{owner_of, port_above};
-use crate::platform::Layout;
-use crate::rules::links::owns_port;
+use crate::layout::Layout;
 use crate::rules::mappings::is_mapping_of;
-use crate::rules::tree::{domain_of, is_taken};
 use crate::start::Start;
 use fab_types::{Bdf, DomainId, NoMemory};
+use platform::{
+    BudgetLine, CreditLimits, CreditLine, DownstreamPort, Mapping, domain_of, is_taken, owner_of,
+    owns_port, port_with_secondary,
+};
 use std::alloc::Global;
 
 // The credits of a link without a `credit` line.
@@ -62,20 +62,20 @@ fn budget_of(budgets: &[BudgetLine], domain: DomainId) -> u32
     }
 }
 
-fn is_map_of(ports: &[PortLine], domain: DomainId, line: &MapLine) -> bool
+fn is_map_of(ports: &[DownstreamPort], domain: DomainId, line: &Mapping) -> bool
     ensures { result ≡ is_map_of ports.now domain line.now }
 {
     domain_of(ports, line.requester) == domain.get()
 }
 
-fn is_frame_of(maps: &[MapLine], frame: u16) -> bool
+fn is_frame_of(maps: &[Mapping], frame: u16) -> bool
     ensures { result ≡ is_frame_of maps.now frame }
 {
     maps.iter()
         .any(|line| is_mapping_of(u32::from(frame), line.target))
 }
 
-fn frames_of(alloc: Global, frames: u16, maps: &[MapLine]) -> Result<Vec<u16>, NoMemory>
+fn frames_of(alloc: Global, frames: u16, maps: &[Mapping]) -> Result<Vec<u16>, NoMemory>
     ensures { IfOk result (λ numbers. numbers.items ≡ frames_of frames maps.now) }
 {
     Ok(
@@ -85,7 +85,7 @@ fn frames_of(alloc: Global, frames: u16, maps: &[MapLine]) -> Result<Vec<u16>, N
     )
 }
 
-fn rising_frames_of(alloc: Global, frames: u16, maps: &[MapLine]) -> Result<Vec<u16>, NoMemory>
+fn rising_frames_of(alloc: Global, frames: u16, maps: &[Mapping]) -> Result<Vec<u16>, NoMemory>
     ensures value { IfOk result (λ numbers. numbers.items ≡ frames_of frames maps.now) }
     ensures rising { IfOk result (λ numbers. IsStrictlyIncreasing numbers.items) }
 {
@@ -93,7 +93,7 @@ fn rising_frames_of(alloc: Global, frames: u16, maps: &[MapLine]) -> Result<Vec<
     Ok(numbers)
 }
 
-fn is_guarded_port(port: &PortLine) -> bool
+fn is_guarded_port(port: &DownstreamPort) -> bool
     ensures { result ≡ is_guarded_port port.now }
 {
     let controls = port.controls;
@@ -105,7 +105,7 @@ fn is_guarded_port(port: &PortLine) -> bool
 }
 
 /// Are all five controls set on each port?
-pub(crate) fn are_guarded(ports: &[PortLine]) -> bool
+pub(crate) fn are_guarded(ports: &[DownstreamPort]) -> bool
     ensures { result ≡ list_all is_guarded_port ports.now }
 {
     ports.iter().all(|port| is_guarded_port(port))
@@ -131,7 +131,7 @@ impl Layout {
     pub fn domain_above(&self, function: Bdf) -> Option<DomainId>
         ensures { result ≡ domain_above self.now.ports function }
     {
-        port_above(self.ports(), function.bus()).map(|port| port.owner)
+        port_with_secondary(self.ports(), function.bus()).map(|port| port.owner)
     }
 
     /// What each receiver of a link advertises at the start, by the link's lower end: a function or
@@ -146,7 +146,7 @@ impl Layout {
         }
     }
 
-    fn maps_of(&self, alloc: Global, domain: DomainId) -> Result<Vec<MapLine>, NoMemory>
+    fn maps_of(&self, alloc: Global, domain: DomainId) -> Result<Vec<Mapping>, NoMemory>
         ensures { IfOk result (λ maps. maps.items ≡ maps_of self.now domain) }
     {
         let ports = self.ports();
@@ -164,7 +164,7 @@ impl Layout {
     pub fn start(&self, alloc: Global, domain: DomainId) -> Result<Option<Start>, NoMemory>
         ensures { IfOk result (λ start. start ≡ share_of_owner self.now domain) }
     {
-        if !owns_port(self.ports(), u32::from(domain.get())) {
+        if !owns_port(self.ports(), domain) {
             return Ok(None);
         }
         let maps = self.maps_of(alloc, domain)?;

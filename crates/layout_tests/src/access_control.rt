@@ -1,19 +1,10 @@
+use crate::example::EXAMPLE;
 use acs::{AcsBlock, Verdict, redirect, vet};
 use bridge::Route;
 use fab_types::{AcsControl, AddressType, Bdf, Check, Header, PortId};
-use layout::{Layout, PortLine};
+use layout::Layout;
+use platform::DownstreamPort;
 use std::test::Fail;
-
-/// A tree of two switches.
-const EXAMPLE: &str = "pciefab 1
-switch 01:00.0 root
-port 02:00.0 03 03 90000000 900fffff 1f 1
-port 02:01.0 04 07 90100000 902fffff 1f 2
-port 02:02.0 08 09 90300000 903fffff 1f 1
-switch 04:00.0 02:01.0
-port 05:00.0 06 06 90100000 901fffff 1f 2
-port 05:01.0 07 07 90200000 902fffff 1f 2
-";
 
 // The controls that are set, and the eight bytes.
 const BLOCKS: [(u8, [u8; 8]); 5] = [
@@ -35,7 +26,7 @@ fn a_block_is_eight_bytes_of_which_the_controls_are_the_seventh(
     Ok(())
 }
 
-fn port_of(layout: &Layout, id: u16) -> Option<PortLine> {
+fn port_of(layout: &Layout, id: u16) -> Option<DownstreamPort> {
     let id = PortId::new(Bdf::from_bits(id));
     layout.ports().iter().find(|port| port.id == id).copied()
 }

@@ -4,6 +4,8 @@
 #[cfg(test)]
 mod access_control;
 #[cfg(test)]
+mod example;
+#[cfg(test)]
 mod layouts;
 #[cfg(test)]
 mod memory;

@@ -1,6 +1,6 @@
 //! A text with each form.
 
-use domain::Operation;
+use fab_types::Operation;
 use script::{Command, Script};
 use std::fmt::Write;
 use std::test::Fail;

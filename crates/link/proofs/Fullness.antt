@@ -4,8 +4,8 @@ use Rattle.std.specs.Bool.{OnTrue}
 use Rattle.std.specs.Result.{OnErr}
 use Rattle.frame_log.specs.Descriptor.{Descriptor}
 use Rattle.port_queue.specs.Queue.{count_of}
-use Rattle.port.specs.Lanes.{Class}
-use Rattle.port.specs.Queues.{IsSorted, frames_of}
+use Rattle.lane.specs.Lanes.{Class}
+use Rattle.lane.specs.Queues.{IsSorted, frames_of}
 use Rattle.link.specs.Channels.{count_in}
 use Rattle.link.proofs.Totals.{count-total, count_in-total}
 

@@ -11,7 +11,7 @@ use Rattle.credit.proofs.Counting.{at-counted, at-uncounted, size_positive, cove
 use Rattle.credit.proofs.Distances.{distance-spent, distance-zero}
 use Rattle.credit.proofs.Freeing.{freed-ahead, reclaimed-ahead}
 use Rattle.credit.proofs.Standing.{at-zero, start-in_range, spent-in_range, update-in_range}
-use Rattle.port.specs.Lanes.{class_of}
+use Rattle.lane.specs.Lanes.{class_of}
 use Rattle.link.specs.Channels.{total}
 use Rattle.link.specs.Simplexes.{IsCounted}
 use Rattle.link.proofs.Totals.{total-append, length-total}
@@ -32,7 +32,7 @@ uncounted_bounded c cost k h =
     let positive = size_positive k in
     omega arith
 
-pub start-counted : (limits : Counters) → MayStart limits → IsCounted (record { sent = zero_counters; limit = limits; start = limits }) limits []
+pub start-counted : (limits : Counters) → MayStart limits → IsCounted (record { credits_consumed = zero_counters; credit_limit = limits; start = limits }) limits []
 start-counted limits may =
     let range = start-in_range limits may in
     record {
@@ -59,25 +59,25 @@ moved-counted s limit before after same kept = record {
 
 -- a packet that is sent spends what it costs
 pub spent-counted : (s : Ledger) (limit : Counters) (cost : Cost) (before after : List Descriptor) → ((k : Kind) → total k after ≡ cost_of cost k + total k before) → HasRoom s cost
-    → IsCounted s limit before → IsCounted (record s { sent = counted s.sent cost }) limit after
+    → IsCounted s limit before → IsCounted (record s { credits_consumed = counted s.credits_consumed cost }) limit after
 spent-counted s limit cost before after more room kept = record {
   range = spent-in_range s cost kept.range room;
   covered = λ k.
-      let left = spent_ahead k (at s.limit k) (room k) in
+      let left = spent_ahead k (at s.credit_limit k) (room k) in
       let is = more k in let covered = kept.covered k in let has = room k in
       omega arith;
   freed = λ k.
       let is = more k in let covered = kept.covered k in let has = room k in let freed = kept.freed k in
-      let within : cost_of cost k ≤ distance (size_of k) (at s.sent k) (at limit k) = omega arith in
+      let within : cost_of cost k ≤ distance (size_of k) (at s.credits_consumed k) (at limit k) = omega arith in
       let left = spent_ahead k (at limit k) within in
       omega arith;
   known = kept.known;
   bounded = kept.bounded;
 }
   where
-    spent_ahead : (k : Kind) (l : ℕ) → cost_of cost k ≤ distance (size_of k) (at s.sent k) l → distance (size_of k) (at (counted s.sent cost) k) l ≡ distance (size_of k) (at s.sent k) l - cost_of cost k
+    spent_ahead : (k : Kind) (l : ℕ) → cost_of cost k ≤ distance (size_of k) (at s.credits_consumed k) l → distance (size_of k) (at (counted s.credits_consumed cost) k) l ≡ distance (size_of k) (at s.credits_consumed k) l - cost_of cost k
     spent_ahead k l h =
-        ap (λ m. distance (size_of k) m l) (at-counted s.sent cost k (kept.range k).counter) ∙ distance-spent (size_of k) (at s.sent k) l (cost_of cost k) (kept.range k).counter h
+        ap (λ m. distance (size_of k) m l) (at-counted s.credits_consumed cost k (kept.range k).counter) ∙ distance-spent (size_of k) (at s.credits_consumed k) l (cost_of cost k) (kept.range k).counter h
 
 -- the receiver's limits can be told
 pub counted-update : (s : Ledger) (limit : Counters) (behind : List Descriptor) → IsCounted s limit behind → IsUpdate s limit
@@ -86,7 +86,7 @@ counted-update s limit behind kept k =
     let freed = kept.freed k in
     (omega arith, omega arith)
 
-pub told-counted : (s : Ledger) (limit : Counters) (behind : List Descriptor) → IsCounted s limit behind → IsCounted (record s { limit = limit }) limit behind
+pub told-counted : (s : Ledger) (limit : Counters) (behind : List Descriptor) → IsCounted s limit behind → IsCounted (record s { credit_limit = limit }) limit behind
 told-counted s limit behind kept = record {
   range = update-in_range s limit kept.range (counted-update s limit behind kept);
   covered = λ k. let freed = kept.freed k in omega arith;
@@ -103,8 +103,8 @@ freed-counted s limit cost before after less kept = record {
   covered = λ k. let covered = kept.covered k in let is = less k in omega arith;
   freed = λ k.
       let freed = kept.freed k in let is = less k in let start = (kept.range k).start in let halves = half k in
-      let small : distance (size_of k) (at s.sent k) (at limit k) + cost_of cost k < size_of k = omega arith in
-      let further = freed-ahead s.sent limit cost k (kept.range k).counter (kept.bounded k) small in
+      let small : distance (size_of k) (at s.credits_consumed k) (at limit k) + cost_of cost k < size_of k = omega arith in
+      let further = freed-ahead s.credits_consumed limit cost k (kept.range k).counter (kept.bounded k) small in
       omega arith;
   known = kept.known;
   bounded = λ k. counted_bounded limit cost k (kept.bounded k);
@@ -118,8 +118,8 @@ reclaimed-counted s limit cost before after more covered kept = record {
   covered = covered;
   freed = λ k.
       let freed = kept.freed k in let is = more k in let within = covered k in
-      let room : cost_of cost k ≤ distance (size_of k) (at s.sent k) (at limit k) = omega arith in
-      let back = reclaimed-ahead s.sent limit cost k (kept.range k).counter (kept.bounded k) room in
+      let room : cost_of cost k ≤ distance (size_of k) (at s.credits_consumed k) (at limit k) = omega arith in
+      let back = reclaimed-ahead s.credits_consumed limit cost k (kept.range k).counter (kept.bounded k) room in
       omega arith;
   known = kept.known;
   bounded = λ k. uncounted_bounded limit cost k (kept.bounded k);

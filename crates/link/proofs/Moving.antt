@@ -7,49 +7,49 @@ use Rattle.credit.specs.Limits.{Ledger, at, counted, left_of, IsInRange, HasRoom
 use Rattle.credit.specs.declared.counters.Counters.{Counters}
 use Rattle.credit.proofs.Counting.{at-counted, covers-all}
 use Rattle.credit.proofs.Distances.{distance-spent, distance-same}
-use Rattle.port.specs.Lanes.{eligible}
-use Rattle.link.specs.Channels.{Channel, has_room, spent, unspent, same_counters, total, sent_on, send, received_of, receive, told_of, tell}
+use Rattle.lane.specs.Lanes.{eligible}
+use Rattle.link.specs.Channels.{Channel, has_room, spent, unspent, same_counters, total, sent_on, send, received_of, deliver, told_of, update_fc}
 use Rattle.link.specs.Simplexes.{IsCounted}
-use Rattle.link.specs.Steps.{IsStuck, Lands, Launches}
+use Rattle.link.specs.Steps.{IsStuck, Delivers, Transmits}
 use Rattle.link.proofs.Credits.{at-left, same-at, at-spent, at-unspent, both-true, true-both, true-same, same-self}
 
 -- a link as its parts make it
 abbrev pub link_of : Ledger → List Descriptor → List Descriptor → List Descriptor → Channel
-link_of s egress wire ingress = record { start = s.start; left = left_counters s.sent s.limit; egress = egress; wire = wire; ingress = ingress }
+link_of s egress wire ingress = record { start = s.start; left = left_counters s.credits_consumed s.credit_limit; egress = egress; wire = wire; ingress = ingress }
 
 -- ---- credits
 
 -- the credits that are left cover a cost where the sender has room
-pub room-left : (s : Ledger) (cost : Cost) → HasRoom s cost → has_room (left_counters s.sent s.limit) cost ≡ true
+pub room-left : (s : Ledger) (cost : Cost) → HasRoom s cost → has_room (left_counters s.credits_consumed s.credit_limit) cost ≡ true
 room-left s cost room =
     let both = (covers-all cost.class cost.data (left_of s)).1 room in
-    let header = at-left s.sent s.limit (Kind.Headers cost.class) in
-    let payload = at-left s.sent s.limit (Kind.Data cost.class) in
-    both-true 1 (at (left_counters s.sent s.limit) (Kind.Headers cost.class)) cost.data (at (left_counters s.sent s.limit) (Kind.Data cost.class))
+    let header = at-left s.credits_consumed s.credit_limit (Kind.Headers cost.class) in
+    let payload = at-left s.credits_consumed s.credit_limit (Kind.Data cost.class) in
+    both-true 1 (at (left_counters s.credits_consumed s.credit_limit) (Kind.Headers cost.class)) cost.data (at (left_counters s.credits_consumed s.credit_limit) (Kind.Data cost.class))
     (subst (λ (n : ℕ). 1 ≤ n) (sym header) both.0) (subst (λ (n : ℕ). cost.data ≤ n) (sym payload) both.1)
 
-pub left-room : (s : Ledger) (cost : Cost) → has_room (left_counters s.sent s.limit) cost ≡ true → HasRoom s cost
+pub left-room : (s : Ledger) (cost : Cost) → has_room (left_counters s.credits_consumed s.credit_limit) cost ≡ true → HasRoom s cost
 left-room s cost h =
-    let both = true-both 1 (at (left_counters s.sent s.limit) (Kind.Headers cost.class)) cost.data (at (left_counters s.sent s.limit) (Kind.Data cost.class)) h in
-    let header = at-left s.sent s.limit (Kind.Headers cost.class) in
-    let payload = at-left s.sent s.limit (Kind.Data cost.class) in
+    let both = true-both 1 (at (left_counters s.credits_consumed s.credit_limit) (Kind.Headers cost.class)) cost.data (at (left_counters s.credits_consumed s.credit_limit) (Kind.Data cost.class)) h in
+    let header = at-left s.credits_consumed s.credit_limit (Kind.Headers cost.class) in
+    let payload = at-left s.credits_consumed s.credit_limit (Kind.Data cost.class) in
     (covers-all cost.class cost.data (left_of s)).0 (subst (λ (n : ℕ). 1 ≤ n) header both.0, subst (λ (n : ℕ). cost.data ≤ n) payload both.1)
 
 -- what is left once a packet is counted is what is left without its cost
-left_spent : (s : Ledger) (cost : Cost) → IsInRange s → HasRoom s cost → spent (left_counters s.sent s.limit) cost ≡ left_counters (counted s.sent cost) s.limit
-left_spent s cost range room = same-at (spent (left_counters s.sent s.limit) cost) (left_counters (counted s.sent cost) s.limit)
-    (λ k. at-spent (left_counters s.sent s.limit) cost k
-    ∙ (ap (λ n. n - cost_of cost k) (at-left s.sent s.limit k)
-    ∙ (sym (distance-spent (size_of k) (at s.sent k) (at s.limit k) (cost_of cost k) (range k).counter (room k))
-    ∙ (ap (λ m. distance (size_of k) m (at s.limit k)) (sym (at-counted s.sent cost k (range k).counter))
-    ∙ sym (at-left (counted s.sent cost) s.limit k)))))
+left_spent : (s : Ledger) (cost : Cost) → IsInRange s → HasRoom s cost → spent (left_counters s.credits_consumed s.credit_limit) cost ≡ left_counters (counted s.credits_consumed cost) s.credit_limit
+left_spent s cost range room = same-at (spent (left_counters s.credits_consumed s.credit_limit) cost) (left_counters (counted s.credits_consumed cost) s.credit_limit)
+    (λ k. at-spent (left_counters s.credits_consumed s.credit_limit) cost k
+    ∙ (ap (λ n. n - cost_of cost k) (at-left s.credits_consumed s.credit_limit k)
+    ∙ (sym (distance-spent (size_of k) (at s.credits_consumed k) (at s.credit_limit k) (cost_of cost k) (range k).counter (room k))
+    ∙ (ap (λ m. distance (size_of k) m (at s.credit_limit k)) (sym (at-counted s.credits_consumed cost k (range k).counter))
+    ∙ sym (at-left (counted s.credits_consumed cost) s.credit_limit k)))))
 
 -- the receiver's limits leave the start without what travels and waits
-told_left : (s : Ledger) (limit : Counters) (behind : List Descriptor) → IsCounted s limit behind → left_counters s.sent limit ≡ unspent s.start behind
-told_left s limit behind kept = same-at (left_counters s.sent limit) (unspent s.start behind)
+told_left : (s : Ledger) (limit : Counters) (behind : List Descriptor) → IsCounted s limit behind → left_counters s.credits_consumed limit ≡ unspent s.start behind
+told_left s limit behind kept = same-at (left_counters s.credits_consumed limit) (unspent s.start behind)
     (λ k. let freed = kept.freed k in
-    let left : distance (size_of k) (at s.sent k) (at limit k) ≡ at s.start k - total k behind = omega arith in
-    at-left s.sent limit k ∙ (left ∙ sym (at-unspent s.start behind k)))
+    let left : distance (size_of k) (at s.credits_consumed k) (at limit k) ≡ at s.start k - total k behind = omega arith in
+    at-left s.credits_consumed limit k ∙ (left ∙ sym (at-unspent s.start behind k)))
 
 -- ---- send
 
@@ -58,13 +58,13 @@ sent_at : (c : Channel) (f : Descriptor) (rest : List Descriptor) (b : Bool) →
 sent_at c f rest b is has =
     ap (λ (x : Bool). cond x (Some (record { start = c.start; left = spent c.left f.head.cost; egress = rest; wire = c.wire ++ f ∷ []; ingress = c.ingress })) None) (is ∙ has)
 
-pub send-some : (class : Class) (s s' : Ledger) (egress egress' wire wire' ingress : List Descriptor) → IsInRange s → Launches class egress s wire egress' s' wire'
+pub send-some : (class : Class) (s s' : Ledger) (egress egress' wire wire' ingress : List Descriptor) → IsInRange s → Transmits class egress s wire egress' s' wire'
     → send class (link_of s egress wire ingress) ≡ Some (link_of s' egress' wire' ingress)
 send-some class s s' egress egress' wire wire' ingress range went =
     let f = went.frame in
     let c = link_of s egress wire ingress in
-    let after : spent (left_counters s.sent s.limit) f.head.cost ≡ left_counters (counted s.sent f.head.cost) s.limit = left_spent s f.head.cost range went.room in
-    let spends : record s { sent = counted s.sent f.head.cost } ≡ s' = sym went.spends in
+    let after : spent (left_counters s.credits_consumed s.credit_limit) f.head.cost ≡ left_counters (counted s.credits_consumed f.head.cost) s.credit_limit = left_spent s f.head.cost range went.room in
+    let spends : record s { credits_consumed = counted s.credits_consumed f.head.cost } ≡ s' = sym went.spends in
     ap (sent_on c) went.taken
     ∙ (sent_at c f egress' (has_room c.left f.head.cost) refl (room-left s f.head.cost went.room)
     ∙ (ap (λ (left : Counters). Some (record c { left = left; egress = egress'; wire = wire ++ f ∷ [] })) after
@@ -83,45 +83,45 @@ pub send-none : (class : Class) (s : Ledger) (egress wire ingress : List Descrip
 send-none class s egress wire ingress stuck =
     stuck_on (link_of s egress wire ingress) (eligible class egress) (λ f rest e room. stuck f rest e (left-room s f.head.cost room))
 
--- ---- receive
+-- ---- deliver
 
-pub receive-some : (s : Ledger) (egress wire wire' ingress ingress' : List Descriptor) → Lands wire ingress wire' ingress' → receive (link_of s egress wire ingress) ≡ Some (link_of s egress wire' ingress')
-receive-some s egress wire wire' ingress ingress' went =
+pub deliver-some : (s : Ledger) (egress wire wire' ingress ingress' : List Descriptor) → Delivers wire ingress wire' ingress' → deliver (link_of s egress wire ingress) ≡ Some (link_of s egress wire' ingress')
+deliver-some s egress wire wire' ingress ingress' went =
     ap (λ (w : List Descriptor). received_of (link_of s egress w ingress) w) went.oldest
     ∙ ap (λ (i : List Descriptor). Some (link_of s egress wire' i)) (sym went.behind)
 
-pub receive-none : (s : Ledger) (egress wire ingress : List Descriptor) → wire ≡ [] → receive (link_of s egress wire ingress) ≡ None
-receive-none s egress wire ingress e = ap (λ (w : List Descriptor). received_of (link_of s egress w ingress) w) e
+pub deliver-none : (s : Ledger) (egress wire ingress : List Descriptor) → wire ≡ [] → deliver (link_of s egress wire ingress) ≡ None
+deliver-none s egress wire ingress e = ap (λ (w : List Descriptor). received_of (link_of s egress w ingress) w) e
 
--- ---- tell
+-- ---- update_fc
 
 told_at : (c : Channel) (most : Counters) (b : Bool) → same_counters c.left most ≡ b → told_of c most ≡ cond b None (Some (record { start = c.start; left = most; egress = c.egress; wire = c.wire; ingress = c.ingress }))
 told_at c most b is = ap (λ (x : Bool). cond x None (Some (record { start = c.start; left = most; egress = c.egress; wire = c.wire; ingress = c.ingress }))) is
 
 -- limits that leave as much are the same
-limits_same : (s : Ledger) (limit : Counters) (behind : List Descriptor) → IsCounted s limit behind → same_counters (left_counters s.sent s.limit) (left_counters s.sent limit) ≡ true → limit ≡ s.limit
-limits_same s limit behind kept h = same-at limit s.limit
-    (λ k. distance-same (size_of k) (at s.sent k) (at limit k) (at s.limit k) (kept.range k).counter (kept.bounded k) (kept.known k)
-    (sym (at-left s.sent limit k) ∙ (sym (true-same (left_counters s.sent s.limit) (left_counters s.sent limit) h k) ∙ at-left s.sent s.limit k)))
+limits_same : (s : Ledger) (limit : Counters) (behind : List Descriptor) → IsCounted s limit behind → same_counters (left_counters s.credits_consumed s.credit_limit) (left_counters s.credits_consumed limit) ≡ true → limit ≡ s.credit_limit
+limits_same s limit behind kept h = same-at limit s.credit_limit
+    (λ k. distance-same (size_of k) (at s.credits_consumed k) (at limit k) (at s.credit_limit k) (kept.range k).counter (kept.bounded k) (kept.known k)
+    (sym (at-left s.credits_consumed limit k) ∙ (sym (true-same (left_counters s.credits_consumed s.credit_limit) (left_counters s.credits_consumed limit) h k) ∙ at-left s.credits_consumed s.credit_limit k)))
 
 differs : (b : Bool) → (b ≡ true → ⊥) → b ≡ false
 differs true never = absurd (never refl)
 differs false never = refl
 
-told_limit : (s : Ledger) (limit : Counters) (egress wire ingress : List Descriptor) → IsCounted s limit (wire ++ ingress) → limit ≢ s.limit
-    → told_of (link_of s egress wire ingress) (left_counters s.sent limit) ≡ Some (link_of (record s { limit = limit }) egress wire ingress)
+told_limit : (s : Ledger) (limit : Counters) (egress wire ingress : List Descriptor) → IsCounted s limit (wire ++ ingress) → limit ≢ s.credit_limit
+    → told_of (link_of s egress wire ingress) (left_counters s.credits_consumed limit) ≡ Some (link_of (record s { credit_limit = limit }) egress wire ingress)
 told_limit s limit egress wire ingress kept other =
-    told_at (link_of s egress wire ingress) (left_counters s.sent limit) false
-    (differs (same_counters (left_counters s.sent s.limit) (left_counters s.sent limit)) (λ h. other (limits_same s limit (wire ++ ingress) kept h)))
+    told_at (link_of s egress wire ingress) (left_counters s.credits_consumed limit) false
+    (differs (same_counters (left_counters s.credits_consumed s.credit_limit) (left_counters s.credits_consumed limit)) (λ h. other (limits_same s limit (wire ++ ingress) kept h)))
 
-pub tell-some : (s s' : Ledger) (limit : Counters) (egress wire ingress : List Descriptor) → IsCounted s limit (wire ++ ingress) → s' ≡ record s { limit = limit } → limit ≢ s.limit
-    → tell (link_of s egress wire ingress) ≡ Some (link_of s' egress wire ingress)
-tell-some s s' limit egress wire ingress kept new other =
+pub update_fc-some : (s s' : Ledger) (limit : Counters) (egress wire ingress : List Descriptor) → IsCounted s limit (wire ++ ingress) → s' ≡ record s { credit_limit = limit } → limit ≢ s.credit_limit
+    → update_fc (link_of s egress wire ingress) ≡ Some (link_of s' egress wire ingress)
+update_fc-some s s' limit egress wire ingress kept new other =
     ap (told_of (link_of s egress wire ingress)) (sym (told_left s limit (wire ++ ingress) kept))
     ∙ (told_limit s limit egress wire ingress kept other ∙ ap (λ (t : Ledger). Some (link_of t egress wire ingress)) (sym new))
 
-pub tell-none : (s : Ledger) (limit : Counters) (egress wire ingress : List Descriptor) → IsCounted s limit (wire ++ ingress) → limit ≡ s.limit → tell (link_of s egress wire ingress) ≡ None
-tell-none s limit egress wire ingress kept same =
+pub update_fc-none : (s : Ledger) (limit : Counters) (egress wire ingress : List Descriptor) → IsCounted s limit (wire ++ ingress) → limit ≡ s.credit_limit → update_fc (link_of s egress wire ingress) ≡ None
+update_fc-none s limit egress wire ingress kept same =
     ap (told_of (link_of s egress wire ingress)) (sym (told_left s limit (wire ++ ingress) kept))
-    ∙ (ap (λ (l : Counters). told_of (link_of s egress wire ingress) (left_counters s.sent l)) same
-    ∙ told_at (link_of s egress wire ingress) (left_counters s.sent s.limit) true (same-self (left_counters s.sent s.limit)))
+    ∙ (ap (λ (l : Counters). told_of (link_of s egress wire ingress) (left_counters s.credits_consumed l)) same
+    ∙ told_at (link_of s egress wire ingress) (left_counters s.credits_consumed s.credit_limit) true (same-self (left_counters s.credits_consumed s.credit_limit)))

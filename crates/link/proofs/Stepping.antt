@@ -8,22 +8,22 @@ use Rattle.credit.specs.Limits.{Ledger, Allotment, at, counted, uncounted, zero_
 use Rattle.credit.specs.declared.counters.Counters.{Counters}
 use Rattle.credit.proofs.Counting.{covers-all}
 use Rattle.port_queue.specs.Queue.{Queue, count_of}
-use Rattle.port.specs.Lanes.{class_of, eligible}
-use Rattle.port.specs.Queues.{Waiting, IsSorted, frames_of, frames_restored}
-use Rattle.link.specs.Channels.{IsCovered, count_in, send, receive, tell, total}
+use Rattle.lane.specs.Lanes.{class_of, eligible}
+use Rattle.lane.specs.Queues.{Waiting, IsSorted, frames_of, frames_restored}
+use Rattle.link.specs.Channels.{IsCovered, count_in, send, deliver, update_fc, total}
 use Rattle.link.specs.Simplexes.{IsCounted, has_place}
-use Rattle.link.specs.Steps.{IsStuck, Lands, Launches}
-use Rattle.link.proofs.Totals.{count-total, count_in-total, total-append, total-sent, total-landed, total-taken, total-restored}
+use Rattle.link.specs.Steps.{IsStuck, Delivers, Transmits}
+use Rattle.link.proofs.Totals.{count-total, count_in-total, total-append, total-sent, total-delivered, total-taken, total-restored}
 use Rattle.link.proofs.Credits.{at-left, both-true, true-both}
 use Rattle.link.proofs.Keeping.{counted-places, start-counted, moved-counted, spent-counted, told-counted, freed-counted, reclaimed-counted}
-use Rattle.link.proofs.Moving.{link_of, send-some, send-none, receive-some, receive-none, tell-some, tell-none}
+use Rattle.link.proofs.Moving.{link_of, send-some, send-none, deliver-some, deliver-none, update_fc-some, update_fc-none}
 
 -- ---- the start
 
 pub started : (limits : Counters) (s : Ledger) (receiver : Allotment) (wire : List Descriptor) (ingress : Waiting) → MayStart limits
-    → s ≡ record { sent = zero_counters; limit = limits; start = limits } → receiver ≡ record { taken = zero_counters; limit = limits } → wire ≡ []
+    → s ≡ record { credits_consumed = zero_counters; credit_limit = limits; start = limits } → receiver ≡ record { credits_received = zero_counters; credits_allocated = limits } → wire ≡ []
     → ingress ≡ record { queue = record { waiting = []; gap = None }; misses = 0; refusals = 0 }
-    → IsCounted s receiver.limit (wire ++ frames_of ingress.queue.waiting)
+    → IsCounted s receiver.credits_allocated (wire ++ frames_of ingress.queue.waiting)
 started limits s receiver wire ingress may sender_is receiver_is wire_is ingress_is =
     rw (sender_is, receiver_is, wire_is, ingress_is) (start-counted limits may)
 
@@ -32,13 +32,13 @@ started limits s receiver wire ingress may sender_is receiver_is wire_is ingress
 pub covers-left : (s : Ledger) (limit : Counters) (egress wire ingress : List Descriptor) → IsCounted s limit (wire ++ ingress) → IsCovered (link_of s egress wire ingress)
 covers-left s limit egress wire ingress kept k =
     let covered = kept.covered k in
-    let left = at-left s.sent s.limit k in
+    let left = at-left s.credits_consumed s.credit_limit k in
     omega arith
 
-pub few-left : (s : Ledger) (limit : Counters) (behind : List Descriptor) → IsCounted s limit behind → (k : Kind) → at (left_counters s.sent s.limit) k ≤ at s.start k
+pub few-left : (s : Ledger) (limit : Counters) (behind : List Descriptor) → IsCounted s limit behind → (k : Kind) → at (left_counters s.credits_consumed s.credit_limit) k ≤ at s.start k
 few-left s limit behind kept k =
     let covered = kept.covered k in
-    let left = at-left s.sent s.limit k in
+    let left = at-left s.credits_consumed s.credit_limit k in
     omega arith
 
 pub few-behind : (s : Ledger) (limit : Counters) (behind : List Descriptor) → IsCounted s limit behind → (class : Class) → count_in class behind ≤ 127
@@ -56,7 +56,7 @@ same_link s s' egress egress' wire wire' ingress ingress' sender waits travels a
     ∙ (ap (λ (x : List Descriptor). link_of s egress x ingress') travels ∙ ap (λ (x : List Descriptor). link_of s egress wire x) arrived))
 
 pub sent : (class : Class) (answer : Bool) (s s' : Ledger) (limit : Counters) (egress egress' wire wire' ingress : List Descriptor) → IsCounted s limit (wire ++ ingress)
-    → (answer ≡ true → Launches class egress s wire egress' s' wire')
+    → (answer ≡ true → Transmits class egress s wire egress' s' wire')
     → (answer ≡ false → IsStuck class egress s)
     → (answer ≡ false → (egress' ≡ egress) × (s' ≡ s) × (wire' ≡ wire))
     → MatchBool answer (send class (link_of s egress wire ingress) ≡ Some (link_of s' egress' wire' ingress))
@@ -67,7 +67,7 @@ sent class false s s' limit egress egress' wire wire' ingress kept went stuck re
     (send-none class s egress wire ingress (stuck refl), same_link s s' egress egress' wire wire' ingress ingress r.1 r.0 r.2 refl)
 
 pub sent-kept : (class : Class) (answer : Bool) (s s' : Ledger) (limit : Counters) (egress egress' wire wire' ingress : List Descriptor) → IsCounted s limit (wire ++ ingress)
-    → (answer ≡ true → Launches class egress s wire egress' s' wire')
+    → (answer ≡ true → Transmits class egress s wire egress' s' wire')
     → (answer ≡ false → (egress' ≡ egress) × (s' ≡ s) × (wire' ≡ wire))
     → IsCounted s' limit (wire' ++ ingress)
 sent-kept class true s s' limit egress egress' wire wire' ingress kept went rests =
@@ -90,58 +90,58 @@ pub none_waits : (wire wire' : List Descriptor) → slice_get wire 0 ≡ None �
 none_waits [] wire' h e = (refl, sym e)
 none_waits (x ∷ xs) wire' h e = absurd cc
 
-pub landed : (answer : Bool) (s : Ledger) (egress wire wire' ingress ingress' : List Descriptor)
-    → (answer ≡ true → Lands wire ingress wire' ingress')
+pub delivered : (answer : Bool) (s : Ledger) (egress wire wire' ingress ingress' : List Descriptor)
+    → (answer ≡ true → Delivers wire ingress wire' ingress')
     → (answer ≡ false → (wire ≡ []) × (wire' ≡ []) × (ingress' ≡ ingress))
-    → MatchBool answer (receive (link_of s egress wire ingress) ≡ Some (link_of s egress wire' ingress'))
-    ((receive (link_of s egress wire ingress) ≡ None) × (link_of s egress wire' ingress' ≡ link_of s egress wire ingress))
-landed true s egress wire wire' ingress ingress' went rests = receive-some s egress wire wire' ingress ingress' (went refl)
-landed false s egress wire wire' ingress ingress' went rests =
+    → MatchBool answer (deliver (link_of s egress wire ingress) ≡ Some (link_of s egress wire' ingress'))
+    ((deliver (link_of s egress wire ingress) ≡ None) × (link_of s egress wire' ingress' ≡ link_of s egress wire ingress))
+delivered true s egress wire wire' ingress ingress' went rests = deliver-some s egress wire wire' ingress ingress' (went refl)
+delivered false s egress wire wire' ingress ingress' went rests =
     let r = rests refl in
-    (receive-none s egress wire ingress r.0, same_link s s egress egress wire wire' ingress ingress' refl refl (r.1 ∙ sym r.0) r.2)
+    (deliver-none s egress wire ingress r.0, same_link s s egress egress wire wire' ingress ingress' refl refl (r.1 ∙ sym r.0) r.2)
 
-pub landed-kept : (answer : Bool) (s : Ledger) (limit : Counters) (wire wire' ingress ingress' : List Descriptor) → IsCounted s limit (wire ++ ingress)
-    → (answer ≡ true → Lands wire ingress wire' ingress')
+pub delivered-kept : (answer : Bool) (s : Ledger) (limit : Counters) (wire wire' ingress ingress' : List Descriptor) → IsCounted s limit (wire ++ ingress)
+    → (answer ≡ true → Delivers wire ingress wire' ingress')
     → (answer ≡ false → (wire ≡ []) × (wire' ≡ []) × (ingress' ≡ ingress))
     → IsCounted s limit (wire' ++ ingress')
-landed-kept true s limit wire wire' ingress ingress' kept went rests =
+delivered-kept true s limit wire wire' ingress ingress' kept went rests =
     let w = went refl in
     moved-counted s limit (wire ++ ingress) (wire' ++ ingress')
-    (λ k. ap (λ (x : List Descriptor). total k (wire' ++ x)) w.behind ∙ (total-landed k wire' ingress w.frame ∙ ap (λ (x : List Descriptor). total k (x ++ ingress)) (sym w.oldest))) kept
-landed-kept false s limit wire wire' ingress ingress' kept went rests =
+    (λ k. ap (λ (x : List Descriptor). total k (wire' ++ x)) w.behind ∙ (total-delivered k wire' ingress w.frame ∙ ap (λ (x : List Descriptor). total k (x ++ ingress)) (sym w.oldest))) kept
+delivered-kept false s limit wire wire' ingress ingress' kept went rests =
     let r = rests refl in
     moved-counted s limit (wire ++ ingress) (wire' ++ ingress')
     (λ k. ap (λ (x : List Descriptor). total k (x ++ ingress')) (r.1 ∙ sym r.0) ∙ ap (λ (x : List Descriptor). total k (wire ++ x)) r.2) kept
 
 -- ---- what is told
 
-pub heard : (answer : Bool) (s s' : Ledger) (limit told : Counters) (egress wire ingress : List Descriptor) → IsCounted s limit (wire ++ ingress) → told ≡ limit
-    → (answer ≡ true → (s' ≡ record s { limit = told }) × (told ≢ s.limit))
-    → (answer ≡ false → (s' ≡ s) × (told ≡ s.limit))
-    → MatchBool answer (tell (link_of s egress wire ingress) ≡ Some (link_of s' egress wire ingress))
-    ((tell (link_of s egress wire ingress) ≡ None) × (link_of s' egress wire ingress ≡ link_of s egress wire ingress))
-heard true s s' limit told egress wire ingress kept is new known =
+pub accepted : (answer : Bool) (s s' : Ledger) (limit told : Counters) (egress wire ingress : List Descriptor) → IsCounted s limit (wire ++ ingress) → told ≡ limit
+    → (answer ≡ true → (s' ≡ record s { credit_limit = told }) × (told ≢ s.credit_limit))
+    → (answer ≡ false → (s' ≡ s) × (told ≡ s.credit_limit))
+    → MatchBool answer (update_fc (link_of s egress wire ingress) ≡ Some (link_of s' egress wire ingress))
+    ((update_fc (link_of s egress wire ingress) ≡ None) × (link_of s' egress wire ingress ≡ link_of s egress wire ingress))
+accepted true s s' limit told egress wire ingress kept is new known =
     let n = new refl in
-    tell-some s s' told egress wire ingress (subst (λ (l : Counters). IsCounted s l (wire ++ ingress)) (sym is) kept) n.0 n.1
-heard false s s' limit told egress wire ingress kept is new known =
+    update_fc-some s s' told egress wire ingress (subst (λ (l : Counters). IsCounted s l (wire ++ ingress)) (sym is) kept) n.0 n.1
+accepted false s s' limit told egress wire ingress kept is new known =
     let k = known refl in
-    (tell-none s limit egress wire ingress kept (sym is ∙ k.1), ap (λ (t : Ledger). link_of t egress wire ingress) k.0)
+    (update_fc-none s limit egress wire ingress kept (sym is ∙ k.1), ap (λ (t : Ledger). link_of t egress wire ingress) k.0)
 
-pub heard-kept : (answer : Bool) (s s' : Ledger) (limit told : Counters) (behind : List Descriptor) → IsCounted s limit behind → told ≡ limit
-    → (answer ≡ true → (s' ≡ record s { limit = told }) × (told ≢ s.limit))
-    → (answer ≡ false → (s' ≡ s) × (told ≡ s.limit))
+pub accepted-kept : (answer : Bool) (s s' : Ledger) (limit told : Counters) (behind : List Descriptor) → IsCounted s limit behind → told ≡ limit
+    → (answer ≡ true → (s' ≡ record s { credit_limit = told }) × (told ≢ s.credit_limit))
+    → (answer ≡ false → (s' ≡ s) × (told ≡ s.credit_limit))
     → IsCounted s' limit behind
-heard-kept true s s' limit told behind kept is new known =
-    subst (λ (t : Ledger). IsCounted t limit behind) (sym ((new refl).0 ∙ ap (λ (l : Counters). record s { limit = l }) is)) (told-counted s limit behind kept)
-heard-kept false s s' limit told behind kept is new known =
+accepted-kept true s s' limit told behind kept is new known =
+    subst (λ (t : Ledger). IsCounted t limit behind) (sym ((new refl).0 ∙ ap (λ (l : Counters). record s { credit_limit = l }) is)) (told-counted s limit behind kept)
+accepted-kept false s s' limit told behind kept is new known =
     subst (λ (t : Ledger). IsCounted t limit behind) (sym (known refl).0) kept
 
 -- a sender that knows the limit is told nothing
 pub knows-told : (answer : Bool) (s : Ledger) (limit told : Counters) (egress wire ingress : List Descriptor) → IsCounted s limit (wire ++ ingress) → told ≡ limit
-    → MatchBool answer (told ≡ s.limit) (told ≢ s.limit) → answer ≡ is_none (tell (link_of s egress wire ingress))
-knows-told true s limit told egress wire ingress kept is known = ap is_none (sym (tell-none s limit egress wire ingress kept (sym is ∙ known)))
+    → MatchBool answer (told ≡ s.credit_limit) (told ≢ s.credit_limit) → answer ≡ is_none (update_fc (link_of s egress wire ingress))
+knows-told true s limit told egress wire ingress kept is known = ap is_none (sym (update_fc-none s limit egress wire ingress kept (sym is ∙ known)))
 knows-told false s limit told egress wire ingress kept is other =
-    ap is_none (sym (tell-some s (record s { limit = told }) told egress wire ingress (subst (λ (l : Counters). IsCounted s l (wire ++ ingress)) (sym is) kept) refl other))
+    ap is_none (sym (update_fc-some s (record s { credit_limit = told }) told egress wire ingress (subst (λ (l : Counters). IsCounted s l (wire ++ ingress)) (sym is) kept) refl other))
 
 -- ---- what leaves, and comes back
 
@@ -176,22 +176,22 @@ place-true s egress wire ingress cost room =
     let first = both.0 in let second = both.1 in
     let headers = room (Kind.Headers cost.class) in
     let payload = room (Kind.Data cost.class) in
-    let header_left = at-left s.sent s.limit (Kind.Headers cost.class) in
-    let payload_left = at-left s.sent s.limit (Kind.Data cost.class) in
+    let header_left = at-left s.credits_consumed s.credit_limit (Kind.Headers cost.class) in
+    let payload_left = at-left s.credits_consumed s.credit_limit (Kind.Data cost.class) in
     both-true
-    (at (left_counters s.sent s.limit) (Kind.Headers cost.class) + total (Kind.Headers cost.class) (wire ++ ingress) + 1) (at s.start (Kind.Headers cost.class))
-    (at (left_counters s.sent s.limit) (Kind.Data cost.class) + total (Kind.Data cost.class) (wire ++ ingress) + cost.data) (at s.start (Kind.Data cost.class))
+    (at (left_counters s.credits_consumed s.credit_limit) (Kind.Headers cost.class) + total (Kind.Headers cost.class) (wire ++ ingress) + 1) (at s.start (Kind.Headers cost.class))
+    (at (left_counters s.credits_consumed s.credit_limit) (Kind.Data cost.class) + total (Kind.Data cost.class) (wire ++ ingress) + cost.data) (at s.start (Kind.Data cost.class))
     (omega arith) (omega arith)
 
 true-place : (s : Ledger) (limit : Counters) (egress wire ingress : List Descriptor) (cost : Cost) → IsCounted s limit (wire ++ ingress) → has_place (link_of s egress wire ingress) cost ≡ true
     → (k : Kind) → left_of s k + (cost_of cost k + total k (wire ++ ingress)) ≤ at s.start k
 true-place s limit egress wire ingress cost kept h k =
     let both = true-both
-    (at (left_counters s.sent s.limit) (Kind.Headers cost.class) + total (Kind.Headers cost.class) (wire ++ ingress) + 1) (at s.start (Kind.Headers cost.class))
-    (at (left_counters s.sent s.limit) (Kind.Data cost.class) + total (Kind.Data cost.class) (wire ++ ingress) + cost.data) (at s.start (Kind.Data cost.class)) h in
+    (at (left_counters s.credits_consumed s.credit_limit) (Kind.Headers cost.class) + total (Kind.Headers cost.class) (wire ++ ingress) + 1) (at s.start (Kind.Headers cost.class))
+    (at (left_counters s.credits_consumed s.credit_limit) (Kind.Data cost.class) + total (Kind.Data cost.class) (wire ++ ingress) + cost.data) (at s.start (Kind.Data cost.class)) h in
     let first = both.0 in let second = both.1 in
-    let header_left = at-left s.sent s.limit (Kind.Headers cost.class) in
-    let payload_left = at-left s.sent s.limit (Kind.Data cost.class) in
+    let header_left = at-left s.credits_consumed s.credit_limit (Kind.Headers cost.class) in
+    let payload_left = at-left s.credits_consumed s.credit_limit (Kind.Data cost.class) in
     let within = (covers-all cost.class cost.data (spare s (wire ++ ingress))).0 (omega arith, omega arith) k in
     let covered = kept.covered k in
     omega arith

@@ -9,8 +9,8 @@ use Rattle.ordering.specs.Ordering.{Class, same_class}
 use Rattle.ordering.proofs.Leaving.{taken_leaves}
 use Rattle.credit.specs.Kinds.{Kind, cost_of, where_same}
 use Rattle.port_queue.specs.Queue.{Queue, count_of, restored_at}
-use Rattle.port.specs.Lanes.{class_of, eligible}
-use Rattle.port.specs.Queues.{IsSorted, frames_of, frames_restored}
+use Rattle.lane.specs.Lanes.{class_of, eligible}
+use Rattle.lane.specs.Queues.{IsSorted, frames_of, frames_restored}
 use Rattle.link.specs.Channels.{count_in, total}
 
 pub total-append : (k : Kind) (xs ys : List Descriptor) → total k (xs ++ ys) ≡ total k xs + total k ys
@@ -36,10 +36,10 @@ total-sent k wire ingress f =
     omega arith
 
 -- the oldest of the wire waits behind all that wait
-pub total-landed : (k : Kind) (wire ingress : List Descriptor) (f : Descriptor) → total k (wire ++ (ingress ++ f ∷ [])) ≡ total k ((f ∷ wire) ++ ingress)
-total-landed k wire ingress f =
+pub total-delivered : (k : Kind) (wire ingress : List Descriptor) (f : Descriptor) → total k (wire ++ (ingress ++ f ∷ [])) ≡ total k ((f ∷ wire) ++ ingress)
+total-delivered k wire ingress f =
     let all = total-append k wire (ingress ++ f ∷ []) in
-    let landed = total-append k ingress (f ∷ []) in
+    let delivered = total-append k ingress (f ∷ []) in
     let before = total-append k wire ingress in
     omega arith
 

@@ -8,7 +8,7 @@ use Rattle.credit.specs.Limits.{MayStart, credits_at, at, with_credits}
 use Rattle.credit.specs.declared.counters.Credits.{Credits}
 use Rattle.credit.specs.declared.counters.Counters.{Counters}
 use Rattle.ordering.specs.Ordering.{same_class}
-use Rattle.port.specs.Lanes.{class_of, eligible}
+use Rattle.lane.specs.Lanes.{class_of, eligible}
 
 pub record Channel : Type 0 where
   pub start : Counters  -- the credits that the receiver advertised at the start
@@ -88,8 +88,8 @@ abbrev pub received_of : Channel → List Descriptor → Option Channel
 received_of c [] = None
 received_of c (frame ∷ frames) = Some (record { start = c.start; left = c.left; egress = c.egress; wire = frames; ingress = c.ingress ++ frame ∷ [] })
 
-abbrev pub receive : Channel → Option Channel
-receive c = received_of c c.wire
+abbrev pub deliver : Channel → Option Channel
+deliver c = received_of c c.wire
 
 -- the sender learns what it may have; nothing happens where it knows
 abbrev pub told_of : Channel → Counters → Option Channel
@@ -97,5 +97,5 @@ told_of c most =
     if same_counters c.left most then None
     else Some (record { start = c.start; left = most; egress = c.egress; wire = c.wire; ingress = c.ingress })
 
-abbrev pub tell : Channel → Option Channel
-tell c = told_of c (unspent c.start (c.wire ++ c.ingress))
+abbrev pub update_fc : Channel → Option Channel
+update_fc c = told_of c (unspent c.start (c.wire ++ c.ingress))

@@ -5,7 +5,7 @@ use Rattle.credit.specs.Counter.{distance}
 use Rattle.credit.specs.Kinds.{Kind, Cost, size_of}
 use Rattle.credit.specs.Limits.{Ledger, IsInRange, at, left_counters, left_of}
 use Rattle.credit.specs.declared.counters.Counters.{Counters}
-use Rattle.port.specs.Queues.{Waiting, frames_of, frames_restored}
+use Rattle.lane.specs.Queues.{Waiting, frames_of, frames_restored}
 use Rattle.link.specs.Channels.{Channel, total}
 use Rattle.link.specs.declared.simplex.Simplex.TheInside.{Inside}
 
@@ -19,8 +19,8 @@ pub record SimplexView : Type 0 where
 abbrev pub channel : SimplexView → Channel
 channel s = record { start = s.start; left = s.left; egress = frames_of s.egress.queue.waiting; wire = s.wire; ingress = frames_of s.ingress.queue.waiting }
 
-abbrev pub view_of : Inside → SimplexView
-view_of s = record { start = s.sender.start; left = left_counters s.sender.sent s.sender.limit; egress = s.egress; wire = s.wire; ingress = s.ingress }
+abbrev pub simplex_view : Inside → SimplexView
+simplex_view s = record { start = s.sender.start; left = left_counters s.sender.credits_consumed s.sender.credit_limit; egress = s.egress; wire = s.wire; ingress = s.ingress }
 
 -- could the receiver take this packet as well, beside the credits that the sender has left?
 abbrev pub has_place : Channel → Cost → Bool
@@ -51,9 +51,9 @@ pub record Before : Type 0 where
 pub record IsCounted (sender : Ledger) (limit : Counters) (behind : List Descriptor) : Type 0 where
   pub range : IsInRange sender
   pub covered : (k : Kind) → left_of sender k + total k behind ≤ at sender.start k
-  pub freed : (k : Kind) → distance (size_of k) (at sender.sent k) (at limit k) + total k behind ≡ at sender.start k
-  pub known : (k : Kind) → at sender.limit k < size_of k
+  pub freed : (k : Kind) → distance (size_of k) (at sender.credits_consumed k) (at limit k) + total k behind ≡ at sender.start k
+  pub known : (k : Kind) → at sender.credit_limit k < size_of k
   pub bounded : (k : Kind) → at limit k < size_of k
 
-abbrev pub IsKept : Inside → Type 0
-IsKept s = IsCounted s.sender s.receiver.limit (s.wire ++ frames_of s.ingress.queue.waiting)
+abbrev pub IsSimplex : Inside → Type 0
+IsSimplex s = IsCounted s.sender s.receiver.credits_allocated (s.wire ++ frames_of s.ingress.queue.waiting)

@@ -3,14 +3,14 @@ use Rattle.std.specs.Prelude.{◌≡◌, List, [], ◌∷◌, ◌++◌, Some}
 use Rattle.frame_log.specs.Descriptor.{Descriptor}
 use Rattle.credit.specs.Kinds.{Class}
 use Rattle.credit.specs.Limits.{Ledger, HasRoom, counted}
-use Rattle.port.specs.Lanes.{eligible}
+use Rattle.lane.specs.Lanes.{eligible}
 
 -- the eligible packet of a class went on the wire, and spent its credits
-pub record Launches (class : Class) (egress : List Descriptor) (sender : Ledger) (wire egress' : List Descriptor) (sender' : Ledger) (wire' : List Descriptor) : Type 0 where
+pub record Transmits (class : Class) (egress : List Descriptor) (sender : Ledger) (wire egress' : List Descriptor) (sender' : Ledger) (wire' : List Descriptor) : Type 0 where
   pub frame : Descriptor
   pub taken : eligible class egress ≡ Some (frame, egress')
   pub room : HasRoom sender frame.head.cost
-  pub spends : sender' ≡ record sender { sent = counted sender.sent frame.head.cost }
+  pub spends : sender' ≡ record sender { credits_consumed = counted sender.credits_consumed frame.head.cost }
   pub behind : wire' ≡ wire ++ frame ∷ []
 
 -- no packet of the class is eligible for which there are credits
@@ -18,7 +18,7 @@ abbrev pub IsStuck : Class → List Descriptor → Ledger → Type 0
 IsStuck class egress sender = (frame : Descriptor) (rest : List Descriptor) → eligible class egress ≡ Some (frame, rest) → HasRoom sender frame.head.cost → ⊥
 
 -- the oldest packet of the wire reached the receiver
-pub record Lands (wire ingress wire' ingress' : List Descriptor) : Type 0 where
+pub record Delivers (wire ingress wire' ingress' : List Descriptor) : Type 0 where
   pub frame : Descriptor
   pub oldest : wire ≡ frame ∷ wire'
   pub behind : ingress' ≡ ingress ++ frame ∷ []

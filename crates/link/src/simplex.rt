@@ -4,24 +4,26 @@ ghost use Rattle.std.specs.Prelude.{◌≡◌, ◌≤◌, ◌++◌, [], None, So
 ghost use Rattle.fab_types.specs.declared.class.Class.{Class};
 ghost use Rattle.credit.specs.Kinds.{Kind};
 ghost use Rattle.credit.specs.Limits.{MayStart, at};
-ghost use Rattle.port.specs.Lanes.{eligible};
-ghost use Rattle.port.specs.Queues.{frames_of};
-ghost use Rattle.link.specs.Channels.{IsCovered, count_in, receive, send, tell};
+ghost use Rattle.lane.specs.Lanes.{eligible};
+ghost use Rattle.lane.specs.Queues.{frames_of};
+ghost use Rattle.link.specs.Channels.{IsCovered, count_in, deliver, send, update_fc};
 ghost use Rattle.link.specs.Quiet.{is_quiet, none_eligible};
 ghost use Rattle.link.specs.Simplexes.{channel};
 
-use crate::steps::{give_back, hand_over, has_none_eligible, hear, knows, land, launch};
+use crate::steps::{
+    accept_update, deliver_oldest, give_back, has_none_eligible, knows, release, transmit,
+};
 use credit::{Limits, Receiver, Sender};
 use fab_types::{Class, DomainId, Head};
 use frame_log::Frame;
-use port::{FrameQueue, LaneIn, LaneOut};
+use lane::{FrameQueue, LaneIn, LaneOut};
 use port_queue::Ring;
 use std::marker::Model;
 
 /// One direction of a link, which is dual simplex (PCIe 4.0, 1.2): what waits at its sender, travels, and
 /// waits at its receiver, and the credits of both. It is the lane out of its sender and the lane in of
 /// its receiver. The credits of a packet that leaves the receiver are free, and its sender learns of them
-/// by `tell`. A contract sees a `SimplexView`.
+/// by `update_fc`. A contract sees a `SimplexView`.
 #[derive(Drop)]
 pub struct Simplex {
     sender: Sender,
@@ -32,13 +34,13 @@ pub struct Simplex {
 }
 
 impl Model for Simplex {
-    ghost use Rattle.link.specs.Simplexes.{SimplexView, IsKept, view_of};
+    ghost use Rattle.link.specs.Simplexes.{SimplexView, IsSimplex, simplex_view};
 
     ghost Value = { SimplexView };
 
-    ghost view = { view_of };
+    ghost view = { simplex_view };
 
-    ghost invariant = { IsKept };
+    ghost invariant = { IsSimplex };
 }
 
 impl Simplex {
@@ -69,15 +71,15 @@ impl Simplex {
     pub fn send(&mut self, class: Class) -> bool
         ensures { MatchBool result (send class (channel self.old) ≡ Some (channel self.new)) ((send class (channel self.old) ≡ None) × (channel self.new ≡ channel self.old)) }
     {
-        launch(&mut self.egress, &mut self.sender, &mut self.wire, class)
+        transmit(&mut self.egress, &mut self.sender, &mut self.wire, class)
     }
 
     /// The oldest packet of the wire reaches the receiver, where there always is a place for it. It
     /// answers false where the wire is empty.
-    pub fn receive(&mut self) -> bool
-        ensures { MatchBool result (receive (channel self.old) ≡ Some (channel self.new)) ((receive (channel self.old) ≡ None) × (channel self.new ≡ channel self.old)) }
+    pub fn deliver(&mut self) -> bool
+        ensures { MatchBool result (deliver (channel self.old) ≡ Some (channel self.new)) ((deliver (channel self.old) ≡ None) × (channel self.new ≡ channel self.old)) }
     {
-        land(&mut self.wire, &mut self.ingress)
+        deliver_oldest(&mut self.wire, &mut self.ingress)
     }
 
     /// The credits that the sender knows to be left. They and the cost of all that travels and waits at the
@@ -119,16 +121,16 @@ impl Simplex {
     }
 
     /// The sender learns the receiver's present limits. It answers false where it knows them.
-    pub fn tell(&mut self) -> bool
-        ensures { MatchBool result (tell (channel self.old) ≡ Some (channel self.new)) ((tell (channel self.old) ≡ None) × (channel self.new ≡ channel self.old)) }
+    pub fn update_fc(&mut self) -> bool
+        ensures { MatchBool result (update_fc (channel self.old) ≡ Some (channel self.new)) ((update_fc (channel self.old) ≡ None) × (channel self.new ≡ channel self.old)) }
     {
         let limits = self.receiver.advert();
-        hear(&mut self.sender, limits)
+        accept_update(&mut self.sender, limits)
     }
 
-    /// Does the sender know the receiver's present limits, so that `tell` changes nothing?
+    /// Does the sender know the receiver's present limits, so that `update_fc` changes nothing?
     fn is_told(&self) -> bool
-        ensures { result ≡ is_none (tell (channel self.now)) }
+        ensures { result ≡ is_none (update_fc (channel self.now)) }
     {
         knows(&self.sender, self.receiver.advert())
     }
@@ -168,7 +170,7 @@ impl LaneIn for Simplex {
     }
 
     fn take(&mut self, class: Class) -> Option<Frame> {
-        hand_over(&mut self.ingress, &mut self.receiver, class)
+        release(&mut self.ingress, &mut self.receiver, class)
     }
 
     fn put_back(&mut self, frame: Frame) {
@@ -194,13 +196,13 @@ impl LaneOut for Simplex {
     ghost is_sure = { true };
 
     fn is_full(&mut self, class: Class) -> bool {
-        // It tells that each packet waits under its own class.
+        // for the proof: each packet waits under its own class
         let _ = self.egress.has_no_place(class);
         self.egress.is_full(class)
     }
 
     fn push(&mut self, frame: Frame) -> Result<(), Frame> {
-        // It tells that each packet waits under its own class.
+        // for the proof: each packet waits under its own class
         let _ = self.egress.has_no_place(frame.head().cost.class);
         self.egress.push(frame)
     }

@@ -5,27 +5,27 @@ ghost use Rattle.fab_types.specs.declared.cost.Cost.{Cost};
 ghost use Rattle.frame_log.specs.Descriptor.{Descriptor};
 ghost use Rattle.credit.specs.Kinds.{Kind};
 ghost use Rattle.credit.specs.Limits.{HasRoom, IsUpdate, counted, uncounted};
-ghost use Rattle.port.specs.Lanes.{class_of, eligible};
-ghost use Rattle.port.specs.Queues.{frames_of, frames_restored};
+ghost use Rattle.lane.specs.Lanes.{class_of, eligible};
+ghost use Rattle.lane.specs.Queues.{frames_of, frames_restored};
 ghost use Rattle.link.specs.Channels.{total};
 ghost use Rattle.link.specs.Quiet.{none_eligible};
-ghost use Rattle.link.specs.Steps.{IsStuck, Lands, Launches};
+ghost use Rattle.link.specs.Steps.{IsStuck, Delivers, Transmits};
 
 use credit::{Limits, Receiver, Sender};
 use fab_types::Class;
 use frame_log::Frame;
-use port::{FrameQueue, LaneIn, LaneOut};
+use lane::{FrameQueue, LaneIn, LaneOut};
 use port_queue::Ring;
 
 /// Puts the eligible packet of the class on the wire, if the sender has the credits.
-pub(crate) fn launch(
+pub(crate) fn transmit(
     egress: &mut FrameQueue<16>,
     sender: &mut Sender,
     wire: &mut Ring<Frame, 381>,
     class: Class,
 ) -> bool
     requires { (cost : Cost) → HasRoom sender.old cost → length wire.old < 381 }
-    ensures sent { result ≡ true → Launches class (frames_of egress.old.queue.waiting) sender.old wire.old (frames_of egress.new.queue.waiting) sender.new wire.new }
+    ensures sent { result ≡ true → Transmits class (frames_of egress.old.queue.waiting) sender.old wire.old (frames_of egress.new.queue.waiting) sender.new wire.new }
     ensures stuck { result ≡ false → IsStuck class (frames_of egress.old.queue.waiting) sender.old }
     ensures rests { result ≡ false → (frames_of egress.new.queue.waiting ≡ frames_of egress.old.queue.waiting) × (sender.new ≡ sender.old) × (wire.new ≡ wire.old) }
 {
@@ -58,9 +58,9 @@ fn arrive(ingress: &mut FrameQueue<127>, frame: Frame)
 }
 
 /// Takes the oldest packet off the wire and into the queue.
-pub(crate) fn land(wire: &mut Ring<Frame, 381>, ingress: &mut FrameQueue<127>) -> bool
+pub(crate) fn deliver_oldest(wire: &mut Ring<Frame, 381>, ingress: &mut FrameQueue<127>) -> bool
     requires { (frame : Descriptor) → slice_get wire.old 0 ≡ Some frame → total (Kind.Headers (class_of frame)) (frames_of ingress.old.queue.waiting) < 127 }
-    ensures landed { result ≡ true → Lands wire.old (frames_of ingress.old.queue.waiting) wire.new (frames_of ingress.new.queue.waiting) }
+    ensures delivered { result ≡ true → Delivers wire.old (frames_of ingress.old.queue.waiting) wire.new (frames_of ingress.new.queue.waiting) }
     ensures rests { result ≡ false → (wire.old ≡ []) × (wire.new ≡ []) × (frames_of ingress.new.queue.waiting ≡ frames_of ingress.old.queue.waiting) }
 {
     let Some(frame) = wire.pop_front() else {
@@ -81,25 +81,25 @@ pub(crate) fn has_none_eligible<const CAP: usize>(queue: &FrameQueue<CAP>) -> bo
 
 /// Are these the limits that the sender was told last?
 pub(crate) fn knows(sender: &Sender, limits: Limits) -> bool
-    ensures { MatchBool result (limits ≡ sender.now.limit) (limits ≢ sender.now.limit) }
+    ensures { MatchBool result (limits ≡ sender.now.credit_limit) (limits ≢ sender.now.credit_limit) }
 {
-    limits == sender.limits()
+    limits == sender.credit_limit()
 }
 
 /// Tells the sender these limits, if it doesn't know them.
-pub(crate) fn hear(sender: &mut Sender, limits: Limits) -> bool
+pub(crate) fn accept_update(sender: &mut Sender, limits: Limits) -> bool
     requires { IsUpdate sender.old limits }
-    ensures told { result ≡ true → (sender.new ≡ record sender.old { limit = limits }) × (limits ≢ sender.old.limit) }
-    ensures known { result ≡ false → (sender.new ≡ sender.old) × (limits ≡ sender.old.limit) }
+    ensures told { result ≡ true → (sender.new ≡ record sender.old { credit_limit = limits }) × (limits ≢ sender.old.credit_limit) }
+    ensures known { result ≡ false → (sender.new ≡ sender.old) × (limits ≡ sender.old.credit_limit) }
 {
-    if limits == sender.limits() {
+    if limits == sender.credit_limit() {
         return false;
     }
     sender.update(limits)
 }
 
 /// Takes the eligible packet of the class, and frees its credits.
-pub(crate) fn hand_over(
+pub(crate) fn release(
     ingress: &mut FrameQueue<127>,
     receiver: &mut Receiver,
     class: Class,
@@ -107,7 +107,7 @@ pub(crate) fn hand_over(
     ensures taken { MatchOption result ((eligible class (frames_of ingress.old.queue.waiting) ≡ None) × (frames_of ingress.new.queue.waiting ≡ frames_of ingress.old.queue.waiting))
         (λ frame. eligible class (frames_of ingress.old.queue.waiting) ≡ Some (frame, frames_of ingress.new.queue.waiting)) }
     ensures restores { IfSome result (λ frame. frames_restored ingress.new.queue frame ≡ Some (frames_of ingress.old.queue.waiting)) }
-    ensures freed { MatchOption result (receiver.new.limit ≡ receiver.old.limit) (λ frame. receiver.new.limit ≡ counted receiver.old.limit frame.head.cost) }
+    ensures freed { MatchOption result (receiver.new.credits_allocated ≡ receiver.old.credits_allocated) (λ frame. receiver.new.credits_allocated ≡ counted receiver.old.credits_allocated frame.head.cost) }
     ensures misses { ingress.new.misses ≡ ingress.old.misses }
 {
     let frame = ingress.take(class)?;
@@ -119,7 +119,7 @@ pub(crate) fn hand_over(
 pub(crate) fn give_back(ingress: &mut FrameQueue<127>, receiver: &mut Receiver, frame: Frame)
     requires { IsSome (frames_restored ingress.old.queue frame) }
     ensures waiting { frames_restored ingress.old.queue frame ≡ Some (frames_of ingress.new.queue.waiting) }
-    ensures reclaimed { receiver.new.limit ≡ uncounted receiver.old.limit frame.head.cost }
+    ensures reclaimed { receiver.new.credits_allocated ≡ uncounted receiver.old.credits_allocated frame.head.cost }
     ensures misses { ingress.new.misses ≡ ingress.old.misses }
 {
     receiver.reclaim(frame.head().cost);

@@ -1,7 +1,7 @@
 -- Places that were noted for functions and hosts: functions by their bus (PCIe 4.0, 2.2.6.2), hosts by their domain.
 use Rattle.std.specs.Prelude.{◌≡◌, ℕ, ◌==◌, ◌⊎◌, slice_index_or, Option, Some, None, if◌then◌else◌}
-use Rattle.fab_types.specs.declared.place.Origin.{Origin}
-use Rattle.fab_types.specs.declared.place.Origin.TheVariants.{Function, Host}
+use Rattle.fab_types.specs.declared.origin.Origin.{Origin}
+use Rattle.fab_types.specs.declared.origin.Origin.TheVariants.{Function, Host}
 use Rattle.fab_types.specs.Id.{bus_of}
 use Rattle.origin_index.specs.declared.index.Noted.{Noted}
 use Rattle.origin_index.specs.declared.index.OriginIndex.{OriginIndex}

@@ -1,7 +1,7 @@
 //! For each origin a place that was noted for it.
 
 ghost use Rattle.std.specs.Prelude.{◌≡◌, ℕ, None, Some, slice_index_or};
-ghost use Rattle.fab_types.specs.declared.place.Origin.{Origin};
+ghost use Rattle.fab_types.specs.declared.origin.Origin.{Origin};
 ghost use Rattle.origin_index.specs.Indexes.{IsNoted, entry_for, noted_place};
 
 use fab_types::{Bdf, Origin};

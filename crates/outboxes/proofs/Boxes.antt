@@ -1,13 +1,13 @@
 -- What an outbox says of a take, said of what waits in it as packets alone.
 use Rattle.std.proofs.Common.{◌≡◌, Option, Some, None, ap}
 use Rattle.std.specs.Option.{MatchOption}
-use Rattle.fab_types.specs.declared.place.Origin.{Origin}
+use Rattle.fab_types.specs.declared.origin.Origin.{Origin}
 use Rattle.frame_log.specs.Descriptor.{Descriptor}
 use Rattle.port_queue.specs.Outgoing.{Outgoing}
 use Rattle.port_queue.specs.Queue.{taken_of}
-use Rattle.port.proofs.Sorting.{none_taken, some_taken}
-use Rattle.port.specs.Lanes.{Class}
-use Rattle.port.specs.Queues.{IsSorted}
+use Rattle.lane.proofs.Sorting.{none_taken, some_taken}
+use Rattle.lane.specs.Lanes.{Class}
+use Rattle.lane.specs.Queues.{IsSorted}
 use Rattle.outboxes.proofs.Changing.{TookFrom}
 use Rattle.outboxes.specs.Outboxes.{BoxView}
 

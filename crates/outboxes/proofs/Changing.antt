@@ -1,17 +1,17 @@
 -- What one box says of a call on it, said of the list that it stands in.
-use Rattle.std.proofs.Common.{◌≡◌, ◌≢◌, ℕ, zero, suc, ◌<◌, Bool, true, false, cond, List, [], ◌∷◌, length, get_or, set, Option, Some, None, refl, sym, ap, ◌∙◌, length-set, slice_get, eqb-true}
-use Rattle.std.specs.Prelude.{Result, Ok, Err, IfSome, MatchOption, OnErr, OnOk, nat_lt, option_map}
+use Rattle.std.proofs.Common.{◌≡◌, ◌≢◌, ℕ, zero, suc, ◌<◌, Bool, true, false, cond, List, [], ◌∷◌, length, get_or, set, Option, Some, None, refl, sym, ap, ◌∙◌, length-set, slice_get}
+use Rattle.std.specs.Prelude.{Result, Ok, Err, MatchOption, OnErr, OnOk, nat_lt, option_map}
 use Rattle.std.specs.List.{position_or_len}
 use Rattle.std.proofs.lemmas.List.{get_or-set_same, set-get_or}
 use Rattle.std.proofs.lemmas.List.Folds.{position_or_len-set}
 use Rattle.std.proofs.lemmas.List.Quantifiers.{position-Some}
 use Rattle.std.proofs.lemmas.Option.{get_or_from_slice_get, slice_get-get_or, slice_get_within}
-use Rattle.fab_types.specs.declared.place.Origin.{Origin}
-use Rattle.fab_types.specs.declared.place.Origin.TheVariants.{Function, Host}
+use Rattle.fab_types.specs.declared.origin.Origin.{Origin}
 use Rattle.frame_log.specs.Descriptor.{Descriptor}
-use Rattle.function.specs.Tags.{same_origin}
-use Rattle.port.specs.Lanes.{Class, eligible}
-use Rattle.outboxes.specs.Outboxes.{BoxView, box_at, box_of, box_place, changed, changed_at, changed_in, queue_in, restored, restored_in, waiting, waiting_in, with_more, with_queue}
+use Rattle.fab_types.specs.Origins.{same_origin}
+use Rattle.fab_types.proofs.Origins.{one_origin}
+use Rattle.lane.specs.Lanes.{Class, eligible}
+use Rattle.outboxes.specs.Outboxes.{BoxView, box_at, box_of, box_place, changed, changed_at, changed_in, queue_in, waiting, waiting_in, with_more, with_queue}
 
 -- ---- the box at a place
 
@@ -46,15 +46,6 @@ pub took_at : (boxes : List BoxView) (i : ℕ) (read new : BoxView) (class : Cla
 took_at boxes i read new class None within t = (rw (there boxes i read within) t.0, ap (set boxes i) t.1 ∙ set-get_or boxes i read)
 took_at boxes i read new class (Some frame) within t = rw (there boxes i read within, set_there boxes i new within) t
 
-pub restores_at : (boxes : List BoxView) (i : ℕ) (read new : BoxView) (result : Option Descriptor) → i < length boxes → IfSome result (λ frame. restored new frame ≡ Some (waiting (get_or boxes i read)))
-    → IfSome result (λ frame. restored_in (slice_get (set boxes i new) i) frame ≡ Some (waiting_in (slice_get boxes i)))
-restores_at boxes i read new None within r = tt
-restores_at boxes i read new (Some frame) within r = rw (there boxes i read within, set_there boxes i new within) r
-
-pub restored_at : (boxes : List BoxView) (i : ℕ) (read new : BoxView) (frame : Descriptor) → i < length boxes → restored (get_or boxes i read) frame ≡ Some (waiting new)
-    → restored_in (slice_get boxes i) frame ≡ Some (waiting_in (slice_get (set boxes i new) i))
-restored_at boxes i read new frame within r = rw (there boxes i read within, set_there boxes i new within) r
-
 -- the box at a place is another one
 pub set_at : (boxes : List BoxView) (i : ℕ) (read new : BoxView) (change : BoxView → BoxView) → i < length boxes → new ≡ change (get_or boxes i read) → set boxes i new ≡ changed_at change boxes (Some i)
 set_at boxes i read new change within is = ap (set boxes i) is ∙ sym (ap (changed_in change boxes i) (there boxes i read within))
@@ -66,12 +57,6 @@ kept_at boxes i read new within is =
     ∙ ap (λ (o : Option BoxView). changed_at (with_queue (queue_in o)) boxes (Some i)) (sym (set_there boxes i new within))
 
 -- ---- the box of another origin
-
-one_origin : (a b : Origin) → same_origin a b ≡ true → a ≡ b
-one_origin (Function f) (Function g) h = ap Function (eqb-true f g h)
-one_origin (Function f) (Host d) h = absurd cc
-one_origin (Host d) (Function g) h = absurd cc
-one_origin (Host d) (Host e) h = ap Host (eqb-true d e h)
 
 get_other : (boxes : List BoxView) (i j : ℕ) (new : BoxView) → j ≢ i → slice_get (set boxes i new) j ≡ slice_get boxes j
 get_other [] i j new apart = refl

@@ -2,8 +2,8 @@
 use Rattle.std.proofs.Common.{◌≡◌, ℕ, ◌<◌, Bool, List, [], ◌∷◌, length, Some}
 use Rattle.std.specs.List.{position}
 use Rattle.std.proofs.lemmas.List.Quantifiers.{position-Some}
-use Rattle.fab_types.specs.declared.place.Origin.{Origin}
-use Rattle.function.specs.Tags.{same_origin}
+use Rattle.fab_types.specs.declared.origin.Origin.{Origin}
+use Rattle.fab_types.specs.Origins.{same_origin}
 use Rattle.outboxes.specs.Outboxes.{BoxView, box_place}
 
 -- the first that passes is one of the list

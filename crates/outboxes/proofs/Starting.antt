@@ -4,8 +4,8 @@ use Rattle.std.specs.Prelude.{filter}
 use Rattle.std.specs.List.{range_with_len}
 use Rattle.std.proofs.lemmas.List.{map-append}
 use Rattle.std.proofs.lemmas.List.Elements.{filter-append}
-use Rattle.layout.specs.Owners.{owns_port}
-use Rattle.layout.specs.Platform.{Platform}
+use Rattle.platform.specs.Owners.{owns_port}
+use Rattle.platform.specs.Platform.{Platform}
 use Rattle.outboxes.specs.Outboxes.{BoxView, host_box, host_boxes}
 
 range_more : (a n : ℕ) → range_with_len a (n + 1) ≡ range_with_len a n ++ (a + n) ∷ []

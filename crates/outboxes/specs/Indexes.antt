@@ -1,6 +1,6 @@
 -- An index of boxes.
 use Rattle.std.specs.Prelude.{◌≡◌, ℕ, List, Some}
-use Rattle.fab_types.specs.declared.place.Origin.{Origin}
+use Rattle.fab_types.specs.declared.origin.Origin.{Origin}
 use Rattle.origin_index.specs.declared.index.OriginIndex.{OriginIndex}
 use Rattle.origin_index.specs.Indexes.{noted_place}
 use Rattle.outboxes.specs.Outboxes.{BoxView, box_place}

@@ -1,26 +1,26 @@
 -- What functions and hosts have emitted and no link has taken yet: an outbox of each, as a list of boxes.
 use Rattle.std.specs.Prelude.{ℕ, ◌+◌, ◌*◌, nat_lt, Bool, false, List, [], ◌∷◌, ◌++◌, map, filter, slice_get, slice_set, Option, Some, None}
 use Rattle.std.specs.List.{position, range_with_len}
-use Rattle.fab_types.specs.declared.place.Origin.{Origin}
-use Rattle.fab_types.specs.declared.place.Origin.TheVariants.{Function, Host}
+use Rattle.fab_types.specs.declared.origin.Origin.{Origin}
+use Rattle.fab_types.specs.declared.origin.Origin.TheVariants.{Function, Host}
 use Rattle.frame_log.specs.Descriptor.{Descriptor}
-use Rattle.function.specs.Tags.{same_origin}
-use Rattle.layout.specs.declared.lines.FunctionLine.{FunctionLine}
-use Rattle.layout.specs.Owners.{domain_above, owns_port}
-use Rattle.layout.specs.Platform.{Platform}
+use Rattle.fab_types.specs.Origins.{same_origin}
+use Rattle.platform.specs.declared.parts.EndpointFunction.{EndpointFunction}
+use Rattle.platform.specs.Owners.{domain_above, owns_port}
+use Rattle.platform.specs.Platform.{Platform}
 use Rattle.layout.specs.Views.{budget_of}
-use Rattle.port_queue.specs.declared.lanes.Lanes.{Lanes}
-use Rattle.port_queue.specs.Lanes.{lane_of, with_lane}
+use Rattle.port_queue.specs.declared.per_class.PerClass.{PerClass}
+use Rattle.port_queue.specs.PerClass.{at_class, with_class}
 use Rattle.port_queue.specs.Queue.{Queue}
-use Rattle.port.specs.Lanes.{Class, class_of}
-use Rattle.port.specs.Queues.{frames_of, frames_restored}
+use Rattle.lane.specs.Lanes.{Class, class_of}
+use Rattle.lane.specs.Queues.{frames_of}
 
 -- an outbox: whose it is, what waits (with where the packet stood that was taken last), how many of each class were
 -- put in all, and how many of each may be
 pub record BoxView : Type 0 where
   pub origin : Origin
   pub queue : Queue Descriptor
-  pub puts : Lanes ℕ
+  pub puts : PerClass ℕ
   pub places : ℕ
 
 -- ---- one box
@@ -29,13 +29,9 @@ pub record BoxView : Type 0 where
 abbrev pub waiting : BoxView → List Descriptor
 waiting box = frames_of box.queue.waiting
 
--- what waits once this packet is put back, right after it was taken
-abbrev pub restored : BoxView → Descriptor → Option (List Descriptor)
-restored box frame = frames_restored box.queue frame
-
 -- were fewer than its places put of the class?
 abbrev pub takes : BoxView → Class → Bool
-takes box class = nat_lt (lane_of box.puts class) box.places
+takes box class = nat_lt (at_class box.puts class) box.places
 
 -- the box, in which this waits
 abbrev pub with_queue : Queue Descriptor → BoxView → BoxView
@@ -46,7 +42,7 @@ abbrev pub with_put : Descriptor → BoxView → BoxView
 with_put frame box = record {
   origin = box.origin;
   queue = record { waiting = box.queue.waiting ++ (class_of frame, frame) ∷ []; gap = None };
-  puts = with_lane box.puts (class_of frame) (lane_of box.puts (class_of frame) + 1);
+  puts = with_class box.puts (class_of frame) (at_class box.puts (class_of frame) + 1);
   places = box.places;
 }
 
@@ -81,14 +77,6 @@ queue_in (Some box) = box.queue
 
 abbrev pub queue_of : List BoxView → Origin → Queue Descriptor
 queue_of boxes origin = queue_in (box_of boxes origin)
-
-abbrev pub restored_in : Option BoxView → Descriptor → Option (List Descriptor)
-restored_in None frame = None
-restored_in (Some box) frame = restored box frame
-
--- what waits of an origin once this packet is put back, right after it was taken
-abbrev pub restored_of : List BoxView → Origin → Descriptor → Option (List Descriptor)
-restored_of boxes origin frame = restored_in (box_of boxes origin) frame
 
 abbrev pub has_place_in : Option BoxView → Class → Bool
 has_place_in None class = false
@@ -127,7 +115,7 @@ abbrev pub places_of : Platform → Option ℕ → ℕ
 places_of platform None = 0
 places_of platform (Some domain) = 3 * budget_of platform.budgets domain
 
-abbrev pub function_box : Platform → FunctionLine → BoxView
+abbrev pub function_box : Platform → EndpointFunction → BoxView
 function_box platform line = empty_box (places_of platform (domain_above platform.ports line.id)) (Function line.id)
 
 abbrev pub host_box : Platform → ℕ → BoxView

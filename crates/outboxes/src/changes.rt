@@ -1,14 +1,13 @@
 //! The box of an origin, and changes of the box at a place.
 
-ghost use Rattle.std.specs.Prelude.{◌≡◌, ◌<◌, IfSome, IsSome, IsTrue, MatchOption, None, OnErr, OnOk, Some, length, slice_get};
-ghost use Rattle.fab_types.specs.declared.place.Origin.{Origin};
-ghost use Rattle.port.specs.Lanes.{class_of, eligible};
-ghost use Rattle.outboxes.specs.Outboxes.{box_place, changed_at, has_place_in, queue_in, restored_in, waiting_in, with_more, with_put, with_queue};
+ghost use Rattle.std.specs.Prelude.{◌≡◌, ◌<◌, IfSome, IsTrue, MatchOption, None, OnErr, OnOk, Some, length, slice_get};
+ghost use Rattle.fab_types.specs.declared.origin.Origin.{Origin};
+ghost use Rattle.lane.specs.Lanes.{class_of, eligible};
+ghost use Rattle.outboxes.specs.Outboxes.{box_place, changed_at, has_place_in, queue_in, waiting_in, with_more, with_put, with_queue};
 
 use crate::origin_box::OriginBox;
-use fab_types::{Class, NoMemory, Origin};
+use fab_types::{Class, NoMemory, Origin, same_origin};
 use frame_log::Frame;
-use function::same_origin;
 
 /// The place of the box of this origin.
 #[tactic(auto, unfolding(crate::specs::Outboxes::box_place))]
@@ -26,22 +25,10 @@ pub(crate) fn take_at(boxes: &mut [OriginBox], place: usize, class: Class) -> Op
     requires { place < length boxes.old }
     ensures taken { MatchOption result ((eligible class (waiting_in (slice_get boxes.old place)) ≡ None) × (boxes.new ≡ boxes.old))
         (λ frame. eligible class (waiting_in (slice_get boxes.old place)) ≡ Some (frame, waiting_in (slice_get boxes.new place))) }
-    ensures restores { IfSome result (λ frame. restored_in (slice_get boxes.new place) frame ≡ Some (waiting_in (slice_get boxes.old place))) }
     ensures kept { boxes.new ≡ changed_at (with_queue (queue_in (slice_get boxes.new place))) boxes.old (Some place) }
     ensures places { (origin : Origin) → box_place boxes.new origin ≡ box_place boxes.old origin }
 {
     boxes[place].take(class)
-}
-
-/// Puts the packet back that was just taken from the box at this place.
-pub(crate) fn put_back_at(boxes: &mut [OriginBox], place: usize, frame: Frame)
-    requires within { place < length boxes.old }
-    requires taken { IsSome (restored_in (slice_get boxes.old place) frame) }
-    ensures waiting { restored_in (slice_get boxes.old place) frame ≡ Some (waiting_in (slice_get boxes.new place)) }
-    ensures kept { boxes.new ≡ changed_at (with_queue (queue_in (slice_get boxes.new place))) boxes.old (Some place) }
-    ensures places { (origin : Origin) → box_place boxes.new origin ≡ box_place boxes.old origin }
-{
-    boxes[place].put_back(frame);
 }
 
 /// Puts a packet behind the others of the box at this place.

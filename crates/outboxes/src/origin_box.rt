@@ -1,8 +1,8 @@
 //! The outbox of one function or host.
 
-ghost use Rattle.std.specs.Prelude.{◌≡◌, IfOk, IfSome, IsSome, IsTrue, MatchOption, None, OnErr, OnOk, Some, option_map};
-ghost use Rattle.port.specs.Lanes.{class_of, eligible};
-ghost use Rattle.outboxes.specs.Outboxes.{empty_box, restored, takes, waiting, with_more, with_put, with_queue};
+ghost use Rattle.std.specs.Prelude.{◌≡◌, IfOk, IsTrue, MatchOption, None, OnErr, OnOk, Some, option_map};
+ghost use Rattle.lane.specs.Lanes.{class_of, eligible};
+ghost use Rattle.outboxes.specs.Outboxes.{empty_box, takes, waiting, with_more, with_put, with_queue};
 
 use fab_types::{Class, DomainId, Head, NoMemory, Origin};
 use frame_log::Frame;
@@ -18,7 +18,7 @@ pub(crate) struct OriginBox {
 }
 
 impl Model for OriginBox {
-    ghost use Rattle.port.specs.Queues.{IsSorted};
+    ghost use Rattle.lane.specs.Queues.{IsSorted};
     ghost use Rattle.outboxes.specs.Outboxes.{BoxView};
 
     ghost Value = { BoxView };
@@ -69,20 +69,9 @@ impl OriginBox {
     pub fn take(&mut self, class: Class) -> Option<Frame>
         ensures taken { MatchOption result ((eligible class (waiting self.old) ≡ None) × (self.new ≡ self.old))
             (λ frame. eligible class (waiting self.old) ≡ Some (frame, waiting self.new)) }
-        ensures restores { IfSome result (λ frame. restored self.new frame ≡ Some (waiting self.old)) }
         ensures kept { self.new ≡ with_queue self.new.queue self.old }
     {
         self.outbox.take(class)
-    }
-
-    /// Puts the packet back that the last call took, to where it stood.
-    pub fn put_back(&mut self, frame: Frame)
-        requires { IsSome (restored self.old frame) }
-        ensures waiting { restored self.old frame ≡ Some (waiting self.new) }
-        ensures kept { self.new ≡ with_queue self.new.queue self.old }
-    {
-        let class = frame.head().cost.class;
-        self.outbox.put_back(class, frame);
     }
 
     /// Were fewer than its places put of the class?

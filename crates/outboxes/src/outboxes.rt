@@ -1,10 +1,10 @@
 //! The outboxes of all functions and hosts as one value.
 
-ghost use Rattle.std.specs.Prelude.{◌≡◌, ◌<◌, IfOk, IfSome, IsSome, IsTrue, MatchOption, None, OnErr, OnOk, Some, length, option_map};
-ghost use Rattle.port.specs.Lanes.{class_of, eligible};
-ghost use Rattle.outboxes.specs.Outboxes.{box_place, boxes_of, changed, has_place, queue_of, restored_of, waiting_of, with_more, with_put, with_queue};
+ghost use Rattle.std.specs.Prelude.{◌≡◌, ◌<◌, IfOk, IfSome, IsTrue, MatchOption, None, OnErr, OnOk, Some, length, option_map};
+ghost use Rattle.lane.specs.Lanes.{class_of, eligible};
+ghost use Rattle.outboxes.specs.Outboxes.{box_place, boxes_of, changed, has_place, queue_of, waiting_of, with_more, with_put, with_queue};
 
-use crate::changes::{more_at, put_at, put_back_at, take_at};
+use crate::changes::{more_at, put_at, take_at};
 use crate::indexing::{index_of, indexed_place};
 use crate::origin_box::OriginBox;
 use crate::starts::boxes_of;
@@ -77,25 +77,11 @@ impl Outboxes {
     pub fn take(&mut self, origin: Origin, class: Class) -> Option<Frame>
         ensures taken { MatchOption result ((eligible class (waiting_of self.old origin) ≡ None) × (self.new ≡ self.old))
             (λ frame. eligible class (waiting_of self.old origin) ≡ Some (frame, waiting_of self.new origin)) }
-        ensures restores { IfSome result (λ frame. restored_of self.new origin frame ≡ Some (waiting_of self.old origin)) }
         // All but what waits of this origin is as it was.
         ensures kept { self.new ≡ changed (with_queue (queue_of self.new origin)) self.old origin }
     {
         let place = self.place(origin)?;
         take_at(&mut self.boxes, place, class)
-    }
-
-    /// Puts the packet back that the last call took from this origin, to where it stood. It is not counted again.
-    pub fn put_back(&mut self, origin: Origin, frame: Frame)
-        requires { IsSome (restored_of self.old origin frame) }
-        ensures waiting { restored_of self.old origin frame ≡ Some (waiting_of self.new origin) }
-        // All but what waits of this origin is as it was.
-        ensures kept { self.new ≡ changed (with_queue (queue_of self.new origin)) self.old origin }
-    {
-        let Some(place) = self.place(origin) else {
-            unreachable!();
-        };
-        put_back_at(&mut self.boxes, place, frame);
     }
 
     /// Is there a box of this origin, and were fewer than its places put of the class?

@@ -1,12 +1,13 @@
 //! The outboxes of a layout at the start.
 
 ghost use Rattle.std.specs.Prelude.{◌≡◌, ◌++◌, ◌∷◌, [], IfOk, OnOk, filter, map};
-ghost use Rattle.layout.specs.Owners.{owns_port};
+ghost use Rattle.platform.specs.Owners.{owns_port};
 ghost use Rattle.outboxes.specs.Outboxes.{boxes_of, function_box, host_box, host_boxes, places_of};
 
 use crate::origin_box::OriginBox;
 use fab_types::{DomainId, NoMemory, Origin};
-use layout::{Layout, PortLine};
+use layout::Layout;
+use platform::{DownstreamPort, owns_port};
 use std::alloc::Global;
 
 /// Three packets of each class for each begin of a domain.
@@ -17,12 +18,6 @@ fn places_of(layout: &Layout, domain: Option<DomainId>) -> usize
         Some(domain) => 3 * layout.budget(domain) as usize,
         None => 0,
     }
-}
-
-fn owns_port(ports: &[PortLine], domain: DomainId) -> bool
-    ensures { result ≡ owns_port ports.now domain }
-{
-    ports.iter().any(|port| port.owner == domain)
 }
 
 fn add_functions(alloc: Global, layout: &Layout, boxes: &mut Vec<OriginBox>) -> Result<(), NoMemory>

@@ -65,12 +65,15 @@ fn counters_that_wrapped_tell_the_same_as_totals(rt: HostRuntime) {
         receiver.free(write);
         assert!(rt; sender.update(receiver.advert()), "{round}");
     }
-    let (header, payload) = (sender.sent().posted.headers, sender.sent().posted.payload);
+    let (header, payload) = (
+        sender.credits_consumed().posted.headers,
+        sender.credits_consumed().posted.payload,
+    );
     assert_eq!(rt; (header.value(), payload.value()), (44, 704));
-    assert_eq!(rt; receiver.taken(), sender.sent());
-    let told = sender.limits().posted;
+    assert_eq!(rt; receiver.credits_received(), sender.credits_consumed());
+    let told = sender.credit_limit().posted;
     assert_eq!(rt; (told.headers.value(), told.payload.value()), (47, 752));
-    assert_eq!(rt; sender.limits(), receiver.advert());
+    assert_eq!(rt; sender.credit_limit(), receiver.advert());
 }
 
 #[test]
@@ -103,7 +106,7 @@ fn what_is_reclaimed_is_not_told(rt: HostRuntime) {
     sent(&rt, &mut sender, write);
     receiver.free(write);
     receiver.reclaim(write);
-    assert_eq!(rt; receiver.advert(), sender.limits());
+    assert_eq!(rt; receiver.advert(), sender.credit_limit());
     let left = sender.left().posted;
     assert_eq!(rt; (left.headers.value(), left.payload.value()), (2, 32));
 }

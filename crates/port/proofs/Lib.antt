@@ -1,5 +1,3 @@
 pub mod OneLane
 pub mod Stopping
-pub mod Sorting
-pub mod Waiting
 pub mod Wanting

@@ -4,7 +4,7 @@ use Rattle.std.specs.Prelude.{IfSome}
 use Rattle.frame_log.specs.Descriptor.{Descriptor}
 use Rattle.std.proofs.lemmas.List.{map-set, get_or-map, get_or-set_same, length-map, set-get_or}
 use Rattle.std.proofs.Math.Seq.{map-set_same}
-use Rattle.port.specs.Lanes.{Class, class_of}
+use Rattle.lane.specs.Lanes.{Class, class_of}
 use Rattle.port.specs.Blocked.{may_refuse_at}
 
 module _ {O E : Type 0} (sent : O → List E) where

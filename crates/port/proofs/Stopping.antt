@@ -5,11 +5,11 @@ use Rattle.fab_types.specs.declared.class.Class.{Class}
 use Rattle.fab_types.specs.declared.head.Head.{Head}
 use Rattle.fab_types.specs.declared.violation.Violation.{Violation}
 use Rattle.frame_log.specs.Descriptor.{Descriptor}
-use Rattle.bridge.specs.Bridges.{Tree}
-use Rattle.port.specs.declared.course.Course.TheVariants.{Stop}
+use Rattle.bridge.specs.Bridges.{Routes}
+use Rattle.port.specs.declared.course.Forwarding.TheVariants.{Stop}
 use Rattle.port.specs.Configs.{Config}
 use Rattle.port.specs.Courses.{course_of}
-use Rattle.port.specs.Lanes.{eligible}
+use Rattle.lane.specs.Lanes.{eligible}
 use Rattle.port.specs.Steps.{RefusesAt, with_put}
 use Rattle.port.specs.Turns.{Advanced, PortView, Refused, Sight, Stops, sight_with}
 
@@ -40,7 +40,7 @@ head_is head o frame left found is =
     cc
 
 module _ {K : Type 0} (refuses : K → Descriptor → ℕ → Option Descriptor → K → Type 0) (unknown : K → Descriptor → ℕ → Type 0) where
-  stops_at : (tree : Tree) (config : Config) (class : Class) (report : Option Violation) (head : Head) (s t : Sight K) → Some head ≡ option_map (λ taken. taken.0.head) (eligible class s.waiting) → course_of tree config head ≡ Stop report
+  stops_at : (tree : Routes) (config : Config) (class : Class) (report : Option Violation) (head : Head) (s t : Sight K) → Some head ≡ option_map (λ taken. taken.0.head) (eligible class s.waiting) → course_of tree config head ≡ Stop report
       → Stops refuses unknown config class report s t → Advanced refuses unknown tree config class s t
   stops_at tree config class report head s t found course (inl r) = inr (inl (record {
     frame = r.frame;
@@ -64,7 +64,7 @@ module _ {K : Type 0} (refuses : K → Descriptor → ℕ → Option Descriptor 
   }))
 
   -- also where its head was looked at before
-  pub stops_advance : (tree : Tree) (config : Config) (class : Class) (report : Option Violation) (head : Head) (waiting waiting' : List Descriptor) (outs : List (List Descriptor)) (known : K) (reported : List Violation) (port : PortView) (t : Sight K)
+  pub stops_advance : (tree : Routes) (config : Config) (class : Class) (report : Option Violation) (head : Head) (waiting waiting' : List Descriptor) (outs : List (List Descriptor)) (known : K) (reported : List Violation) (port : PortView) (t : Sight K)
       → Some head ≡ option_map (λ taken. taken.0.head) (eligible class waiting) → course_of tree config head ≡ Stop report → waiting' ≡ waiting
       → Stops refuses unknown config class report (sight_with waiting' outs known reported port) t → Advanced refuses unknown tree config class (sight_with waiting outs known reported port) t
   stops_advance tree config class report head waiting waiting' outs known reported port t found course same stops =

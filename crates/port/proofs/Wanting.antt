@@ -5,11 +5,11 @@ use Rattle.fab_types.specs.declared.class.Class.{Class}
 use Rattle.fab_types.specs.declared.head.Head.{Head}
 use Rattle.fab_types.specs.declared.violation.Violation.{Violation}
 use Rattle.frame_log.specs.Descriptor.{Descriptor}
-use Rattle.bridge.specs.Bridges.{Tree}
-use Rattle.port.specs.declared.course.Course.TheVariants.{Stop}
+use Rattle.bridge.specs.Bridges.{Routes}
+use Rattle.port.specs.declared.course.Forwarding.TheVariants.{Stop}
 use Rattle.port.specs.Configs.{Config}
 use Rattle.port.specs.Courses.{course_of}
-use Rattle.port.specs.Lanes.{eligible}
+use Rattle.lane.specs.Lanes.{eligible}
 use Rattle.port.specs.Wants.{Awaits, CourseWants, WantsMemory}
 
 -- the packet whose head was lent
@@ -21,7 +21,7 @@ same_head : (class : Class) (waiting : List Descriptor) (h : Head) (such : Descr
 same_head class waiting h such lent w =
     let same : Some h ≡ Some w.frame.head = lent ∙ ap (option_map (λ taken. taken.0.head)) w.taken in cc
 
-module _ {K : Type 0} (wants unknown : K → Descriptor → ℕ → Type 0) (tree : Tree) (config : Config) (known : K) where
+module _ {K : Type 0} (wants unknown : K → Descriptor → ℕ → Type 0) (tree : Routes) (config : Config) (known : K) where
   wants_stop : (report : Option Violation) (frame : Descriptor) → IsSome report ⊎ (wants known frame config.id ⊎ unknown known frame config.id) → CourseWants wants unknown tree config known frame (Stop report)
   wants_stop None frame h = ⊎_elim (λ some. absurd cc) (λ w. w) h
   wants_stop (Some report) frame h = tt

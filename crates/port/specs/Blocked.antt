@@ -4,10 +4,10 @@ use Rattle.std.specs.Prelude.{ℕ, Bool, true, false, List, Option, Some, None, 
 use Rattle.fab_types.specs.declared.class.Class.{Class}
 use Rattle.fab_types.specs.declared.class.Class.TheVariants.{Posted, NonPosted, Completion}
 use Rattle.frame_log.specs.Descriptor.{Descriptor}
-use Rattle.bridge.specs.Bridges.{Tree}
-use Rattle.port.specs.declared.course.Course.{Course}
-use Rattle.port.specs.declared.course.Course.TheVariants.{Forward, Stop, Stray}
-use Rattle.port.specs.Lanes.{eligible}
+use Rattle.bridge.specs.Bridges.{Routes}
+use Rattle.port.specs.declared.course.Forwarding.{Forwarding}
+use Rattle.port.specs.declared.course.Forwarding.TheVariants.{To, Stop, NoCase}
+use Rattle.lane.specs.Lanes.{eligible}
 use Rattle.port.specs.Configs.{Config}
 use Rattle.port.specs.Courses.{course_of}
 
@@ -22,15 +22,15 @@ may_refuse_answer may_refuse NonPosted = may_refuse Completion
 may_refuse_answer may_refuse Completion = false
 
 -- may what takes a packet of the class on this course have no place? The desk and the strays have one.
-abbrev pub course_is_blocked : List (Class → Bool) → ℕ → Class → Course → Bool
-course_is_blocked lanes own class (Forward lane) = may_refuse_at lanes lane class
+abbrev pub course_is_blocked : List (Class → Bool) → ℕ → Class → Forwarding → Bool
+course_is_blocked lanes own class (To lane) = may_refuse_at lanes lane class
 course_is_blocked lanes own class (Stop report) = may_refuse_answer (may_refuse_at lanes own) class
-course_is_blocked lanes own class Stray = false
+course_is_blocked lanes own class NoCase = false
 
-abbrev pub eligible_is_blocked : Tree → Config → List (Class → Bool) → Class → Option (Descriptor × List Descriptor) → Bool
+abbrev pub eligible_is_blocked : Routes → Config → List (Class → Bool) → Class → Option (Descriptor × List Descriptor) → Bool
 eligible_is_blocked tree config lanes class None = true
 eligible_is_blocked tree config lanes class (Some taken) = course_is_blocked lanes config.own class (course_of tree config taken.0.head)
 
 -- is the turn of a class blocked, where this waits and the lanes of the switch may refuse this?
-abbrev pub is_blocked : Tree → Config → List (Class → Bool) → Class → List Descriptor → Bool
+abbrev pub is_blocked : Routes → Config → List (Class → Bool) → Class → List Descriptor → Bool
 is_blocked tree config lanes class waiting = eligible_is_blocked tree config lanes class (eligible class waiting)

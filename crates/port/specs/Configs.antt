@@ -5,25 +5,25 @@ use Rattle.std.specs.List.{filter, position, list_all}
 use Rattle.fab_types.specs.Id.{bus_of}
 use Rattle.fab_types.specs.declared.place.Direction.{Direction}
 use Rattle.fab_types.specs.declared.place.Way.TheVariants.{Up, Down}
-use Rattle.layout.specs.declared.lines.PortLine.{PortLine}
-use Rattle.layout.specs.declared.lines.SwitchLine.{SwitchLine}
-use Rattle.layout.specs.Rules.{is_on_bus}
-use Rattle.layout.specs.Tree.{port_at, id_below, internal_bus, is_taken}
-use Rattle.layout.specs.Share.{is_guarded_port}
-use Rattle.layout.specs.Platform.{Platform}
+use Rattle.platform.specs.declared.parts.DownstreamPort.{DownstreamPort}
+use Rattle.platform.specs.declared.parts.Switch.{Switch}
+use Rattle.platform.specs.Tree.{is_on_bus}
+use Rattle.platform.specs.Tree.{port_at, id_below, internal_bus, is_taken}
+use Rattle.platform.specs.Share.{is_guarded_port}
+use Rattle.platform.specs.Platform.{Platform}
 use Rattle.bridge.specs.Routes.{switch_at}
 use Rattle.port.specs.declared.config.Exit.{Exit}
 
 -- A switch has a lane out of its upstream port, numbered 0, and one out of each downstream port, numbered from 1.
 pub record Config : Type 0 where
   pub id : ℕ
-  pub line : Option PortLine  -- of a downstream port
+  pub line : Option DownstreamPort  -- of a downstream port
   pub exits : List Exit  -- the downstream ports of its switch
   pub own : ℕ  -- the lane out of this port
   pub is_guarded : Bool  -- are all five controls set on each port of the layout?
 
 -- does anything stand below the port?
-abbrev pub exit_of : Platform → PortLine → Exit
+abbrev pub exit_of : Platform → DownstreamPort → Exit
 exit_of platform line = record { port = line.id; leads_on = is_taken platform.switches platform.functions (id_below line) }
 
 -- the downstream ports of the switch whose ports are on this bus
@@ -43,7 +43,7 @@ leads_to port exit = is_of_port port exit && exit.leads_on
 abbrev pub lane_to : List Exit → ℕ → Option ℕ
 lane_to exits port = option_map suc (position (leads_to port) exits)
 
-abbrev pub downstream_config : Platform → PortLine → Config
+abbrev pub downstream_config : Platform → DownstreamPort → Config
 downstream_config platform line = let exits = exits_of platform (bus_of line.id) in record {
   id = line.id;
   line = Some line;
@@ -52,7 +52,7 @@ downstream_config platform line = let exits = exits_of platform (bus_of line.id)
   is_guarded = list_all is_guarded_port platform.ports;
 }
 
-abbrev pub upstream_config : Platform → SwitchLine → Config
+abbrev pub upstream_config : Platform → Switch → Config
 upstream_config platform switch = record {
   id = switch.id;
   line = None;
@@ -61,7 +61,7 @@ upstream_config platform switch = record {
   is_guarded = list_all is_guarded_port platform.ports;
 }
 
-abbrev pub config_unless_below : Platform → ℕ → Option PortLine → Option Config
+abbrev pub config_unless_below : Platform → ℕ → Option DownstreamPort → Option Config
 config_unless_below platform id (Some line) = Some (downstream_config platform line)
 config_unless_below platform id None = option_map (upstream_config platform) (switch_at platform.switches id)
 
@@ -69,7 +69,7 @@ config_unless_below platform id None = option_map (upstream_config platform) (sw
 abbrev pub config_of : Platform → ℕ → Option Config
 config_of platform id = config_unless_below platform id (port_at platform.ports id)
 
-abbrev pub direction_by : ℕ → Option PortLine → Direction
+abbrev pub direction_by : ℕ → Option DownstreamPort → Direction
 direction_by id None = record { lower = id; way = Down }
 direction_by id (Some line) = record { lower = id_below line; way = Up }
 

@@ -1,9 +1,8 @@
-pub mod Lanes
 pub mod Vetted
 pub mod Configs
 pub mod Courses
 pub mod Steps
-pub mod Queues
+pub mod Reports
 pub mod Turns
 pub mod Blocked
 pub mod Wants

@@ -4,7 +4,7 @@ use Rattle.fab_types.specs.declared.class.Class.{Class}
 use Rattle.fab_types.specs.declared.outcome.Outcome.{Outcome}
 use Rattle.fab_types.specs.declared.outcome.Outcome.TheVariants.{Moved, Idle, Refused, NoMemory}
 use Rattle.frame_log.specs.Descriptor.{Descriptor}
-use Rattle.port.specs.Lanes.{eligible}
+use Rattle.lane.specs.Lanes.{eligible}
 
 -- a turn begins nothing, so nothing is refused in it
 abbrev pub IsOfTurn : Outcome → Type 0

@@ -3,10 +3,10 @@ use Rattle.std.specs.Prelude.{◌≡◌, ℕ, ◌⊎◌, true, false, List, [], 
 use Rattle.fab_types.specs.declared.class.Class.{Class}
 use Rattle.fab_types.specs.declared.violation.Violation.{Violation}
 use Rattle.frame_log.specs.Descriptor.{Descriptor}
-use Rattle.bridge.specs.Bridges.{Tree}
-use Rattle.port.specs.declared.turn.Lanes.{Lanes}
-use Rattle.port.specs.declared.course.Course.TheVariants.{Forward, Stop, Stray}
-use Rattle.port.specs.Lanes.{eligible}
+use Rattle.bridge.specs.Bridges.{Routes}
+use Rattle.port.specs.declared.turn.TurnParts.{TurnParts}
+use Rattle.port.specs.declared.course.Forwarding.TheVariants.{To, Stop, NoCase}
+use Rattle.lane.specs.Lanes.{eligible}
 use Rattle.port.specs.Vetted.{requester_owner, may_go_on}
 use Rattle.port.specs.Configs.{Config}
 use Rattle.port.specs.Courses.{course_of}
@@ -51,18 +51,18 @@ module _ {K : Type 0} where
   Rests own s t = (t ≡ s) ⊎ Settled own s t
 
   -- the eligible packet went down the lane that its course names
-  pub record Forwarded (tree : Tree) (config : Config) (class : Class) (s t : Sight K) : Type 0 where
+  pub record Forwarded (tree : Routes) (config : Config) (class : Class) (s t : Sight K) : Type 0 where
     pub lane : ℕ
     pub frame : Descriptor
     pub taken : eligible class s.waiting ≡ Some (frame, t.waiting)
-    pub course : course_of tree config frame.head ≡ Forward lane
+    pub course : course_of tree config frame.head ≡ To lane
     pub own : may_go_on config.is_guarded (requester_owner tree.ports frame.head.header) frame ≡ true
     pub put : t.outs ≡ with_put s.outs lane (frame ∷ [])
     pub same : (t.known ≡ s.known) × (t.reported ≡ s.reported) × (t.held ≡ s.held) × (t.kept ≡ s.kept) × (t.strays ≡ s.strays)
 
   -- The eligible packet was given to the desk to be refused. What answers it was put into the port's own lane or is kept,
   -- and a violation was reported or is held.
-  pub record Stopped (refuses : K → Descriptor → ℕ → Option Descriptor → K → Type 0) (tree : Tree) (config : Config) (class : Class) (s t : Sight K) : Type 0 where
+  pub record Stopped (refuses : K → Descriptor → ℕ → Option Descriptor → K → Type 0) (tree : Routes) (config : Config) (class : Class) (s t : Sight K) : Type 0 where
     pub frame : Descriptor
     pub report : Option Violation
     pub answer : Option Descriptor
@@ -77,14 +77,14 @@ module _ {K : Type 0} where
 
   -- why a port has no case for a packet: it has no course, it would go on and its Requester ID is another domain's, or it
   -- is stopped and the desk knows none
-  abbrev pub IsStray : (K → Descriptor → ℕ → Type 0) → Tree → Config → K → Descriptor → Type 0
+  abbrev pub IsStray : (K → Descriptor → ℕ → Type 0) → Routes → Config → K → Descriptor → Type 0
   IsStray unknown tree config known frame =
-      (course_of tree config frame.head ≡ Stray)
-      ⊎ (((lane : ℕ) × (course_of tree config frame.head ≡ Forward lane) × (may_go_on config.is_guarded (requester_owner tree.ports frame.head.header) frame ≡ false))
+      (course_of tree config frame.head ≡ NoCase)
+      ⊎ (((lane : ℕ) × (course_of tree config frame.head ≡ To lane) × (may_go_on config.is_guarded (requester_owner tree.ports frame.head.header) frame ≡ false))
       ⊎ ((report : Option Violation) × (course_of tree config frame.head ≡ Stop report) × unknown known frame config.id))
 
   -- the eligible packet is kept as one that the port has no case for
-  pub record Strayed (unknown : K → Descriptor → ℕ → Type 0) (tree : Tree) (config : Config) (class : Class) (s t : Sight K) : Type 0 where
+  pub record Strayed (unknown : K → Descriptor → ℕ → Type 0) (tree : Routes) (config : Config) (class : Class) (s t : Sight K) : Type 0 where
     pub frame : Descriptor
     pub taken : eligible class s.waiting ≡ Some (frame, t.waiting)
     pub stray : IsStray unknown tree config s.known frame
@@ -122,17 +122,17 @@ pub record Counts : Type 0 where
 
 -- A turn: the report that was held was taken, and nothing else; or, after an answer that was kept, the eligible packet
 -- went on, was stopped, or is kept.
-abbrev pub Advanced : {K : Type 0} → (K → Descriptor → ℕ → Option Descriptor → K → Type 0) → (K → Descriptor → ℕ → Type 0) → Tree → Config → Class → Sight K → Sight K → Type 0
+abbrev pub Advanced : {K : Type 0} → (K → Descriptor → ℕ → Option Descriptor → K → Type 0) → (K → Descriptor → ℕ → Type 0) → Routes → Config → Class → Sight K → Sight K → Type 0
 Advanced refuses unknown tree config class s t =
     Forwarded tree config class s t ⊎ (Stopped refuses tree config class s t ⊎ Strayed unknown tree config class s t)
 
-pub record Progress {K : Type 0} (refuses : K → Descriptor → ℕ → Option Descriptor → K → Type 0) (unknown : K → Descriptor → ℕ → Type 0) (tree : Tree) (config : Config) (class : Class) (s t : Sight K) : Type 0 where
+pub record Progress {K : Type 0} (refuses : K → Descriptor → ℕ → Option Descriptor → K → Type 0) (unknown : K → Descriptor → ℕ → Type 0) (tree : Routes) (config : Config) (class : Class) (s t : Sight K) : Type 0 where
   pub free : s.held ≡ None
   pub between : Sight K
   pub settled : Settled config.own s between
   pub advanced : Advanced refuses unknown tree config class between t
 
-abbrev pub Moves : {K : Type 0} → (K → Descriptor → ℕ → Option Descriptor → K → Type 0) → (K → Descriptor → ℕ → Type 0) → Tree → Config → Class → Sight K → Sight K → Type 0
+abbrev pub Moves : {K : Type 0} → (K → Descriptor → ℕ → Option Descriptor → K → Type 0) → (K → Descriptor → ℕ → Type 0) → Routes → Config → Class → Sight K → Sight K → Type 0
 Moves refuses unknown tree config class s t = Told s t ⊎ Progress refuses unknown tree config class s t
 
 module _ {K : Type 0} where
@@ -148,8 +148,8 @@ module _ {K : Type 0} where
     strays = port.strays;
   }
 
-  abbrev pub sight_of : {I O D R : Type 0} → (I → List Descriptor) → (O → List Descriptor) → (D → K) → (R → List Violation) → PortView → Lanes I O D R → Sight K
+  abbrev pub sight_of : {I O D R : Type 0} → (I → List Descriptor) → (O → List Descriptor) → (D → K) → (R → List Violation) → PortView → TurnParts I O D R → Sight K
   sight_of waiting sent known reported port lanes = sight_with (waiting lanes.input.now) (map sent lanes.outs.now) (known lanes.desk.now) (reported lanes.reporter.now) port
 
-abbrev pub counts_of : {I O D R : Type 0} → (I → ℕ) → (O → ℕ) → (R → ℕ) → Lanes I O D R → Counts
+abbrev pub counts_of : {I O D R : Type 0} → (I → ℕ) → (O → ℕ) → (R → ℕ) → TurnParts I O D R → Counts
 counts_of misses refusals reports lanes = record { misses = misses lanes.input.now; outs = map refusals lanes.outs.now; reports = reports lanes.reporter.now }

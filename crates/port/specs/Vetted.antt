@@ -2,8 +2,8 @@
 use Rattle.std.specs.Prelude.{ℕ, ◌==◌, Bool, false, ◌||◌, not, List, Option, Some, None, option_and_then}
 use Rattle.fab_types.specs.declared.head.Header.{Header}
 use Rattle.frame_log.specs.Descriptor.{Descriptor}
-use Rattle.layout.specs.declared.lines.PortLine.{PortLine}
-use Rattle.layout.specs.Owners.{owner_of}
+use Rattle.platform.specs.declared.parts.DownstreamPort.{DownstreamPort}
+use Rattle.platform.specs.Owners.{owner_of}
 use Rattle.acs.specs.Vetting.{requester_of, is_request}
 
 pub record Vetted : Type 0 where
@@ -12,7 +12,7 @@ pub record Vetted : Type 0 where
   pub is_guarded : Bool  -- are all five controls set on each port?
 
 -- the domain that owns the Requester ID of a request
-abbrev pub requester_owner : List PortLine → Header → Option ℕ
+abbrev pub requester_owner : List DownstreamPort → Header → Option ℕ
 requester_owner ports header = option_and_then (owner_of ports) (requester_of header)
 
 abbrev pub is_owner : Option ℕ → ℕ → Bool

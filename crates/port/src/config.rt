@@ -7,7 +7,8 @@ ghost use Rattle.bridge.specs.Routes.{switch_at};
 ghost use Rattle.port.specs.Configs.{exit_of, exits_of, is_of_port, leads_to, own_lane, lane_to};
 
 use fab_types::{NoMemory, PortId};
-use layout::{Layout, PortLine, SwitchLine, id_below, is_taken};
+use layout::Layout;
+use platform::{DownstreamPort, Switch, id_below, is_taken};
 use std::alloc::Global;
 
 /// A way out of a switch through one of its downstream ports.
@@ -32,13 +33,13 @@ impl Exit {
     }
 }
 
-pub(crate) fn switch_at(switches: &[SwitchLine], id: PortId) -> Option<&SwitchLine>
+pub(crate) fn switch_at(switches: &[Switch], id: PortId) -> Option<&Switch>
     ensures { option_copied result ≡ switch_at switches.now id }
 {
     switches.iter().find(|line| line.id == id.id())
 }
 
-fn exit_of(layout: &Layout, line: &PortLine) -> Exit
+fn exit_of(layout: &Layout, line: &DownstreamPort) -> Exit
     ensures { result ≡ exit_of layout.now line.now }
 {
     Exit {

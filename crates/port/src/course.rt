@@ -10,17 +10,17 @@ use crate::port::Port;
 use acs::{Verdict, redirect, requester_of, vet};
 use bridge::{Bridge, Route, Target};
 use fab_types::{Bdf, Check, Class, Head, Parties, Violation};
-use layout::{PortLine, id_below};
+use platform::{DownstreamPort, id_below};
 
 /// What becomes of a packet that came into a port.
 #[derive(Clone, Copy, Debug, PartialEq, Eq)]
-pub enum Course {
+pub enum Forwarding {
     /// It goes down this lane of the switch: 0 out of the upstream port, then the downstream ports.
-    Forward(usize),
+    To(usize),
     /// The domain that made it refuses it at this port; a violation of ACS is reported.
     Stop(Option<Violation>),
     /// The port has no case for it.
-    Stray,
+    NoCase,
 }
 
 fn is_posted(class: Class) -> bool
@@ -33,7 +33,12 @@ fn is_posted(class: Class) -> bool
     }
 }
 
-fn reported_by(line: &PortLine, head: &Head, sender: Bdf, check: Option<Check>) -> Option<Violation>
+fn reported_by(
+    line: &DownstreamPort,
+    head: &Head,
+    sender: Bdf,
+    check: Option<Check>,
+) -> Option<Violation>
     ensures { result ≡ reported_by line.now head.now sender check }
 {
     let check = check?;
@@ -48,24 +53,24 @@ fn reported_by(line: &PortLine, head: &Head, sender: Bdf, check: Option<Check>) 
 }
 
 /// The packet is stopped, if this is the first port above its sender.
-fn stopped(line: &PortLine, head: &Head, check: Option<Check>) -> Course
+fn stopped(line: &DownstreamPort, head: &Head, check: Option<Check>) -> Forwarding
     ensures value { result ≡ stopped line.now head.now check }
     ensures lane { (most : ℕ) → IsWithin most result }
 {
     match head.parties {
         Parties::Upward(function) => {
             if function == id_below(line) {
-                Course::Stop(reported_by(line, head, function, check))
+                Forwarding::Stop(reported_by(line, head, function, check))
             } else {
-                Course::Stray
+                Forwarding::NoCase
             }
         }
-        Parties::Downward(_) => Course::Stray,
-        Parties::Answer(..) => Course::Stray,
+        Parties::Downward(_) => Forwarding::NoCase,
+        Parties::Answer(..) => Forwarding::NoCase,
     }
 }
 
-fn reported_from(line: &PortLine, head: &Head, check: Check) -> Option<Violation>
+fn reported_from(line: &DownstreamPort, head: &Head, check: Check) -> Option<Violation>
     ensures { result ≡ reported_from line.now head.now check head.now.parties }
 {
     match head.parties {
@@ -75,7 +80,7 @@ fn reported_from(line: &PortLine, head: &Head, check: Check) -> Option<Violation
     }
 }
 
-fn failed_report(line: &PortLine, head: &Head) -> Option<Violation>
+fn failed_report(line: &DownstreamPort, head: &Head) -> Option<Violation>
     ensures { result ≡ failed_report line.now head.now (verdict_of line.now head.now.header) }
 {
     match vet(line, &head.header) {
@@ -84,40 +89,40 @@ fn failed_report(line: &PortLine, head: &Head) -> Option<Violation>
     }
 }
 
-fn down_lane(lane: Option<usize>) -> Course
+fn down_lane(lane: Option<usize>) -> Forwarding
     ensures value { result ≡ down_lane lane }
     ensures lane { (most : ℕ) → IfSome lane (λ l. l ≤ most) → IsWithin most result }
 {
     match lane {
-        Some(lane) => Course::Forward(lane),
-        None => Course::Stray,
+        Some(lane) => Forwarding::To(lane),
+        None => Forwarding::NoCase,
     }
 }
 
 impl Port {
-    fn up_by(&self, line: &PortLine, head: &Head, route: Route) -> Course
+    fn up_by(&self, line: &DownstreamPort, head: &Head, route: Route) -> Forwarding
         ensures value { result ≡ up_by self.now.config line.now head.now route }
         ensures lane { IsWithin (length self.now.config.exits) result }
     {
         match route {
-            Route::Up => Course::Forward(0),
+            Route::Up => Forwarding::To(0),
             Route::Port(other) => down_lane(lane_to(&self.exits, other)),
             Route::OwnEgress => stopped(line, head, None),
-            Route::Nobody => Course::Stray,
+            Route::Nobody => Forwarding::NoCase,
         }
     }
 
-    fn down_by(&self, route: Route) -> Course
+    fn down_by(&self, route: Route) -> Forwarding
         ensures value { result ≡ down_by self.now.config.exits route }
         ensures lane { IsWithin (length self.now.config.exits) result }
     {
         match route {
             Route::Port(other) => down_lane(lane_to(&self.exits, other)),
-            Route::Up | Route::OwnEgress | Route::Nobody => Course::Stray,
+            Route::Up | Route::OwnEgress | Route::Nobody => Forwarding::NoCase,
         }
     }
 
-    fn routed(&self, bridge: &Bridge, line: &PortLine, head: &Head) -> Course
+    fn routed(&self, bridge: &Bridge, line: &DownstreamPort, head: &Head) -> Forwarding
         ensures value { result ≡ routed bridge.now self.now.config line.now head.now (target_of head.now.header) }
         ensures lane { IsWithin (length self.now.config.exits) result }
     {
@@ -130,7 +135,7 @@ impl Port {
         }
     }
 
-    fn tested(&self, bridge: &Bridge, line: &PortLine, head: &Head) -> Course
+    fn tested(&self, bridge: &Bridge, line: &DownstreamPort, head: &Head) -> Forwarding
         ensures value { result ≡ tested bridge.now self.now.config line.now head.now (verdict_of line.now head.now.header) }
         ensures lane { IsWithin (length self.now.config.exits) result }
     {
@@ -144,7 +149,7 @@ impl Port {
     /// what fails an ACS test, is malformed, or is a request of a kind that no port takes is stopped, if
     /// its sender is the function below; the rest goes by its route and the port's redirections. Down
     /// through the upstream port: by its route alone (PCIe 4.0, 6.12.1.1).
-    pub fn course(&self, bridge: &Bridge, head: &Head) -> Course
+    pub fn course(&self, bridge: &Bridge, head: &Head) -> Forwarding
         ensures value { result ≡ course_of bridge.now self.now.config head.now }
         ensures lane { IsWithin (length self.now.config.exits) result }
     {

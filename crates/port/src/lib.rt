@@ -5,9 +5,7 @@
 mod config;
 mod course;
 mod desk;
-mod lanes;
 mod port;
-mod queue;
 mod reporter;
 mod reports;
 mod slots;
@@ -16,12 +14,10 @@ mod turn;
 mod vetted;
 
 pub use config::Exit;
-pub use course::Course;
+pub use course::Forwarding;
 pub use desk::Desk;
-pub use lanes::{LaneIn, LaneOut};
 pub use port::Port;
-pub use queue::FrameQueue;
 pub use reporter::Reporter;
 pub use reports::Reports;
-pub use turn::Lanes;
+pub use turn::TurnParts;
 pub use vetted::VettedFrame;

@@ -2,13 +2,14 @@
 
 ghost use Rattle.std.specs.Prelude.{◌≡◌, ◌+◌, ◌≤◌, IfOk, option_map, None, [], length};
 ghost use Rattle.std.specs.List.{list_all};
-ghost use Rattle.layout.specs.Share.{is_guarded_port};
+ghost use Rattle.platform.specs.Share.{is_guarded_port};
 ghost use Rattle.port.specs.Configs.{config_of, direction_in, downstream_config, upstream_config};
 
 use crate::config::{Exit, exits_of, own_lane, switch_at};
 use fab_types::{Direction, NoMemory, PortId, Violation, Way};
 use frame_log::Frame;
-use layout::{Layout, PortLine, SwitchLine, id_below, internal_bus, port_at};
+use layout::Layout;
+use platform::{DownstreamPort, Switch, id_below, internal_bus, port_at};
 use std::alloc::Global;
 use std::marker::Model;
 
@@ -16,7 +17,7 @@ use std::marker::Model;
 #[derive(Drop)]
 pub struct Port {
     pub(crate) id: PortId,
-    pub(crate) line: Option<PortLine>,
+    pub(crate) line: Option<DownstreamPort>,
     pub(crate) exits: Vec<Exit>,
     pub(crate) own: usize,
     pub(crate) is_guarded: bool,
@@ -57,7 +58,7 @@ impl Port {
     }
 
     /// The upstream port of a switch of the layout. It answers `NoMemory` where memory was refused.
-    pub fn upstream(alloc: Global, layout: &Layout, switch: &SwitchLine) -> Result<Port, NoMemory>
+    pub fn upstream(alloc: Global, layout: &Layout, switch: &Switch) -> Result<Port, NoMemory>
         ensures { IfOk result (λ port. port ≡ record { config = upstream_config layout.now switch.now; held = None; kept = None; strays = [] }) }
     {
         let exits = exits_of(alloc, layout, internal_bus(switch))?;
@@ -65,7 +66,11 @@ impl Port {
     }
 
     /// A downstream port of the layout. It answers `NoMemory` where memory was refused.
-    pub fn downstream(alloc: Global, layout: &Layout, line: &PortLine) -> Result<Port, NoMemory>
+    pub fn downstream(
+        alloc: Global,
+        layout: &Layout,
+        line: &DownstreamPort,
+    ) -> Result<Port, NoMemory>
         ensures { IfOk result (λ port. port ≡ record { config = downstream_config layout.now line.now; held = None; kept = None; strays = [] }) }
     {
         let exits = exits_of(alloc, layout, u16::from(line.id.id().bus()))?;
@@ -77,7 +82,7 @@ impl Port {
         alloc: Global,
         layout: &Layout,
         id: PortId,
-        line: Option<PortLine>,
+        line: Option<DownstreamPort>,
         exits: Vec<Exit>,
         own: usize,
     ) -> Port

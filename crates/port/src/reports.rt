@@ -16,7 +16,7 @@ pub struct Reports {
 
 impl Model for Reports {
     ghost use Rattle.std.specs.Prelude.{nat_lt, vec_len, vec_capacity};
-    ghost use Rattle.port.specs.Queues.{Reported};
+    ghost use Rattle.port.specs.Reports.{Reported};
 
     ghost Value = { Reported };
 

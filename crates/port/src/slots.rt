@@ -2,16 +2,16 @@
 
 ghost use Rattle.std.specs.Prelude.{◌≡◌, ◌≢◌, ◌⊎◌, ◌<◌, None, IfSome, true, false, length, map, option_to_list};
 ghost use Rattle.port.specs.Blocked.{may_refuse_answer, may_refuse_at};
-ghost use Rattle.port.specs.Lanes.{Class, class_of, eligible};
+ghost use Rattle.lane.specs.Lanes.{Class, class_of, eligible};
 ghost use Rattle.port.specs.Steps.{ForwardsAt, IsOfTurn, RefusesAt, Strays, with_put};
 ghost use Rattle.port.specs.Vetted.{may_go_on};
 ghost use Rattle.port.specs.Wants.{Awaits};
 
 use crate::desk::Desk;
-use crate::lanes::{LaneIn, LaneOut};
 use crate::steps::{Refusal, answer_waits, forward, refuse, settle};
 use fab_types::{Class, DomainId, Outcome, PortId};
 use frame_log::Frame;
+use lane::{LaneIn, LaneOut};
 use std::sync::Wait;
 
 /// Puts the answer that was kept, if there is one, into this lane.

@@ -2,17 +2,17 @@
 
 ghost use Rattle.std.specs.Prelude.{◌≡◌, ◌≢◌, ◌⊎◌, ◌++◌, ◌∷◌, [], Some, None, IsSome, IfSome, OnErr, OnOk, true, false, ⊤, option_to_list};
 ghost use Rattle.port.specs.Blocked.{may_refuse_answer};
-ghost use Rattle.port.specs.Lanes.{Class, class_of, eligible};
+ghost use Rattle.lane.specs.Lanes.{Class, class_of, eligible};
 ghost use Rattle.port.specs.Steps.{Forwards, IsOfTurn, Refuses, Strays};
 ghost use Rattle.port.specs.Vetted.{may_go_on};
 ghost use Rattle.port.specs.Wants.{Awaits};
 
 use crate::desk::Desk;
-use crate::lanes::{LaneIn, LaneOut};
 use crate::reporter::Reporter;
 use crate::vetted::VettedFrame;
 use fab_types::{Class, DomainId, NoMemory, Outcome, PortId, Violation};
 use frame_log::{Frame, FrameFault};
+use lane::{LaneIn, LaneOut};
 use std::sync::Wait;
 
 /// Reports what there was no place for before.
@@ -132,6 +132,7 @@ pub(crate) fn forward<I: LaneIn, O: LaneOut>(
         return Outcome::Idle;
     }
     let Some(frame) = input.take(class) else {
+        // for the proof: the lane counts that it lent no head
         let _ = input.head(class);
         return Outcome::Idle;
     };
@@ -158,6 +159,7 @@ pub(crate) fn stray<I: LaneIn>(input: &mut I, strays: &mut Vec<Frame>, class: Cl
     ensures input_lane { I.lane input.new ≡ I.lane input.old }
 {
     let Some(frame) = input.take(class) else {
+        // for the proof: the lane counts that it lent no head
         let _ = input.head(class);
         return Outcome::Idle;
     };
@@ -212,6 +214,7 @@ pub(crate) fn refuse<W: Wait, I: LaneIn, O: LaneOut, D: Desk>(
     ensures lane { O.lane back.new ≡ O.lane back.old }
 {
     let Some(frame) = input.take(class) else {
+        // for the proof: the lane counts that it lent no head
         let _ = input.head(class);
         return Refusal::Idle;
     };

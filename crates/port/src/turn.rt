@@ -3,15 +3,14 @@
 ghost use Rattle.std.specs.Prelude.{◌≡◌, ◌≢◌, ◌⊎◌, ◌+◌, ◌≤◌, Some, None, IfSome, IsSome, true, false, length, map};
 ghost use Rattle.fab_types.specs.declared.violation.Violation.{Violation};
 ghost use Rattle.port.specs.Vetted.{requester_owner};
-ghost use Rattle.port.specs.Lanes.{class_of, eligible};
+ghost use Rattle.lane.specs.Lanes.{class_of, eligible};
 ghost use Rattle.port.specs.Steps.{IsOfTurn};
 ghost use Rattle.port.specs.Blocked.{course_is_blocked, is_blocked, may_refuse_at};
 ghost use Rattle.port.specs.Wants.{Awaits, WantsMemory};
 ghost use Rattle.port.specs.Turns.{Advanced, Moves, Rests, Stops, sight_of, sight_with, counts_of};
 
-use crate::course::Course;
+use crate::course::Forwarding;
 use crate::desk::Desk;
-use crate::lanes::{LaneIn, LaneOut};
 use crate::port::Port;
 use crate::reporter::Reporter;
 use crate::slots::{answer_waits_at, forward_at, refuse_at, settle_at};
@@ -19,13 +18,14 @@ use crate::steps::{Refusal, prepare, report_or_hold, stray, tell};
 use acs::requester_of;
 use bridge::Bridge;
 use fab_types::{Class, DomainId, Header, Outcome, Violation};
+use lane::{LaneIn, LaneOut};
 use std::sync::Wait;
 
 /// All that a turn reaches: the switches, the lane in, the lanes out of the switch (out of its upstream
 /// port, and then out of each of its downstream ports, in the layout's order), and whom the port asks
 /// and tells.
 #[derive(Drop)]
-pub struct Lanes<'a, I, O, D, R> {
+pub struct TurnParts<'a, I, O, D, R> {
     pub bridge: &'a Bridge,
     pub input: &'a mut I,
     pub outs: &'a mut [O],
@@ -57,8 +57,8 @@ fn stop<W: Wait, I: LaneIn, O: LaneOut, D: Desk, R: Reporter>(
     ensures moved { result ≡ Outcome.Moved → Stops D.refuses D.unknown port.old.config class report (sight_with (I.waiting input.old) (map O.sent outs.old) (D.known desk.old) (R.reported reporter.old) port.old) (sight_with (I.waiting input.new) (map O.sent outs.new) (D.known desk.new) (R.reported reporter.new) port.new) }
     ensures rests { result ≢ Outcome.Moved → sight_with (I.waiting input.new) (map O.sent outs.new) (D.known desk.new) (R.reported reporter.new) port.new ≡ sight_with (I.waiting input.old) (map O.sent outs.old) (D.known desk.old) (R.reported reporter.old) port.old }
     ensures cause { result ≡ Outcome.Idle → (I.misses input.new ≢ I.misses input.old) ⊎ (map O.refusals outs.new ≢ map O.refusals outs.old) }
-    ensures blocked { result ≡ Outcome.Idle → (eligible class (I.waiting input.old) ≡ None) ⊎ (course_is_blocked (map O.may_refuse outs.old) port.old.config.own class (Course.Stop report) ≡ true) }
-    ensures free { O.is_sure ≡ true → result ≢ Outcome.Idle → course_is_blocked (map O.may_refuse outs.old) port.old.config.own class (Course.Stop report) ≡ false }
+    ensures blocked { result ≡ Outcome.Idle → (eligible class (I.waiting input.old) ≡ None) ⊎ (course_is_blocked (map O.may_refuse outs.old) port.old.config.own class (Forwarding.Stop report) ≡ true) }
+    ensures free { O.is_sure ≡ true → result ≢ Outcome.Idle → course_is_blocked (map O.may_refuse outs.old) port.old.config.own class (Forwarding.Stop report) ≡ false }
     ensures memory { result ≡ Outcome.NoMemory → IsSome report ⊎ Awaits class (I.waiting input.old) (λ f. D.wants (D.known desk.old) f port.old.config.id ⊎ D.unknown (D.known desk.old) f port.old.config.id) }
     ensures kept { IfSome port.new.kept (λ answer. may_refuse_at (map O.may_refuse outs.old) port.old.config.own (class_of answer) ≡ true) }
     ensures held { R.is_sure ≡ true → port.new.held ≡ None }
@@ -124,7 +124,7 @@ fn proceed<W: Wait, I: LaneIn, O: LaneOut, D: Desk, R: Reporter>(
         return Outcome::Idle;
     };
     match port.course(bridge, &head) {
-        Course::Forward(lane) => {
+        Forwarding::To(lane) => {
             let owner = requester_owner(bridge, &head.header);
             forward_at(
                 input,
@@ -136,8 +136,8 @@ fn proceed<W: Wait, I: LaneIn, O: LaneOut, D: Desk, R: Reporter>(
                 class,
             )
         }
-        Course::Stop(report) => stop(port, rt, class, report, input, outs, desk, reporter),
-        Course::Stray => stray(input, &mut port.strays, class),
+        Forwarding::Stop(report) => stop(port, rt, class, report, input, outs, desk, reporter),
+        Forwarding::NoCase => stray(input, &mut port.strays, class),
     }
 }
 
@@ -191,43 +191,43 @@ impl Port {
         &mut self,
         rt: &W,
         class: Class,
-        lanes: &mut Lanes<'_, I, O, D, R>,
+        parts: &mut TurnParts<'_, I, O, D, R>,
     ) -> Outcome
-        requires { length lanes.old.outs.now ≡ length self.old.config.exits + 1 }
-        ensures moved { result ≡ Outcome.Moved → Moves D.refuses D.unknown lanes.old.bridge.now self.old.config class (sight_of I.waiting O.sent D.known R.reported self.old lanes.old) (sight_of I.waiting O.sent D.known R.reported self.new lanes.new) }
-        ensures rests { result ≢ Outcome.Moved → Rests self.old.config.own (sight_of I.waiting O.sent D.known R.reported self.old lanes.old) (sight_of I.waiting O.sent D.known R.reported self.new lanes.new) }
-        ensures waits { (v : Violation) → self.old.held ≡ Some v → (I.waiting lanes.new.input.now ≡ I.waiting lanes.old.input.now) × (map O.sent lanes.new.outs.now ≡ map O.sent lanes.old.outs.now) }
-        ensures cause { result ≡ Outcome.Idle → counts_of I.misses O.refusals R.refusals lanes.new ≢ counts_of I.misses O.refusals R.refusals lanes.old }
+        requires { length parts.old.outs.now ≡ length self.old.config.exits + 1 }
+        ensures moved { result ≡ Outcome.Moved → Moves D.refuses D.unknown parts.old.bridge.now self.old.config class (sight_of I.waiting O.sent D.known R.reported self.old parts.old) (sight_of I.waiting O.sent D.known R.reported self.new parts.new) }
+        ensures rests { result ≢ Outcome.Moved → Rests self.old.config.own (sight_of I.waiting O.sent D.known R.reported self.old parts.old) (sight_of I.waiting O.sent D.known R.reported self.new parts.new) }
+        ensures waits { (v : Violation) → self.old.held ≡ Some v → (I.waiting parts.new.input.now ≡ I.waiting parts.old.input.now) × (map O.sent parts.new.outs.now ≡ map O.sent parts.old.outs.now) }
+        ensures cause { result ≡ Outcome.Idle → counts_of I.misses O.refusals R.refusals parts.new ≢ counts_of I.misses O.refusals R.refusals parts.old }
 
         // A turn that begins with nothing held and nothing kept is idle only where it is blocked, and always
         // there if the lanes are sure.
-        ensures blocked { self.old.held ≡ None → self.old.kept ≡ None → result ≡ Outcome.Idle → is_blocked lanes.old.bridge.now self.old.config (map O.may_refuse lanes.old.outs.now) class (I.waiting lanes.old.input.now) ≡ true }
-        ensures free { O.is_sure ≡ true → self.old.held ≡ None → self.old.kept ≡ None → result ≢ Outcome.Idle → is_blocked lanes.old.bridge.now self.old.config (map O.may_refuse lanes.old.outs.now) class (I.waiting lanes.old.input.now) ≡ false }
+        ensures blocked { self.old.held ≡ None → self.old.kept ≡ None → result ≡ Outcome.Idle → is_blocked parts.old.bridge.now self.old.config (map O.may_refuse parts.old.outs.now) class (I.waiting parts.old.input.now) ≡ true }
+        ensures free { O.is_sure ≡ true → self.old.held ≡ None → self.old.kept ≡ None → result ≢ Outcome.Idle → is_blocked parts.old.bridge.now self.old.config (map O.may_refuse parts.old.outs.now) class (I.waiting parts.old.input.now) ≡ false }
 
         // Memory is wanted only for an eligible packet that is stopped, or kept as a stray: never for one that is forwarded.
-        ensures memory { result ≡ Outcome.NoMemory → WantsMemory D.wants D.unknown lanes.old.bridge.now self.old.config (D.known lanes.old.desk.now) class (I.waiting lanes.old.input.now) }
+        ensures memory { result ≡ Outcome.NoMemory → WantsMemory D.wants D.unknown parts.old.bridge.now self.old.config (D.known parts.old.desk.now) class (I.waiting parts.old.input.now) }
 
         // An answer is kept only where the port's own lane, as it was before the turn, may refuse its class.
-        ensures kept { self.old.kept ≡ None → IfSome self.new.kept (λ answer. may_refuse_at (map O.may_refuse lanes.old.outs.now) self.old.config.own (class_of answer) ≡ true) }
+        ensures kept { self.old.kept ≡ None → IfSome self.new.kept (λ answer. may_refuse_at (map O.may_refuse parts.old.outs.now) self.old.config.own (class_of answer) ≡ true) }
         ensures held { R.is_sure ≡ true → self.old.held ≡ None → self.new.held ≡ None }
 
         ensures answer { IsOfTurn result }
         ensures config { self.new.config ≡ self.old.config }
-        ensures same_lanes { (I.lane lanes.new.input.now ≡ I.lane lanes.old.input.now) × (map O.lane lanes.new.outs.now ≡ map O.lane lanes.old.outs.now) }
-        ensures same_input { lanes.new.input.ghost_name ≡ lanes.old.input.ghost_name }
-        ensures same_outs { lanes.new.outs.ghost_name ≡ lanes.old.outs.ghost_name }
-        ensures same_desk { lanes.new.desk.ghost_name ≡ lanes.old.desk.ghost_name }
-        ensures same_reporter { lanes.new.reporter.ghost_name ≡ lanes.old.reporter.ghost_name }
+        ensures same_lanes { (I.lane parts.new.input.now ≡ I.lane parts.old.input.now) × (map O.lane parts.new.outs.now ≡ map O.lane parts.old.outs.now) }
+        ensures same_input { parts.new.input.ghost_name ≡ parts.old.input.ghost_name }
+        ensures same_outs { parts.new.outs.ghost_name ≡ parts.old.outs.ghost_name }
+        ensures same_desk { parts.new.desk.ghost_name ≡ parts.old.desk.ghost_name }
+        ensures same_reporter { parts.new.reporter.ghost_name ≡ parts.old.reporter.ghost_name }
     {
         advance(
             self,
             rt,
             class,
-            lanes.bridge,
-            lanes.input,
-            lanes.outs,
-            lanes.desk,
-            lanes.reporter,
+            parts.bridge,
+            parts.input,
+            parts.outs,
+            parts.desk,
+            parts.reporter,
         )
     }
 }

@@ -3,11 +3,11 @@ use Rattle.std.proofs.Common.{◌≡◌, ◌≢◌, ℕ, ◌+◌, ◌<◌, Bool,
 use Rattle.std.specs.Prelude.{if◌then◌else◌}
 use Rattle.ordering.specs.Ordering.{Class, same_class}
 use Rattle.ordering.proofs.Classes.{same_class-true}
-use Rattle.port_queue.specs.Arrivals.{Gap, Each, Rising, IsSound, with_gap}
+use Rattle.port_queue.specs.Arrivals.{Gap, Each, Rising, AreNumbered, with_gap}
 use Rattle.port_queue.proofs.Merging.{each_weaker, each-push}
 
-pub IsSound-cong : (f g : Class → List ℕ) (next : ℕ) → ((d : Class) → f d ≡ g d) → IsSound f next → IsSound g next
-IsSound-cong f g next h s = record {
+pub AreNumbered-cong : (f g : Class → List ℕ) (next : ℕ) → ((d : Class) → f d ≡ g d) → AreNumbered f next → AreNumbered g next
+AreNumbered-cong f g next h s = record {
   rising = λ c. subst Rising (h c) (s.rising c);
   apart = λ c d other.
       let P : List ℕ → Type 0 = λ xs. Each (λ x. Each (λ y. y ≢ x) xs) (f c) in
@@ -25,9 +25,9 @@ rising-tail true n xs h = h.1
 rising-tail false n xs h = h
 
 -- without the gap
-pub IsSound-filled : (gap : Option Gap) (f : Class → List ℕ) (next : ℕ) → IsSound (with_gap gap f) next → IsSound f next
-IsSound-filled None f next s = s
-IsSound-filled (Some g) f next s = record {
+pub AreNumbered-filled : (gap : Option Gap) (f : Class → List ℕ) (next : ℕ) → AreNumbered (with_gap gap f) next → AreNumbered f next
+AreNumbered-filled None f next s = s
+AreNumbered-filled (Some g) f next s = record {
   rising = λ c. rising-tail (same_class c g.class) g.number (f c) (s.rising c);
   apart = λ c d other.
       each_weaker (λ x. Each (λ y. y ≢ x) (if same_class d g.class then g.number ∷ f d else f d)) (λ x. Each (λ y. y ≢ x) (f d))
@@ -65,8 +65,8 @@ other_way Class.Completion Class.Completion e = cc
 two_places : (c d k : Class) → same_class c d ≡ false → same_class c k ≡ true → same_class d k ≡ false
 two_places c d k other here = subst (λ x. same_class d x ≡ false) (sym (same_class-true c k here)) (other_way c d other)
 
-pub IsSound-pushed : (f : Class → List ℕ) (k : Class) (next : ℕ) → IsSound f next → IsSound (λ c. if same_class c k then f c ++ next ∷ [] else f c) (next + 1)
-IsSound-pushed f k next s = record {
+pub AreNumbered-pushed : (f : Class → List ℕ) (k : Class) (next : ℕ) → AreNumbered f next → AreNumbered (λ c. if same_class c k then f c ++ next ∷ [] else f c) (next + 1)
+AreNumbered-pushed f k next s = record {
   rising = λ c. rising-pushed (same_class c k) (f c) next (s.rising c) (s.below c);
   apart = λ c d other. apart c d other;
   below = λ c. each-pushed (λ x. x < next + 1) (same_class c k) (f c) next (each_weaker (λ x. x < next) (λ x. x < next + 1) (λ x l. omega arith) (f c) (s.below c)) (λ e. omega arith);

@@ -3,8 +3,8 @@ use Rattle.std.proofs.Common.{◌≡◌, ◌≢◌, ◌^◌, ◌-◌, ℕ, ◌+�
 use Rattle.std.specs.Prelude.{map}
 use Rattle.ordering.specs.Ordering.{Class, same_class}
 use Rattle.ordering.proofs.Classes.{same_class-true, same_class_same}
-use Rattle.port_queue.proofs.Numbering.{IsSound-cong}
-use Rattle.port_queue.specs.Arrivals.{Entry, Each, arrivals, tagged, waiting_of, numbers_of, Rising, number_or_last_of, IsLeast, IsKept, IsSound}
+use Rattle.port_queue.proofs.Numbering.{AreNumbered-cong}
+use Rattle.port_queue.specs.Arrivals.{Entry, Each, arrivals, tagged, waiting_of, numbers_of, Rising, number_or_last_of, IsLeast, AreClassQueues, AreNumbered}
 use Rattle.port_queue.specs.Queue.{count_of}
 use Rattle.port_queue.proofs.Merging.{each_weaker, each-from_map, insert-first}
 use Rattle.port_queue.proofs.Arriving.{arrivals-cong, each-arrivals, count_of-waiting}
@@ -14,8 +14,8 @@ use Rattle.port_queue.proofs.Keeping.{kept_length, kept_empty, kept_added, waiti
 
 -- fresh has numbers below the next, and waits before what is left of all
 pub record Moves {T : Type 0} (cap next number : ℕ) (fresh left : Class → List (Entry T)) (all : List (Class × T)) : Type 0 where
-  pub fresh_kept : IsKept cap fresh number None
-  pub left_kept : IsKept cap left next None
+  pub fresh_kept : AreClassQueues cap fresh number None
+  pub left_kept : AreClassQueues cap left next None
   pub together : waiting_of fresh ++ waiting_of left ≡ all
   pub counted : number ≡ length (waiting_of fresh)
   pub within : (c : Class) → count_of c all ≤ cap
@@ -40,7 +40,7 @@ module _ {T : Type 0} where
       (less, each_weaker (λ y. x.number < y.number) (λ y. e.number < y.number) (λ y l. omega arith) xs (each-from_map (λ y. x.number < y) (λ y. y.number) xs rising.0))
 
   -- the oldest entry of all comes first
-  pub oldest_first : (f g : Class → List (Entry T)) (next : ℕ) (c : Class) (e : Entry T) → IsSound (numbers_of f) next → Fronts f g c e
+  pub oldest_first : (f g : Class → List (Entry T)) (next : ℕ) (c : Class) (e : Entry T) → AreNumbered (numbers_of f) next → Fronts f g c e
       → IsLeast (number_or_last_of (slice_get (f Class.Posted) 0)) (number_or_last_of (slice_get (f Class.NonPosted) 0)) (number_or_last_of (slice_get (f Class.Completion) 0)) c
       → waiting_of f ≡ (c, e.item) ∷ waiting_of g
   oldest_first f g next c e s h least =
@@ -64,7 +64,7 @@ module _ {T : Type 0} where
   waiting-none f none = ap items (arrivals-cong f (λ d. []) none)
 
   -- where the oldest of all is none, nothing waits
-  pub oldest_none : (f : Class → List (Entry T)) (next : ℕ) (c : Class) → IsSound (numbers_of f) next → next < 2 ^ 64 → slice_get (f c) 0 ≡ None
+  pub oldest_none : (f : Class → List (Entry T)) (next : ℕ) (c : Class) → AreNumbered (numbers_of f) next → next < 2 ^ 64 → slice_get (f c) 0 ≡ None
       → IsLeast (number_or_last_of (slice_get (f Class.Posted) 0)) (number_or_last_of (slice_get (f Class.NonPosted) 0)) (number_or_last_of (slice_get (f Class.Completion) 0)) c
       → waiting_of f ≡ []
   oldest_none f next c s bound none least = waiting-none f (λ d.
@@ -72,9 +72,9 @@ module _ {T : Type 0} where
       let is = ap number_or_last_of none in
       no_first (f d) next (s.below d) bound (omega arith))
 
-  pub kept_cong : (cap : ℕ) (f g : Class → List (Entry T)) (next : ℕ) → ((d : Class) → f d ≡ g d) → IsKept cap f next None → IsKept cap g next None
+  pub kept_cong : (cap : ℕ) (f g : Class → List (Entry T)) (next : ℕ) → ((d : Class) → f d ≡ g d) → AreClassQueues cap f next None → AreClassQueues cap g next None
   kept_cong cap f g next h k = record {
-    sound = IsSound-cong (numbers_of f) (numbers_of g) next (λ d. ap (map (λ x. x.number)) (h d)) k.sound;
+    sound = AreNumbered-cong (numbers_of f) (numbers_of g) next (λ d. ap (map (λ x. x.number)) (h d)) k.sound;
     fits = λ d. (let fit = k.fits d in let same = ap (λ xs. length (map (λ x. x.number) xs)) (h d) in omega arith);
     small = k.small;
   }
@@ -93,7 +93,7 @@ module _ {T : Type 0} where
   count_of-append c [] ys = sym (zero-add (count_of c ys))
   count_of-append c (x ∷ xs) ys = count_cons c x xs ys (same_class c x.0) refl (count_of-append c xs ys)
 
-  pub moves_start : (cap next : ℕ) (fresh left : Class → List (Entry T)) → IsKept cap left next None → ((d : Class) → fresh d ≡ []) → Moves cap next 0 fresh left (waiting_of left)
+  pub moves_start : (cap next : ℕ) (fresh left : Class → List (Entry T)) → AreClassQueues cap left next None → ((d : Class) → fresh d ≡ []) → Moves cap next 0 fresh left (waiting_of left)
   moves_start cap next fresh left k empty =
       let none = waiting-none fresh empty in
       record {
@@ -124,7 +124,7 @@ module _ {T : Type 0} where
       let small = m.fresh_kept.small in
       omega arith
 
-  pub moves_more : (cap next number : ℕ) (fresh more left rest : Class → List (Entry T)) (all : List (Class × T)) (c : Class) (item : T) → Moves cap next number fresh left all → waiting_of left ≡ (c, item) ∷ waiting_of rest → IsKept cap rest next None
+  pub moves_more : (cap next number : ℕ) (fresh more left rest : Class → List (Entry T)) (all : List (Class × T)) (c : Class) (item : T) → Moves cap next number fresh left all → waiting_of left ≡ (c, item) ∷ waiting_of rest → AreClassQueues cap rest next None
       → Adds fresh more c (record { number = number; item = item }) → Moves cap next (number + 1) more rest all
   moves_more cap next number fresh more left rest all c item m first k adds =
       let longer : waiting_of more ≡ waiting_of fresh ++ (c, item) ∷ [] = waiting-added fresh more number c (record { number = number; item = item }) m.fresh_kept.sound adds refl in

@@ -4,8 +4,8 @@ use Rattle.std.specs.Prelude.{map, insert, if◌then◌else◌}
 use Rattle.std.proofs.lemmas.Bool.Decides.{leb_tells}
 use Rattle.ordering.specs.Ordering.{Class, same_class, passes}
 use Rattle.ordering.proofs.Classes.{same_class-true, same_class_same}
-use Rattle.port_queue.specs.Arrivals.{Entry, Each, insert_in, place_of, tagged, arrivals, waiting_of, queue_of, numbers_of, may_leave, with_gap, Rising, IsSound}
-use Rattle.port_queue.specs.Lanes.{Lanes, lane_of, with_lane}
+use Rattle.port_queue.specs.Arrivals.{Entry, Each, insert_in, place_of, tagged, arrivals, waiting_of, queue_of, numbers_of, may_leave, with_gap, Rising, AreNumbered}
+use Rattle.port_queue.specs.PerClass.{PerClass, at_class, with_class}
 use Rattle.port_queue.specs.Queue.{taken_of, restored}
 use Rattle.port_queue.proofs.Merging.{each_weaker, each_all, each-from_map, insert-place}
 use Rattle.port_queue.proofs.Leaving.{items, leaves_by_number, stays_by_number, none_waits}
@@ -18,21 +18,21 @@ passes_posted Class.NonPosted = refl
 passes_posted Class.Completion = refl
 
 module _ {Q : Type 0} where
-  pub lane_of-own : (l : Lanes Q) (c : Class) (q : Q) → lane_of (with_lane l c q) c ≡ q
-  lane_of-own l Class.Posted q = refl
-  lane_of-own l Class.NonPosted q = refl
-  lane_of-own l Class.Completion q = refl
+  pub at_class-own : (l : PerClass Q) (c : Class) (q : Q) → at_class (with_class l c q) c ≡ q
+  at_class-own l Class.Posted q = refl
+  at_class-own l Class.NonPosted q = refl
+  at_class-own l Class.Completion q = refl
 
-  pub lane_of-other : (l : Lanes Q) (c d : Class) (q : Q) → same_class d c ≡ false → lane_of (with_lane l c q) d ≡ lane_of l d
-  lane_of-other l Class.Posted Class.Posted q e = cc
-  lane_of-other l Class.Posted Class.NonPosted q e = refl
-  lane_of-other l Class.Posted Class.Completion q e = refl
-  lane_of-other l Class.NonPosted Class.Posted q e = refl
-  lane_of-other l Class.NonPosted Class.NonPosted q e = cc
-  lane_of-other l Class.NonPosted Class.Completion q e = refl
-  lane_of-other l Class.Completion Class.Posted q e = refl
-  lane_of-other l Class.Completion Class.NonPosted q e = refl
-  lane_of-other l Class.Completion Class.Completion q e = cc
+  pub at_class-other : (l : PerClass Q) (c d : Class) (q : Q) → same_class d c ≡ false → at_class (with_class l c q) d ≡ at_class l d
+  at_class-other l Class.Posted Class.Posted q e = cc
+  at_class-other l Class.Posted Class.NonPosted q e = refl
+  at_class-other l Class.Posted Class.Completion q e = refl
+  at_class-other l Class.NonPosted Class.Posted q e = refl
+  at_class-other l Class.NonPosted Class.NonPosted q e = cc
+  at_class-other l Class.NonPosted Class.Completion q e = refl
+  at_class-other l Class.Completion Class.Posted q e = refl
+  at_class-other l Class.Completion Class.NonPosted q e = refl
+  at_class-other l Class.Completion Class.Completion q e = cc
 
 module _ {T : Type 0} where
   -- f is g with an entry in front of one queue
@@ -61,23 +61,23 @@ module _ {T : Type 0} where
   pub numbers-fronts : (f g : Class → List (Entry T)) (c : Class) (e : Entry T) → Fronts f g c e → (d : Class) → with_gap (Some (record { class = c; number = e.number })) (numbers_of g) d ≡ numbers_of f d
   numbers-fronts f g c e h d = numbers_at f g c e h d (same_class d c) refl
 
-  pub first_apart : (f g : Class → List (Entry T)) (next : ℕ) (c : Class) (e : Entry T) → IsSound (numbers_of f) next → Fronts f g c e → (d : Class) → same_class d c ≡ false → Each (λ x. x.number ≢ e.number) (f d)
+  pub first_apart : (f g : Class → List (Entry T)) (next : ℕ) (c : Class) (e : Entry T) → AreNumbered (numbers_of f) next → Fronts f g c e → (d : Class) → same_class d c ≡ false → Each (λ x. x.number ≢ e.number) (f d)
   first_apart f g next c e s h d other =
       let P : List ℕ → Type 0 = λ xs. Each (λ x. Each (λ y. y ≢ x) (numbers_of f d)) xs in
       each-from_map (λ y. y ≢ e.number) (λ x. x.number) (f d) (subst P (ap (map (λ x. x.number)) h.own) (s.apart c d (other_way d c other))).0
 
-  apart_g : (f g : Class → List (Entry T)) (next : ℕ) (c : Class) (e : Entry T) → IsSound (numbers_of f) next → Fronts f g c e → (d : Class) → same_class d c ≡ false → Each (λ x. x.number ≢ e.number) (g d)
+  apart_g : (f g : Class → List (Entry T)) (next : ℕ) (c : Class) (e : Entry T) → AreNumbered (numbers_of f) next → Fronts f g c e → (d : Class) → same_class d c ≡ false → Each (λ x. x.number ≢ e.number) (g d)
   apart_g f g next c e s h d other = subst (Each (λ x. x.number ≢ e.number)) (h.others d other) (first_apart f g next c e s h d other)
 
-  pub rising_rest : (f g : Class → List (Entry T)) (next : ℕ) (c : Class) (e : Entry T) → IsSound (numbers_of f) next → Fronts f g c e → Each (λ x. e.number < x.number) (g c)
+  pub rising_rest : (f g : Class → List (Entry T)) (next : ℕ) (c : Class) (e : Entry T) → AreNumbered (numbers_of f) next → Fronts f g c e → Each (λ x. e.number < x.number) (g c)
   rising_rest f g next c e s h = each-from_map (λ y. e.number < y) (λ x. x.number) (g c) (subst Rising (ap (map (λ x. x.number)) h.own) (s.rising c)).0
 
   -- the one list is that without the entry, and the entry put in by its number
-  pub arrivals-Fronts : (f g : Class → List (Entry T)) (next : ℕ) (c : Class) (e : Entry T) → IsSound (numbers_of f) next → Fronts f g c e → arrivals f ≡ insert_in (tagged c e) (arrivals g)
+  pub arrivals-Fronts : (f g : Class → List (Entry T)) (next : ℕ) (c : Class) (e : Entry T) → AreNumbered (numbers_of f) next → Fronts f g c e → arrivals f ≡ insert_in (tagged c e) (arrivals g)
   arrivals-Fronts f g next c e s h =
       arrivals-cong f (fronted g c e) (λ d. fronts_at f g c e h d (same_class d c) refl) ∙ arrivals-fronted g c e (apart_g f g next c e s h)
 
-  pub restores : (f g : Class → List (Entry T)) (next : ℕ) (c : Class) (e : Entry T) → IsSound (numbers_of f) next → Fronts f g c e
+  pub restores : (f g : Class → List (Entry T)) (next : ℕ) (c : Class) (e : Entry T) → AreNumbered (numbers_of f) next → Fronts f g c e
       → restored (queue_of g (Some (record { class = c; number = e.number }))) c e.item ≡ Some (waiting_of f)
   restores f g next c e s h =
       let same = same_class_same c in
@@ -94,7 +94,7 @@ module _ {T : Type 0} where
       let lt : e.number < p.number = omega arith in
       (lt, each_weaker (λ x. p.number < x.number) (λ x. e.number < x.number) (λ x l. omega arith) ps (each-from_map (λ y. p.number < y) (λ x. x.number) ps rising.0))
 
-  pub eligible_leaves : (f g : Class → List (Entry T)) (next : ℕ) (c : Class) (e : Entry T) → IsSound (numbers_of f) next → Fronts f g c e → may_leave (Some e) (slice_get (f Class.Posted) 0) ≡ true
+  pub eligible_leaves : (f g : Class → List (Entry T)) (next : ℕ) (c : Class) (e : Entry T) → AreNumbered (numbers_of f) next → Fronts f g c e → may_leave (Some e) (slice_get (f Class.Posted) 0) ≡ true
       → taken_of c (waiting_of f) ≡ Some ((c, e.item), waiting_of g)
   eligible_leaves f g next c e s h may =
       ap (λ ys. taken_of c (items ys)) (arrivals-Fronts f g next c e s h)
@@ -123,7 +123,7 @@ module _ {T : Type 0} where
       by_class d false other = each_all (λ x. same_class c d ≡ false) (λ x. other) (f d)
 
   -- an older posted one waits
-  posted_stops : (f : Class → List (Entry T)) (next : ℕ) (c : Class) (x p : Entry T) (xs ps : List (Entry T)) → IsSound (numbers_of f) next → f c ≡ x ∷ xs → f Class.Posted ≡ p ∷ ps → p.number < x.number → same_class c Class.Posted ≡ false
+  posted_stops : (f : Class → List (Entry T)) (next : ℕ) (c : Class) (x p : Entry T) (xs ps : List (Entry T)) → AreNumbered (numbers_of f) next → f c ≡ x ∷ xs → f Class.Posted ≡ p ∷ ps → p.number < x.number → same_class c Class.Posted ≡ false
       → taken_of c (waiting_of f) ≡ None
   posted_stops f next c x p xs ps s is posted less other =
       ap (λ ys. taken_of c (items ys)) (arrivals-Fronts f g next Class.Posted p s fronts)
@@ -148,7 +148,7 @@ module _ {T : Type 0} where
           subst P (same_class-true d c same) (subst Q (ap (λ b. if b then ps else f c) (sym other)) later)
       by_class d false not_c = each_all (λ y. y.number ≤ p.number → same_class c d ≡ false) (λ y le. other_way d c not_c) (g d)
 
-  pub eligible_stays : (f : Class → List (Entry T)) (next : ℕ) (c : Class) → IsSound (numbers_of f) next → may_leave (slice_get (f c) 0) (slice_get (f Class.Posted) 0) ≡ false → taken_of c (waiting_of f) ≡ None
+  pub eligible_stays : (f : Class → List (Entry T)) (next : ℕ) (c : Class) → AreNumbered (numbers_of f) next → may_leave (slice_get (f c) 0) (slice_get (f Class.Posted) 0) ≡ false → taken_of c (waiting_of f) ≡ None
   eligible_stays f next c s stays = by_fronts (f c) (f Class.Posted) refl refl stays
     where
       by_posted : (x p : Entry T) (xs ps : List (Entry T)) → f c ≡ x ∷ xs → f Class.Posted ≡ p ∷ ps → p.number < x.number → (same : Bool) → same_class c Class.Posted ≡ same → taken_of c (waiting_of f) ≡ None

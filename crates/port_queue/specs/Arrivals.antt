@@ -31,22 +31,22 @@ module _ {T : Type 0} where
 
   -- all entries of the three queues, by their numbers
   abbrev pub arrivals : (Class → List (Entry T)) → List (ℕ × (Class × T))
-  arrivals lanes =
-      all_in (map (tagged Class.Posted) (lanes Class.Posted))
-      (all_in (map (tagged Class.NonPosted) (lanes Class.NonPosted))
-      (all_in (map (tagged Class.Completion) (lanes Class.Completion)) []))
+  arrivals queues =
+      all_in (map (tagged Class.Posted) (queues Class.Posted))
+      (all_in (map (tagged Class.NonPosted) (queues Class.NonPosted))
+      (all_in (map (tagged Class.Completion) (queues Class.Completion)) []))
 
   abbrev pub waiting_of : (Class → List (Entry T)) → List (Class × T)
-  waiting_of lanes = map (λ y. y.1) (arrivals lanes)
+  waiting_of queues = map (λ y. y.1) (arrivals queues)
 
   abbrev pub gap_of : Option Gap → (Class → List (Entry T)) → Option (Class × ℕ)
-  gap_of gap lanes = option_map (λ g. (g.class, place_of g.number (arrivals lanes))) gap
+  gap_of gap queues = option_map (λ g. (g.class, place_of g.number (arrivals queues))) gap
 
   abbrev pub queue_of : (Class → List (Entry T)) → Option Gap → Queue T
-  queue_of lanes gap = record { waiting = waiting_of lanes; gap = gap_of gap lanes }
+  queue_of queues gap = record { waiting = waiting_of queues; gap = gap_of gap queues }
 
   abbrev pub numbers_of : (Class → List (Entry T)) → Class → List ℕ
-  numbers_of lanes class = map (λ e. e.number) (lanes class)
+  numbers_of queues class = map (λ e. e.number) (queues class)
 
 -- may the first entry of a class leave beside the first posted one?
 abbrev pub may_leave : {T : Type 0} → Option (Entry T) → Option (Entry T) → Bool
@@ -75,13 +75,13 @@ Rising [] = Unit {0}
 Rising (x ∷ xs) = Each (λ y. x < y) xs × Rising xs
 
 -- each queue is in order, no number stands in two, and all are below the next
-pub record IsSound (numbers : Class → List ℕ) (next : ℕ) : Type 0 where
+pub record AreNumbered (numbers : Class → List ℕ) (next : ℕ) : Type 0 where
   pub rising : (c : Class) → Rising (numbers c)
   pub apart : (c d : Class) → same_class c d ≡ false → Each (λ x. Each (λ y. y ≢ x) (numbers d)) (numbers c)
   pub below : (c : Class) → Each (λ x. x < next) (numbers c)
 
 -- three queues of at most cap entries each, and of numbers below the next
-pub record IsKept {T : Type 0} (cap : ℕ) (lanes : Class → List (Entry T)) (next : ℕ) (gap : Option Gap) : Type 0 where
-  pub sound : IsSound (with_gap gap (numbers_of lanes)) next
-  pub fits : (c : Class) → length (with_gap gap (numbers_of lanes) c) ≤ cap
+pub record AreClassQueues {T : Type 0} (cap : ℕ) (queues : Class → List (Entry T)) (next : ℕ) (gap : Option Gap) : Type 0 where
+  pub sound : AreNumbered (with_gap gap (numbers_of queues)) next
+  pub fits : (c : Class) → length (with_gap gap (numbers_of queues) c) ≤ cap
   pub small : cap < 2 ^ 62

@@ -1,5 +1,5 @@
 pub mod Arrivals
-pub mod Lanes
+pub mod PerClass
 pub mod Lending
 pub mod Outgoing
 pub mod Queue

@@ -4,21 +4,21 @@ pub use Rattle.std.specs.declared.collections.VecDeque.{VecDeque}
 use Rattle.std.specs.VecDeque.{deque_len, deque_capacity}
 pub use Rattle.std.specs.declared.alloc.Global.{Global}
 use Rattle.port_queue.specs.Queue.{Queue}
-use Rattle.port_queue.specs.Lanes.{Class, Lanes, lane_of}
-use Rattle.port_queue.specs.Arrivals.{Entry, Gap, numbers_of, with_gap, IsKept}
+use Rattle.port_queue.specs.PerClass.{Class, PerClass, at_class}
+use Rattle.port_queue.specs.Arrivals.{Entry, Gap, numbers_of, with_gap, AreClassQueues}
 
 -- what waits, how many of each class were put in all, and how many of each may be
 pub record Outgoing (T : Type 0) : Type 0 where
   pub queue : Queue T
-  pub puts : Lanes ℕ
+  pub puts : PerClass ℕ
   pub places : ℕ
 
-abbrev pub total : Lanes ℕ → ℕ
+abbrev pub total : PerClass ℕ → ℕ
 total puts = puts.posted + puts.non_posted + puts.completion
 
 module _ {T : Type 0} where
-  abbrev pub entries_of : Lanes (VecDeque (Entry T) Global) → Class → List (Entry T)
-  entries_of lanes class = (lane_of lanes class).items
+  abbrev pub entries_of : PerClass (VecDeque (Entry T) Global) → Class → List (Entry T)
+  entries_of queues class = (at_class queues class).items
 
   -- a queue with this many places
   pub record IsRoomy (places : ℕ) (q : VecDeque (Entry T) Global) : Type 0 where
@@ -26,8 +26,8 @@ module _ {T : Type 0} where
     pub long : deque_len q ≡ length q.items
 
   -- what was put is numbered in turn, and all that may still be put has a place
-  pub record IsReserved (lanes : Lanes (VecDeque (Entry T) Global)) (puts : Lanes ℕ) (places : ℕ) (gap : Option Gap) : Type 0 where
-    pub kept : IsKept places (entries_of lanes) (total puts) gap
-    pub counted : (c : Class) → length (with_gap gap (numbers_of (entries_of lanes)) c) ≤ lane_of puts c
-    pub within : (c : Class) → lane_of puts c ≤ places
-    pub roomy : (c : Class) → IsRoomy places (lane_of lanes c)
+  pub record IsReserved (queues : PerClass (VecDeque (Entry T) Global)) (puts : PerClass ℕ) (places : ℕ) (gap : Option Gap) : Type 0 where
+    pub kept : AreClassQueues places (entries_of queues) (total puts) gap
+    pub counted : (c : Class) → length (with_gap gap (numbers_of (entries_of queues)) c) ≤ at_class puts c
+    pub within : (c : Class) → at_class puts c ≤ places
+    pub roomy : (c : Class) → IsRoomy places (at_class queues c)

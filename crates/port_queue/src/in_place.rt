@@ -3,12 +3,12 @@
 ghost use Rattle.std.specs.Prelude.{◌≡◌, ◌<◌, ◌≤◌, ◌^◌, ◌-◌, [], ◌∷◌, ◌++◌, IsTrue, ◌↔◌, IsSome, IfSome, MatchOption, Some, None, option_copied, length, slice_get};
 ghost use Rattle.std.specs.Bool.{OnFalse};
 ghost use Rattle.fab_types.specs.declared.class.Class.TheVariants.{Posted};
-ghost use Rattle.port_queue.specs.Lanes.{lane_of};
-ghost use Rattle.port_queue.specs.Arrivals.{may_leave, IsKept, IsLeast, number_or_last_of, waiting_of};
+ghost use Rattle.port_queue.specs.PerClass.{at_class};
+ghost use Rattle.port_queue.specs.Arrivals.{may_leave, AreClassQueues, IsLeast, number_or_last_of, waiting_of};
 ghost use Rattle.port_queue.specs.Queue.{Queue, count_of, taken_of, head_of, restored};
 
 use crate::entry::{Entry, Gap};
-use crate::lanes::{Lanes, may_leave_beside};
+use crate::per_class::{PerClass, may_leave_beside};
 use crate::ring::Ring;
 use fab_types::Class;
 use std::marker::Model;
@@ -16,7 +16,7 @@ use std::marker::Model;
 /// A queue of at most `CAP` items of each class, which lie in the value itself.
 #[derive(Drop)]
 pub struct PortQueue<T, const CAP: usize> {
-    lanes: Lanes<Ring<Entry<T>, CAP>>,
+    queues: PerClass<Ring<Entry<T>, CAP>>,
     next: u64,
     gap: Option<Gap>,
 }
@@ -26,18 +26,18 @@ impl<T, const CAP: usize> Model for PortQueue<T, CAP> {
 
     ghost Value = { Queue T };
 
-    ghost use Rattle.port_queue.specs.Lanes.{lane_of};
-    ghost use Rattle.port_queue.specs.Arrivals.{queue_of, IsKept};
+    ghost use Rattle.port_queue.specs.PerClass.{at_class};
+    ghost use Rattle.port_queue.specs.Arrivals.{queue_of, AreClassQueues};
 
-    ghost view = { λ q. queue_of (lane_of q.lanes) q.gap };
+    ghost view = { λ q. queue_of (at_class q.queues) q.gap };
 
-    ghost invariant = { λ q. IsKept CAP (lane_of q.lanes) q.next q.gap };
+    ghost invariant = { λ q. AreClassQueues CAP (at_class q.queues) q.next q.gap };
 }
 
-fn is_eligible<T, const CAP: usize>(lanes: &Lanes<Ring<Entry<T>, CAP>>, class: Class) -> bool
-    ensures { result ≡ may_leave (slice_get (lane_of lanes.now class) 0) (slice_get (lane_of lanes.now Posted) 0) }
+fn is_eligible<T, const CAP: usize>(queues: &PerClass<Ring<Entry<T>, CAP>>, class: Class) -> bool
+    ensures { result ≡ may_leave (slice_get (at_class queues.now class) 0) (slice_get (at_class queues.now Posted) 0) }
 {
-    may_leave_beside(lanes.get(class).front(), lanes.posted.front())
+    may_leave_beside(queues.get(class).front(), queues.posted.front())
 }
 
 impl<T, const CAP: usize> PortQueue<T, CAP> {
@@ -55,7 +55,7 @@ impl<T, const CAP: usize> PortQueue<T, CAP> {
         ensures { result ≡ record { waiting = []; gap = None } }
     {
         PortQueue {
-            lanes: Lanes {
+            queues: PerClass {
                 posted: Ring::new(),
                 non_posted: Ring::new(),
                 completion: Ring::new(),
@@ -70,17 +70,17 @@ impl<T, const CAP: usize> PortQueue<T, CAP> {
         ensures exact { IsTrue result ↔ (count_of class self.now.waiting ≡ CAP) }
         ensures room { OnFalse result (count_of class self.now.waiting < CAP) }
     {
-        self.lanes.get(class).len() == CAP
+        self.queues.get(class).len() == CAP
     }
 
     /// The eligible item of the class: its oldest, unless an older posted one waits that it may not pass.
     pub fn head(&self, class: Class) -> Option<&T>
         ensures { option_copied result ≡ head_of class self.now.waiting }
     {
-        if !is_eligible(&self.lanes, class) {
+        if !is_eligible(&self.queues, class) {
             return None;
         }
-        match self.lanes.get(class).front() {
+        match self.queues.get(class).front() {
             Some(entry) => Some(&entry.item),
             None => None,
         }
@@ -89,19 +89,19 @@ impl<T, const CAP: usize> PortQueue<T, CAP> {
 
 /// Takes the oldest entry of all away and gives its class and item.
 fn take_oldest<T: Drop, const CAP: usize>(
-    lanes: &mut Lanes<Ring<Entry<T>, CAP>>,
+    queues: &mut PerClass<Ring<Entry<T>, CAP>>,
     next: u64,
 ) -> Option<(Class, T)>
-    requires { IsKept CAP (lane_of lanes.old) next None }
-    ensures kept { IsKept CAP (lane_of lanes.new) next None }
-    ensures oldest { MatchOption result (waiting_of (lane_of lanes.old) ≡ [])
-        (λ r. waiting_of (lane_of lanes.old) ≡ (r.0, r.1) ∷ waiting_of (lane_of lanes.new)) }
+    requires { AreClassQueues CAP (at_class queues.old) next None }
+    ensures kept { AreClassQueues CAP (at_class queues.new) next None }
+    ensures oldest { MatchOption result (waiting_of (at_class queues.old) ≡ [])
+        (λ r. waiting_of (at_class queues.old) ≡ (r.0, r.1) ∷ waiting_of (at_class queues.new)) }
 {
-    let posted = number_or_last(lanes.posted.front());
-    let non_posted = number_or_last(lanes.non_posted.front());
-    let completion = number_or_last(lanes.completion.front());
+    let posted = number_or_last(queues.posted.front());
+    let non_posted = number_or_last(queues.non_posted.front());
+    let completion = number_or_last(queues.completion.front());
     let class = first_of(posted, non_posted, completion);
-    let Entry { number: _, item } = lanes.get_mut(class).pop_front()?;
+    let Entry { number: _, item } = queues.get_mut(class).pop_front()?;
     Some((class, item))
 }
 
@@ -130,37 +130,40 @@ fn number_or_last<T>(entry: Option<&Entry<T>>) -> u64
 
 /// Numbers the entries anew from 0, in order, and gives the number after theirs.
 #[cold]
-fn renumber<T: Drop, const CAP: usize>(lanes: &mut Lanes<Ring<Entry<T>, CAP>>, next: u64) -> u64
-    requires { IsKept CAP (lane_of lanes.old) next None }
-    ensures kept { IsKept CAP (lane_of lanes.new) result None }
-    ensures waiting { waiting_of (lane_of lanes.new) ≡ waiting_of (lane_of lanes.old) }
+fn renumber<T: Drop, const CAP: usize>(queues: &mut PerClass<Ring<Entry<T>, CAP>>, next: u64) -> u64
+    requires { AreClassQueues CAP (at_class queues.old) next None }
+    ensures kept { AreClassQueues CAP (at_class queues.new) result None }
+    ensures waiting { waiting_of (at_class queues.new) ≡ waiting_of (at_class queues.old) }
     ensures room { result < 2 ^ 64 - 1 }
 {
-    let mut fresh = Lanes {
+    let mut fresh = PerClass {
         posted: Ring::new(),
         non_posted: Ring::new(),
         completion: Ring::new(),
     };
     let mut number = 0;
-    while let Some((class, item)) = take_oldest(lanes, next) {
+    while let Some((class, item)) = take_oldest(queues, next) {
         fresh.get_mut(class).push_back(Entry { number, item });
         number += 1;
     }
-    *lanes = fresh;
+    *queues = fresh;
     number
 }
 
 /// A number for the next entry. At the last number those that wait are numbered anew.
-fn fresh_number<T: Drop, const CAP: usize>(lanes: &mut Lanes<Ring<Entry<T>, CAP>>, next: u64) -> u64
-    requires { IsKept CAP (lane_of lanes.old) next None }
-    ensures kept { IsKept CAP (lane_of lanes.new) result None }
-    ensures waiting { waiting_of (lane_of lanes.new) ≡ waiting_of (lane_of lanes.old) }
+fn fresh_number<T: Drop, const CAP: usize>(
+    queues: &mut PerClass<Ring<Entry<T>, CAP>>,
+    next: u64,
+) -> u64
+    requires { AreClassQueues CAP (at_class queues.old) next None }
+    ensures kept { AreClassQueues CAP (at_class queues.new) result None }
+    ensures waiting { waiting_of (at_class queues.new) ≡ waiting_of (at_class queues.old) }
     ensures room { result < 2 ^ 64 - 1 }
 {
     if next < u64::MAX {
         return next;
     }
-    renumber(lanes, next)
+    renumber(queues, next)
 }
 
 impl<T: Drop, const CAP: usize> PortQueue<T, CAP> {
@@ -169,10 +172,10 @@ impl<T: Drop, const CAP: usize> PortQueue<T, CAP> {
         requires { count_of class self.old.waiting < CAP }
         ensures { self.new ≡ record { waiting = self.old.waiting ++ (class, item) ∷ []; gap = None } }
     {
-        let number = fresh_number(&mut self.lanes, self.next);
+        let number = fresh_number(&mut self.queues, self.next);
         self.next = number + 1;
         self.gap = None;
-        self.lanes.get_mut(class).push_back(Entry { number, item });
+        self.queues.get_mut(class).push_back(Entry { number, item });
     }
 
     /// Takes the eligible item of the class.
@@ -181,10 +184,10 @@ impl<T: Drop, const CAP: usize> PortQueue<T, CAP> {
             (λ item. taken_of class self.old.waiting ≡ Some ((class, item), self.new.waiting)) }
         ensures restores { IfSome result (λ item. restored self.new class item ≡ Some self.old.waiting) }
     {
-        if !is_eligible(&self.lanes, class) {
+        if !is_eligible(&self.queues, class) {
             return None;
         }
-        let Some(Entry { number, item }) = self.lanes.get_mut(class).pop_front() else {
+        let Some(Entry { number, item }) = self.queues.get_mut(class).pop_front() else {
             unreachable!();
         };
         self.gap = Some(Gap { class, number });
@@ -201,7 +204,7 @@ impl<T: Drop, const CAP: usize> PortQueue<T, CAP> {
             unreachable!();
         };
         self.gap = None;
-        self.lanes.get_mut(class).push_front(Entry {
+        self.queues.get_mut(class).push_front(Entry {
             number: gap.number,
             item,
         });

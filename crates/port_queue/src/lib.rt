@@ -11,7 +11,7 @@
 
 mod entry;
 mod in_place;
-mod lanes;
+mod per_class;
 mod reserved;
 mod ring;
 
@@ -19,7 +19,7 @@ mod ring;
 pub use entry::{Entry, Gap};
 pub use in_place::PortQueue;
 #[doc(hidden)]
-pub use lanes::Lanes;
+pub use per_class::PerClass;
 pub use reserved::Outbox;
 #[doc(hidden)]
 pub use ring::Ring;

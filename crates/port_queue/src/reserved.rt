@@ -4,13 +4,13 @@ ghost use Rattle.std.specs.Prelude.{◌≡◌, ◌<◌, ◌≤◌, ◌+◌, ◌^
 ghost use Rattle.std.specs.Bool.{OnFalse};
 ghost use Rattle.std.specs.VecDeque.{deque_capacity};
 ghost use Rattle.fab_types.specs.declared.class.Class.TheVariants.{Posted};
-ghost use Rattle.port_queue.specs.Lanes.{lane_of, with_lane};
+ghost use Rattle.port_queue.specs.PerClass.{at_class, with_class};
 ghost use Rattle.port_queue.specs.Arrivals.{may_leave};
 ghost use Rattle.port_queue.specs.Queue.{Queue, taken_of, head_of, restored};
 ghost use Rattle.port_queue.specs.Outgoing.{Outgoing, entries_of};
 
 use crate::entry::{Entry, Gap};
-use crate::lanes::{Lanes, may_leave_beside};
+use crate::per_class::{PerClass, may_leave_beside};
 use fab_types::{Class, NoMemory};
 use std::alloc::Global;
 use std::collections::VecDeque;
@@ -23,8 +23,8 @@ const MOST: usize = 1 << 62;
 /// is made, so that no put takes memory.
 #[derive(Drop)]
 pub struct Outbox<T> {
-    lanes: Lanes<VecDeque<Entry<T>>>,
-    puts: Lanes<usize>,
+    queues: PerClass<VecDeque<Entry<T>>>,
+    puts: PerClass<usize>,
     places: usize,
     gap: Option<Gap>,
 }
@@ -35,15 +35,15 @@ impl<T> Model for Outbox<T> {
 
     ghost Value = { Outgoing T };
 
-    ghost view = { λ o. record { queue = queue_of (entries_of o.lanes) o.gap; puts = o.puts; places = o.places } };
+    ghost view = { λ o. record { queue = queue_of (entries_of o.queues) o.gap; puts = o.puts; places = o.places } };
 
-    ghost invariant = { λ o. IsReserved o.lanes o.puts o.places o.gap };
+    ghost invariant = { λ o. IsReserved o.queues o.puts o.places o.gap };
 }
 
-fn is_eligible<T>(lanes: &Lanes<VecDeque<Entry<T>>>, class: Class) -> bool
-    ensures { result ≡ may_leave (slice_get (entries_of lanes.now class) 0) (slice_get (entries_of lanes.now Posted) 0) }
+fn is_eligible<T>(queues: &PerClass<VecDeque<Entry<T>>>, class: Class) -> bool
+    ensures { result ≡ may_leave (slice_get (entries_of queues.now class) 0) (slice_get (entries_of queues.now Posted) 0) }
 {
-    may_leave_beside(lanes.get(class).front(), lanes.posted.front())
+    may_leave_beside(queues.get(class).front(), queues.posted.front())
 }
 
 impl<T: Drop> Outbox<T> {
@@ -59,12 +59,12 @@ impl<T: Drop> Outbox<T> {
             return Err(NoMemory);
         }
         Ok(Outbox {
-            lanes: Lanes {
+            queues: PerClass {
                 posted: VecDeque::with_capacity(alloc, places)?,
                 non_posted: VecDeque::with_capacity(alloc, places)?,
                 completion: VecDeque::with_capacity(alloc, places)?,
             },
-            puts: Lanes {
+            puts: PerClass {
                 posted: 0,
                 non_posted: 0,
                 completion: 0,
@@ -76,8 +76,8 @@ impl<T: Drop> Outbox<T> {
 
     /// Were `places` items of the class put in all?
     pub fn is_full(&self, class: Class) -> bool
-        ensures exact { IsTrue result ↔ (lane_of self.now.puts class ≡ self.now.places) }
-        ensures room { OnFalse result (lane_of self.now.puts class < self.now.places) }
+        ensures exact { IsTrue result ↔ (at_class self.now.puts class ≡ self.now.places) }
+        ensures room { OnFalse result (at_class self.now.puts class < self.now.places) }
     {
         *self.puts.get(class) == self.places
     }
@@ -86,10 +86,10 @@ impl<T: Drop> Outbox<T> {
     pub fn head(&self, class: Class) -> Option<&T>
         ensures { option_copied result ≡ head_of class self.now.queue.waiting }
     {
-        if !is_eligible(&self.lanes, class) {
+        if !is_eligible(&self.queues, class) {
             return None;
         }
-        match self.lanes.get(class).front() {
+        match self.queues.get(class).front() {
             Some(entry) => Some(&entry.item),
             None => None,
         }
@@ -97,10 +97,10 @@ impl<T: Drop> Outbox<T> {
 
     /// Puts an item behind the others. Of its class fewer than `places` were put.
     pub fn put(&mut self, class: Class, item: T)
-        requires { lane_of self.old.puts class < self.old.places }
+        requires { at_class self.old.puts class < self.old.places }
         ensures { self.new ≡ record {
           queue = record { waiting = self.old.queue.waiting ++ (class, item) ∷ []; gap = None };
-          puts = with_lane self.old.puts class (lane_of self.old.puts class + 1);
+          puts = with_class self.old.puts class (at_class self.old.puts class + 1);
           places = self.old.places;
         } }
     {
@@ -108,7 +108,7 @@ impl<T: Drop> Outbox<T> {
         let puts = *self.puts.get(class) + 1;
         *self.puts.get_mut(class) = puts;
         self.gap = None;
-        self.lanes.get_mut(class).push_back_reserved(Entry {
+        self.queues.get_mut(class).push_back_reserved(Entry {
             number: number as u64,
             item,
         });
@@ -121,10 +121,10 @@ impl<T: Drop> Outbox<T> {
         ensures restores { IfSome result (λ item. restored self.new.queue class item ≡ Some self.old.queue.waiting) }
         ensures places { (self.new.puts ≡ self.old.puts) × (self.new.places ≡ self.old.places) }
     {
-        if !is_eligible(&self.lanes, class) {
+        if !is_eligible(&self.queues, class) {
             return None;
         }
-        let Some(Entry { number, item }) = self.lanes.get_mut(class).pop_front() else {
+        let Some(Entry { number, item }) = self.queues.get_mut(class).pop_front() else {
             unreachable!();
         };
         self.gap = Some(Gap { class, number });
@@ -142,7 +142,7 @@ impl<T: Drop> Outbox<T> {
             unreachable!();
         };
         self.gap = None;
-        self.lanes.get_mut(class).push_front_reserved(Entry {
+        self.queues.get_mut(class).push_front_reserved(Entry {
             number: gap.number,
             item,
         });
@@ -157,15 +157,15 @@ impl<T: Drop> Outbox<T> {
             return Err(NoMemory);
         }
         let places = self.places + n;
-        self.lanes
+        self.queues
             .posted
-            .reserve_exact(places - self.lanes.posted.len())?;
-        self.lanes
+            .reserve_exact(places - self.queues.posted.len())?;
+        self.queues
             .non_posted
-            .reserve_exact(places - self.lanes.non_posted.len())?;
-        self.lanes
+            .reserve_exact(places - self.queues.non_posted.len())?;
+        self.queues
             .completion
-            .reserve_exact(places - self.lanes.completion.len())?;
+            .reserve_exact(places - self.queues.completion.len())?;
         self.places = places;
         Ok(())
     }

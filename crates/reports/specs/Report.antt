@@ -11,10 +11,10 @@ use Rattle.fab_types.specs.declared.status.Status.{Status}
 use Rattle.fab_types.specs.declared.status.Status.TheVariants.{SC, UR, CRS, CA}
 use Rattle.fab_types.specs.declared.violation.Violation.{Violation}
 use Rattle.host_memory.specs.Pages.{page_of}
-use Rattle.layout.specs.Owners.{is_own_function}
-use Rattle.layout.specs.Share.{Share}
+use Rattle.platform.specs.Owners.{is_own_function}
+use Rattle.platform.specs.Share.{Share}
 use Rattle.domain.specs.Domains.{DomainView}
-use Rattle.disposition.specs.Heads.{origin_id}
+use Rattle.fab_types.specs.Origins.{origin_id}
 use Rattle.domain.specs.State.{Delivery}
 use Rattle.monitor.specs.Lines.{violation_line}
 use Rattle.reports.specs.Rising.{IsRising}

@@ -3,7 +3,6 @@
 ghost use Rattle.std.specs.Prelude.{◌≡◌, IfOk, OnOk};
 ghost use Rattle.std.specs.List.{flat_map};
 ghost use Rattle.std.specs.Io.KnownBytes.{Appends};
-ghost use Rattle.disposition.specs.Heads.{origin_id};
 ghost use Rattle.reports.specs.Report.{AreParts, IsPart, counts_line, memory_lines, own_functions, packet_text, record_head, record_line, refusal_line, register_lines, status_name, violation_lines, violation_row};
 ghost use Rattle.reports.specs.Rising.{IsRising};
 ghost use Rattle.reports.specs.Writing.{Wrote};
@@ -126,16 +125,6 @@ fn write_register_page<W: Write>(out: &mut W, domain: &Domain, function: Bdf) ->
     }
 }
 
-/// The ID under which an origin makes requests.
-fn id_of(origin: Origin) -> Bdf
-    ensures { result ≡ origin_id origin }
-{
-    match origin {
-        Origin::Function(function) => function,
-        Origin::Host(domain) => domain.host(),
-    }
-}
-
 fn status_name(status: Status) -> &'static str
     ensures { result.now ≡ status_name status }
 {
@@ -160,7 +149,7 @@ fn write_records<W: Write>(alloc: Global, out: &mut W, records: &[Record]) -> io
 fn write_record_head<W: Write>(out: &mut W, delivery: &Record) -> io::Result<()>
     ensures { OnOk result (Appends (W.contents out.old) (W.contents out.new) (record_head delivery.now)) }
 {
-    let (owner, tag) = (id_of(delivery.owner()), delivery.tag());
+    let (owner, tag) = (delivery.owner().id(), delivery.tag());
     let status = status_name(delivery.status());
     write!(out, "record {owner} {tag:02x} {status} ")
 }

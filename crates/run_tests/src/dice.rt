@@ -1,10 +1,8 @@
 //! Events of the fabric of two domains in a random order, the same in every run.
 
-use crate::platform::Move;
-use domain::{HostAccess, Operation};
-use fab_types::{Bdf, Class, DomainId, Way};
+use crate::machine::Move;
+use fab_types::{Bdf, Class, DomainId, HostAccess, Operation, PacketBytes, Way};
 use fabric_core::Event;
-use frame_log::PacketBytes;
 use std::alloc::Global;
 use std::test::Fail;
 

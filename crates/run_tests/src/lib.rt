@@ -1,4 +1,4 @@
-//! Tests of fabrics and of the commands by their public calls.
+//! Tests of fabrics by their public calls.
 #![tactic(auto)]
 
 #[cfg(test)]
@@ -6,11 +6,9 @@ mod dice;
 #[cfg(test)]
 mod lists;
 #[cfg(test)]
+mod machine;
+#[cfg(test)]
 mod order;
-#[cfg(test)]
-mod outputs;
-#[cfg(test)]
-mod platform;
 #[cfg(test)]
 mod random_lists;
 #[cfg(test)]

@@ -1,11 +1,10 @@
 //! Lists of single events: what each answers, and what the domains have of them.
 
-use crate::platform::{Move, PLATFORM, direction};
+use crate::machine::{Move, PLATFORM, direction};
 use domain::Entry;
 use fab_types::Class::{Completion, NonPosted, Posted};
-use fab_types::{Bdf, Direction, DomainId, Outcome, Way};
+use fab_types::{Bdf, Direction, DomainId, Outcome, PacketBytes, Way};
 use fabric_core::{Event, Fabric};
-use frame_log::PacketBytes;
 use layout::Layout;
 use std::alloc::Global;
 use std::sync::Wait;

@@ -2,11 +2,10 @@
 //! the whole list.
 
 use crate::dice::Dice;
-use crate::platform::{PLATFORM, sweep_of};
-use domain::{Domain, HostAccess, Operation};
-use fab_types::{Bdf, CompareFault, DomainId, Violation};
+use crate::machine::{PLATFORM, sweep_of};
+use domain::Domain;
+use fab_types::{Bdf, CompareFault, DomainId, HostAccess, Operation, PacketBytes, Violation};
 use fabric_core::{Event, Fabric, purge_run};
-use frame_log::PacketBytes;
 use layout::Layout;
 use std::alloc::Global;
 use std::sync::Wait;

@@ -1,10 +1,9 @@
 //! Runs without the events of other domains: what a domain has of them, beside what it has of the whole run.
 
-use crate::platform::{PLATFORM, sweep_of};
+use crate::machine::{PLATFORM, sweep_of};
 use fab_types::Class::Posted;
-use fab_types::{Bdf, CompareFault, Direction, DomainId, Origin, PortId, Way};
+use fab_types::{Bdf, CompareFault, Direction, DomainId, Origin, PacketBytes, PortId, Way};
 use fabric_core::{Comparison, Event, Fabric, compare_runs, purge_run};
-use frame_log::PacketBytes;
 use layout::Layout;
 use std::alloc::Global;
 use std::sync::Wait;

@@ -2,12 +2,11 @@
 //! was consumed once; and once nothing moves any more, all of it was consumed.
 
 use crate::dice::Dice;
+use crate::machine::{PLATFORM, sweep_of};
 use crate::order::{Packet, are_in_order, has_pairs, is_host};
-use crate::platform::{PLATFORM, sweep_of};
 use domain::{Domain, Entry, Fate};
-use fab_types::{Bdf, Class, DomainId, Outcome};
+use fab_types::{Bdf, Class, DomainId, Outcome, PacketBytes};
 use fabric_core::{Event, Fabric};
-use frame_log::PacketBytes;
 use layout::Layout;
 use std::alloc::Global;
 use std::sync::Wait;

@@ -3,9 +3,9 @@
 use Rattle.std.specs.Prelude.{ℕ, ◌&&◌, nat_le, List, codes, Option, Some, None, option_map, if◌then◌else◌}
 use Rattle.std.specs.Str.{bytes_eq}
 use Rattle.text.specs.Text.{◌>>=◌, at_blank, decimal, hexadecimal, id_at}
-use Rattle.domain.specs.declared.access.Operation.{Operation}
-use Rattle.domain.specs.declared.access.Operation.TheVariants.{Read, Write}
-use Rattle.domain.specs.declared.access.HostAccess.{HostAccess}
+use Rattle.fab_types.specs.declared.host_access.Operation.{Operation}
+use Rattle.fab_types.specs.declared.host_access.Operation.TheVariants.{Read, Write}
+use Rattle.fab_types.specs.declared.host_access.HostAccess.{HostAccess}
 use Rattle.script.specs.declared.lines.Command.{Command}
 use Rattle.script.specs.declared.lines.Command.TheVariants.{Submit, Tick, Mmio, Sweep}
 use Rattle.script.specs.PacketWord.{packet_bytes}

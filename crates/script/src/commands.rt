@@ -7,10 +7,9 @@ ghost use Rattle.script.specs.Commands.{decimal_within, domain_text, submit_text
 
 use crate::lines::Command;
 use crate::packet_word::packet_bytes;
-use domain::{HostAccess, Operation};
-use fab_types::{DomainId, ScriptCause};
+use fab_types::{DomainId, HostAccess, Operation, ScriptCause};
 use std::alloc::Global;
-use text::{at_blank, decimal, hexadecimal, id, is_word};
+use text::{at_blank, decimal, hexadecimal, id, is_keyword};
 
 /// The most turns that a `sweep` may ask for.
 const MOST_TURNS: u32 = 1_000_000;
@@ -56,10 +55,10 @@ fn tick_text(rest: &[u8]) -> Result<Command, ScriptCause>
 fn operation_text(alloc: Global, word: &[u8], operand: &[u8]) -> Result<Operation, ScriptCause>
     ensures { IsRead (operation_text word.now operand.now) result }
 {
-    if is_word(word, "read") {
+    if is_keyword(word, "read") {
         return Ok(Operation::Read(decimal(operand).ok_or(ScriptCause::Line)?));
     }
-    if is_word(word, "write") {
+    if is_keyword(word, "write") {
         return Ok(Operation::Write(packet_bytes(alloc, operand)?));
     }
     Err(ScriptCause::Line)
@@ -116,13 +115,13 @@ fn sweep_text(rest: &[u8]) -> Result<Command, ScriptCause>
 fn command_of_word(alloc: Global, word: &[u8], rest: &[u8]) -> Result<Command, ScriptCause>
     ensures { IsRead (command_of_word word.now rest.now) result }
 {
-    if is_word(word, "submit") {
+    if is_keyword(word, "submit") {
         submit_text(alloc, rest)
-    } else if is_word(word, "tick") {
+    } else if is_keyword(word, "tick") {
         tick_text(rest)
-    } else if is_word(word, "mmio") {
+    } else if is_keyword(word, "mmio") {
         mmio_text(alloc, rest)
-    } else if is_word(word, "sweep") {
+    } else if is_keyword(word, "sweep") {
         sweep_text(rest)
     } else {
         Err(ScriptCause::Line)

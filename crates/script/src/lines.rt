@@ -1,8 +1,6 @@
 //! The lines of a script.
 
-use domain::HostAccess;
-use fab_types::{Bdf, DomainId};
-use frame_log::PacketBytes;
+use fab_types::{Bdf, DomainId, HostAccess, PacketBytes};
 
 /// What a line asks for.
 #[derive(Debug, Drop)]

@@ -5,11 +5,10 @@ ghost use Rattle.std.specs.List.{list_all};
 ghost use Rattle.script.specs.PacketWord.{is_lower_digit, is_hexadecimal, packet_bytes};
 ghost use Rattle.script.specs.Answers.{IsRead};
 
-use fab_types::ScriptCause;
-use frame_log::PacketBytes;
+use fab_types::{PacketBytes, ScriptCause};
 use hex::FromHexError;
 use std::alloc::Global;
-use text::is_word;
+use text::is_keyword;
 
 fn is_lower_digit(byte: u8) -> bool
     ensures { result ≡ is_lower_digit byte }
@@ -40,7 +39,7 @@ fn is_hexadecimal(text: &[u8]) -> bool
 pub fn packet_bytes(alloc: Global, word: &[u8]) -> Result<PacketBytes, ScriptCause>
     ensures { IsRead (packet_bytes word.now) result }
 {
-    if is_word(word, "-") {
+    if is_keyword(word, "-") {
         return Ok(PacketBytes::from_vec(Vec::new(alloc)));
     }
     if !is_hexadecimal(word) {

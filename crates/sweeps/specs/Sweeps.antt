@@ -4,7 +4,7 @@ use Rattle.std.specs.List.{flat_map, list_any}
 use Rattle.fab_types.specs.declared.outcome.Outcome.{Outcome}
 use Rattle.fab_types.specs.declared.outcome.Outcome.TheVariants.{Moved, NoMemory}
 use Rattle.fab_types.specs.declared.place.Way.TheVariants.{Up, Down}
-use Rattle.layout.specs.Platform.{Platform}
+use Rattle.platform.specs.Platform.{Platform}
 use Rattle.domain.specs.Domains.{DomainView}
 use Rattle.fabric_core.specs.declared.event.Event.{Event}
 use Rattle.fabric_core.specs.declared.station.Station.{Station}

@@ -42,7 +42,7 @@ pub fn at_blank(text: &[u8]) -> Option<Parts<'_>>
 }
 
 /// Is the field this word?
-pub fn is_word(field: &[u8], word: &str) -> bool
+pub fn is_keyword(field: &[u8], word: &str) -> bool
     ensures { result ≡ bytes_eq field.now word.now }
 {
     field == word.as_bytes()

@@ -14,7 +14,7 @@ use Rattle.tlp_view.specs.declared.kind.Kind.{Kind}
 use Rattle.tlp_view.specs.declared.kind.Kind.TheVariants.{MRd}
 use Rattle.tlp_view.specs.Packet.{Packet, Body, Memory, Message, Request, Completion}
 use Rattle.tlp_view.specs.Kinds.{kind_at, has_form, is_memory, is_message, is_completion}
-use Rattle.tlp_view.specs.Bytes.{bits, is_set, word_at, fmt_at, type_at, is_wide_at, attributes_at, address_type_of, length_at, enables_at, address_at, status_of, status_at, body_at, packet_of_kind, packet_of}
+use Rattle.tlp_view.specs.Bytes.{bits, is_set, be_u16_at, fmt_at, type_at, has_4dw_header_at, attributes_at, address_type_of, length_at, enables_at, address_at, status_of, status_at, body_at, packet_of_kind, packet_of}
 use Rattle.tlp_view.specs.Spelling.{flag, address_type_bits, status_bits, header, HasUnused, BodyFits, Fits, Spells}
 use Rattle.tlp_view.proofs.KindFacts.{byte_0, flag_again, flag_small, kind_again, wide_again, routing_again, memory_no_completion, message_no_memory, message_no_completion, completion_no_memory, completion_no_message, completion_is_narrow}
 
@@ -42,8 +42,8 @@ status_small UR = omega arith
 status_small CRS = omega arith
 status_small CA = omega arith
 
-pub same_packet : {a b : Packet} → a.kind ≡ b.kind → a.is_wide ≡ b.is_wide → a.attributes ≡ b.attributes → a.address_type ≡ b.address_type → a.length ≡ b.length → a.requester ≡ b.requester → a.tag ≡ b.tag → a.body ≡ b.body → a.payload ≡ b.payload → a ≡ b
-same_packet k w a t l r g b p = λ i. record { kind = k i; is_wide = w i; attributes = a i; address_type = t i; length = l i; requester = r i; tag = g i; body = b i; payload = p i }
+pub same_packet : {a b : Packet} → a.kind ≡ b.kind → a.has_4dw_header ≡ b.has_4dw_header → a.attributes ≡ b.attributes → a.address_type ≡ b.address_type → a.length ≡ b.length → a.requester ≡ b.requester → a.tag ≡ b.tag → a.body ≡ b.body → a.payload ≡ b.payload → a ≡ b
+same_packet k w a t l r g b p = λ i. record { kind = k i; has_4dw_header = w i; attributes = a i; address_type = t i; length = l i; requester = r i; tag = g i; body = b i; payload = p i }
 
 -- byte 2
 abbrev byte_2 : Attributes → AddressType → ℕ → ℕ
@@ -100,16 +100,16 @@ module _ (kind : Kind) (wide : Bool) (attributes : Attributes) (at : AddressType
   is_kind : kind_at (fmt_at all) (type_at all) ≡ Some kind
   is_kind = kind_again kind wide routing form routing_fits
 
-  pub is_wide : is_wide_at all ≡ wide
-  is_wide = wide_again kind wide routing routing_fits
+  pub has_4dw_header : has_4dw_header_at all ≡ wide
+  has_4dw_header = wide_again kind wide routing routing_fits
 
   packet_again : (requester tag : ℕ) (body : Body) (payload : List ℕ)
-      → cond (is_completion kind) (word_at all 8) (word_at all 4) ≡ requester → cond (is_completion kind) (slice_index all 10) (slice_index all 6) ≡ tag
+      → cond (is_completion kind) (be_u16_at all 8) (be_u16_at all 4) ≡ requester → cond (is_completion kind) (slice_index all 10) (slice_index all 6) ≡ tag
       → body_at kind all ≡ body → drop (cond wide 16 12) all ≡ payload
-      → packet_of all ≡ record { kind = kind; is_wide = wide; attributes = attributes; address_type = at; length = len; requester = requester; tag = tag; body = body; payload = payload }
+      → packet_of all ≡ record { kind = kind; has_4dw_header = wide; attributes = attributes; address_type = at; length = len; requester = requester; tag = tag; body = body; payload = payload }
   packet_again requester tag body payload r g b p =
       let e : packet_of all ≡ packet_of_kind kind all = ap (λ k. packet_of_kind (unwrap_or k MRd) all) is_kind in
-      e ∙ same_packet refl is_wide attributes_again at_again length_again r g b (ap (λ w. drop (cond w 16 12) all) is_wide ∙ p)
+      e ∙ same_packet refl has_4dw_header attributes_again at_again length_again r g b (ap (λ w. drop (cond w 16 12) all) has_4dw_header ∙ p)
 
 word_again : (n : ℕ) → n / 256 * 256 + n % 256 ≡ n
 word_again n = omega arith
@@ -120,30 +120,30 @@ body_memory kind bytes m = rw m refl
 pub body_message : (kind : Kind) (bytes : List ℕ) → is_message kind ≡ true → body_at kind bytes ≡ Message (bits (slice_index bytes 0) 0 3)
 body_message kind bytes m = rw (message_no_memory kind m, m) refl
 
-pub body_completion : (kind : Kind) (bytes : List ℕ) → is_completion kind ≡ true → body_at kind bytes ≡ Completion (word_at bytes 4) (unwrap_or (status_at bytes) SC) (bits (slice_index bytes 6) 0 4 * 256 + slice_index bytes 7) (slice_index bytes 11 % 128)
+pub body_completion : (kind : Kind) (bytes : List ℕ) → is_completion kind ≡ true → body_at kind bytes ≡ Completion (be_u16_at bytes 4) (unwrap_or (status_at bytes) SC) (bits (slice_index bytes 6) 0 4 * 256 + slice_index bytes 7) (slice_index bytes 11 % 128)
 body_completion kind bytes m = rw (completion_no_memory kind m, completion_no_message kind m, m) refl
 
 pub body_request : (kind : Kind) (bytes : List ℕ) → is_memory kind ≡ false → is_message kind ≡ false → is_completion kind ≡ false → body_at kind bytes ≡ Request
 body_request kind bytes m n c = rw (m, n, c) refl
 
-pub address_wide : (bytes : List ℕ) → is_wide_at bytes ≡ true → address_at bytes ≡ from_be_bytes w64 (slice_index bytes 8 ∷ slice_index bytes 9 ∷ slice_index bytes 10 ∷ slice_index bytes 11 ∷ slice_index bytes 12 ∷ slice_index bytes 13 ∷ slice_index bytes 14 ∷ slice_index bytes 15 ∷ [])
+pub address_wide : (bytes : List ℕ) → has_4dw_header_at bytes ≡ true → address_at bytes ≡ from_be_bytes w64 (slice_index bytes 8 ∷ slice_index bytes 9 ∷ slice_index bytes 10 ∷ slice_index bytes 11 ∷ slice_index bytes 12 ∷ slice_index bytes 13 ∷ slice_index bytes 14 ∷ slice_index bytes 15 ∷ [])
 unfolding address_at
 address_wide bytes e = rw e refl
 
-pub address_narrow : (bytes : List ℕ) → is_wide_at bytes ≡ false → address_at bytes ≡ from_be_bytes w32 (slice_index bytes 8 ∷ slice_index bytes 9 ∷ slice_index bytes 10 ∷ slice_index bytes 11 ∷ [])
+pub address_narrow : (bytes : List ℕ) → has_4dw_header_at bytes ≡ false → address_at bytes ≡ from_be_bytes w32 (slice_index bytes 8 ∷ slice_index bytes 9 ∷ slice_index bytes 10 ∷ slice_index bytes 11 ∷ [])
 unfolding address_at
 address_narrow bytes e = rw e refl
 
 module _ (kind : Kind) (attributes : Attributes) (at : AddressType) (len : ℕ) (len_fits : len < 1024) (requester tag : ℕ) (payload : List ℕ) where
   abbrev read_as : Bool → Body → Packet
-  read_as wide body = record { kind = kind; is_wide = wide; attributes = attributes; address_type = at; length = len; requester = requester; tag = tag; body = body; payload = payload }
+  read_as wide body = record { kind = kind; has_4dw_header = wide; attributes = attributes; address_type = at; length = len; requester = requester; tag = tag; body = body; payload = payload }
 
   -- the bytes of a request, from Requester ID on
   abbrev request_bytes : Bool → ℕ → List ℕ → List ℕ
   request_bytes wide routing rest = bytes_of kind wide attributes at len routing (requester / 256 ∷ requester % 256 ∷ tag ∷ rest)
 
-  requester_again : (wide : Bool) (routing : ℕ) (rest : List ℕ) → is_completion kind ≡ false → cond (is_completion kind) (word_at (request_bytes wide routing rest) 8) (word_at (request_bytes wide routing rest) 4) ≡ requester
-  requester_again wide routing rest other = cond-false (is_completion kind) (word_at (request_bytes wide routing rest) 8) (word_at (request_bytes wide routing rest) 4) other ∙ word_again requester
+  requester_again : (wide : Bool) (routing : ℕ) (rest : List ℕ) → is_completion kind ≡ false → cond (is_completion kind) (be_u16_at (request_bytes wide routing rest) 8) (be_u16_at (request_bytes wide routing rest) 4) ≡ requester
+  requester_again wide routing rest other = cond-false (is_completion kind) (be_u16_at (request_bytes wide routing rest) 8) (be_u16_at (request_bytes wide routing rest) 4) other ∙ word_again requester
 
   tag_again : (wide : Bool) (routing : ℕ) (rest : List ℕ) → is_completion kind ≡ false → cond (is_completion kind) (slice_index (request_bytes wide routing rest) 10) (slice_index (request_bytes wide routing rest) 6) ≡ tag
   tag_again wide routing rest other = cond-false (is_completion kind) (slice_index (request_bytes wide routing rest) 10) tag other
@@ -214,7 +214,7 @@ module _ (kind : Kind) (attributes : Attributes) (at : AddressType) (len : ℕ) 
         let all = bytes_of kind false attributes at len 0 rest in
         let is_body : body_at kind all ≡ Completion completer status count lower = body_completion kind all completion ∙ (λ i. Completion (word_again completer i) (named i) (count_is i) (lower_is i)) in
         packet_again kind false attributes at len form len_fits 0 (omega arith) rest requester tag (Completion completer status count lower) payload
-        (cond-true (is_completion kind) (word_at all 8) (word_at all 4) completion ∙ word_again requester) (cond-true (is_completion kind) tag (slice_index all 6) completion) is_body refl
+        (cond-true (is_completion kind) (be_u16_at all 8) (be_u16_at all 4) completion ∙ word_again requester) (cond-true (is_completion kind) tag (slice_index all 6) completion) is_body refl
 
   again_of : (wide : Bool) (body : Body) (unused : List ℕ) → has_form kind wide ≡ true → BodyFits kind wide body → HasUnused body wide unused → packet_of (header (read_as wide body) unused ++ payload) ≡ read_as wide body
   again_of true (Memory enables address) unused form fits none = memory_wide enables address fits.0 fits.1 form fits.3
@@ -225,8 +225,8 @@ module _ (kind : Kind) (attributes : Attributes) (at : AddressType) (len : ℕ) 
   again_of false (Completion completer status count lower) unused form fits long = completion_body unused completer status count lower fits.0 form fits.2 fits.3 long
 
 -- a packet's bytes are read as that packet
-pub packet_of-header : (t : Packet) (unused : List ℕ) → Fits t → HasUnused t.body t.is_wide unused → packet_of (header t unused ++ t.payload) ≡ t
-packet_of-header t unused fits u = again_of t.kind t.attributes t.address_type t.length fits.length t.requester t.tag t.payload t.is_wide t.body unused fits.form fits.body u
+pub packet_of-header : (t : Packet) (unused : List ℕ) → Fits t → HasUnused t.body t.has_4dw_header unused → packet_of (header t unused ++ t.payload) ≡ t
+packet_of-header t unused fits u = again_of t.kind t.attributes t.address_type t.length fits.length t.requester t.tag t.payload t.has_4dw_header t.body unused fits.form fits.body u
 
 pub packet_of-spelled : (bytes : List ℕ) (t : Packet) → Spells bytes t → packet_of bytes ≡ t
 packet_of-spelled bytes t s = ap packet_of s.put_together ∙ packet_of-header t s.unused s.fits s.has_unused

@@ -8,7 +8,7 @@ use Rattle.tlp_view.specs.declared.kind.Kind.{Kind}
 use Rattle.tlp_view.specs.declared.kind.Kind.TheVariants.{Cpl, CplD}
 use Rattle.tlp_view.specs.Packet.{Packet, dw_count}
 use Rattle.tlp_view.specs.Kinds.{kind_at, has_form, is_memory, is_completion}
-use Rattle.tlp_view.specs.Bytes.{bits, is_set, is_wide_at, fmt_at, type_at, length_at, status_of}
+use Rattle.tlp_view.specs.Bytes.{bits, is_set, has_4dw_header_at, fmt_at, type_at, length_at, status_of}
 use Rattle.tlp_view.specs.Malformed.{is_short, has_bad_size, has_bad_common, has_bad_field, malformed_of_kind, malformed}
 use Rattle.tlp_view.specs.Spelling.{flag, status_bits, Spells}
 use Rattle.tlp_view.specs.Completions.{completion, completion_bytes, HeadFits}
@@ -52,8 +52,8 @@ field_small attributes count small =
     let n = flag_small attributes.no_snoop in
     omega (arith, r, n)
 
-fine_length : (bytes : List ℕ) → 12 ≤ length bytes → is_wide_at bytes ≡ false → is_short bytes ≡ false
-fine_length bytes long narrow = or_from _ _ (le-ltb (length bytes) 12 long) (and_right (ltb (length bytes) 16) (is_wide_at bytes) narrow)
+fine_length : (bytes : List ℕ) → 12 ≤ length bytes → has_4dw_header_at bytes ≡ false → is_short bytes ≡ false
+fine_length bytes long narrow = or_from _ _ (le-ltb (length bytes) 12 long) (and_right (ltb (length bytes) 16) (has_4dw_header_at bytes) narrow)
 
 fine_size : (bytes : List ℕ) (n : ℕ) → length bytes ≡ 12 + n → n ≤ 256 → (not (eqb (length bytes) (12 + n)) || ltb 256 n || false) ≡ false
 fine_size bytes n whole small = or_from _ _ (or_from _ _ (ap not (eq-eqb (length bytes) (12 + n) whole)) (le-ltb 256 n small)) refl

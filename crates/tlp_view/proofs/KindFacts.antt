@@ -8,7 +8,7 @@ use Rattle.tlp_view.specs.Bytes.{bits, is_set}
 use Rattle.tlp_view.specs.Spelling.{flag}
 
 abbrev pub byte_0 : Kind → Bool → ℕ → ℕ
-byte_0 kind is_wide routing = 64 * flag (has_data kind) + 32 * flag is_wide + type_of kind routing
+byte_0 kind has_4dw_header routing = 64 * flag (has_data kind) + 32 * flag has_4dw_header + type_of kind routing
 
 pub flag_again : (b : Bool) → eqb (flag b) 1 ≡ b
 flag_again true = refl
@@ -70,7 +70,7 @@ type_any FetchAdd r s h = refl
 type_any Swap r s h = refl
 type_any CAS r s h = refl
 
-pub kind_again : (kind : Kind) (is_wide : Bool) (routing : ℕ) → has_form kind is_wide ≡ true → routing < 8 → kind_at (byte_0 kind is_wide routing / 32) (byte_0 kind is_wide routing % 32) ≡ Some kind
+pub kind_again : (kind : Kind) (has_4dw_header : Bool) (routing : ℕ) → has_form kind has_4dw_header ≡ true → routing < 8 → kind_at (byte_0 kind has_4dw_header routing / 32) (byte_0 kind has_4dw_header routing % 32) ≡ Some kind
 unfolding kind_at
 kind_again MRd true r f h = refl
 kind_again MRd false r f h = refl
@@ -109,33 +109,33 @@ kind_again Swap false r f h = refl
 kind_again CAS true r f h = refl
 kind_again CAS false r f h = refl
 
-pub wide_again : (kind : Kind) (is_wide : Bool) (routing : ℕ) → routing < 8 → is_set (byte_0 kind is_wide routing) 5 ≡ is_wide
-wide_again kind is_wide routing h =
+pub wide_again : (kind : Kind) (has_4dw_header : Bool) (routing : ℕ) → routing < 8 → is_set (byte_0 kind has_4dw_header routing) 5 ≡ has_4dw_header
+wide_again kind has_4dw_header routing h =
     let t = type_small kind routing h in
     let d = flag_small (has_data kind) in
-    let w = flag_small is_wide in
-    let e : byte_0 kind is_wide routing / 32 % 2 ≡ flag is_wide = omega (arith, t, d, w) in
-    ap (λ n. eqb n 1) e ∙ flag_again is_wide
+    let w = flag_small has_4dw_header in
+    let e : byte_0 kind has_4dw_header routing / 32 % 2 ≡ flag has_4dw_header = omega (arith, t, d, w) in
+    ap (λ n. eqb n 1) e ∙ flag_again has_4dw_header
 
-pub routing_again : (kind : Kind) (is_wide : Bool) (routing : ℕ) → is_message kind ≡ true → routing < 8 → bits (byte_0 kind is_wide routing) 0 3 ≡ routing
-routing_again MRd is_wide routing m h = absurd (false≢true m)
-routing_again MRdLk is_wide routing m h = absurd (false≢true m)
-routing_again MWr is_wide routing m h = absurd (false≢true m)
-routing_again IORd is_wide routing m h = absurd (false≢true m)
-routing_again IOWr is_wide routing m h = absurd (false≢true m)
-routing_again CfgRd0 is_wide routing m h = absurd (false≢true m)
-routing_again CfgWr0 is_wide routing m h = absurd (false≢true m)
-routing_again CfgRd1 is_wide routing m h = absurd (false≢true m)
-routing_again CfgWr1 is_wide routing m h = absurd (false≢true m)
-routing_again Msg is_wide routing m h = let w = flag_small is_wide in omega (arith, w)
-routing_again MsgD is_wide routing m h = let w = flag_small is_wide in omega (arith, w)
-routing_again Cpl is_wide routing m h = absurd (false≢true m)
-routing_again CplD is_wide routing m h = absurd (false≢true m)
-routing_again CplLk is_wide routing m h = absurd (false≢true m)
-routing_again CplDLk is_wide routing m h = absurd (false≢true m)
-routing_again FetchAdd is_wide routing m h = absurd (false≢true m)
-routing_again Swap is_wide routing m h = absurd (false≢true m)
-routing_again CAS is_wide routing m h = absurd (false≢true m)
+pub routing_again : (kind : Kind) (has_4dw_header : Bool) (routing : ℕ) → is_message kind ≡ true → routing < 8 → bits (byte_0 kind has_4dw_header routing) 0 3 ≡ routing
+routing_again MRd has_4dw_header routing m h = absurd (false≢true m)
+routing_again MRdLk has_4dw_header routing m h = absurd (false≢true m)
+routing_again MWr has_4dw_header routing m h = absurd (false≢true m)
+routing_again IORd has_4dw_header routing m h = absurd (false≢true m)
+routing_again IOWr has_4dw_header routing m h = absurd (false≢true m)
+routing_again CfgRd0 has_4dw_header routing m h = absurd (false≢true m)
+routing_again CfgWr0 has_4dw_header routing m h = absurd (false≢true m)
+routing_again CfgRd1 has_4dw_header routing m h = absurd (false≢true m)
+routing_again CfgWr1 has_4dw_header routing m h = absurd (false≢true m)
+routing_again Msg has_4dw_header routing m h = let w = flag_small has_4dw_header in omega (arith, w)
+routing_again MsgD has_4dw_header routing m h = let w = flag_small has_4dw_header in omega (arith, w)
+routing_again Cpl has_4dw_header routing m h = absurd (false≢true m)
+routing_again CplD has_4dw_header routing m h = absurd (false≢true m)
+routing_again CplLk has_4dw_header routing m h = absurd (false≢true m)
+routing_again CplDLk has_4dw_header routing m h = absurd (false≢true m)
+routing_again FetchAdd has_4dw_header routing m h = absurd (false≢true m)
+routing_again Swap has_4dw_header routing m h = absurd (false≢true m)
+routing_again CAS has_4dw_header routing m h = absurd (false≢true m)
 
 -- every byte that is of a kind is byte 0 of that kind
 taken_apart : Option Kind → ℕ → Bool

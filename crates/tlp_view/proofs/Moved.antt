@@ -18,8 +18,8 @@ use Rattle.tlp_view.proofs.Again.{body_memory, same_packet}
 use Rattle.tlp_view.proofs.Sound.{second_false, aligned_within, IsSound-view}
 
 made_of : (kind : Kind) (count : ℕ) (payload : List ℕ) → is_memory kind ≡ true → length payload ≡ cond (has_data kind) (4 * count) 0 → length payload ≤ 256 → IsMade kind count payload
-made_of MRd count payload memory sized small = record { memory = refl; many = refl; type_is = refl; form = λ is_wide. refl; sized = sized; small = small }
-made_of MWr count payload memory sized small = record { memory = refl; many = refl; type_is = refl; form = λ is_wide. refl; sized = sized; small = small }
+made_of MRd count payload memory sized small = record { memory = refl; many = refl; type_is = refl; form = λ has_4dw_header. refl; sized = sized; small = small }
+made_of MWr count payload memory sized small = record { memory = refl; many = refl; type_is = refl; form = λ has_4dw_header. refl; sized = sized; small = small }
 made_of _ count payload memory sized small = absurd cc
 
 -- enables look at the place in 8 bytes alone

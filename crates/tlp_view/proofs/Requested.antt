@@ -8,7 +8,7 @@ use Rattle.tlp_view.specs.declared.kind.Kind.TheVariants.{MRd, MWr}
 use Rattle.tlp_view.specs.declared.request.RequestHead.{RequestHead}
 use Rattle.tlp_view.specs.Packet.{Packet, dw_count}
 use Rattle.tlp_view.specs.Kinds.{kind_at, has_data, is_memory, is_completion, is_one_dw}
-use Rattle.tlp_view.specs.Bytes.{bits, is_set, is_wide_at, fmt_at, type_at, length_at, address_at, header_len, packet_of}
+use Rattle.tlp_view.specs.Bytes.{bits, is_set, has_4dw_header_at, fmt_at, type_at, length_at, address_at, header_len, packet_of}
 use Rattle.tlp_view.specs.Malformed.{is_short, data_len, has_bad_size, has_bad_enables, crosses, has_bad_common, has_bad_field, malformed_of_kind, malformed}
 use Rattle.tlp_view.specs.Spelling.{flag, address_type_bits, address_bytes, header, Fits, Spells}
 use Rattle.tlp_view.specs.Requests.{is_high, request, packet_bytes, all_enabled, RequestFits}
@@ -28,7 +28,7 @@ all_fine (suc (suc n)) address some =
 well_formed_by : (kind : Kind) (bytes : List ℕ) → is_short bytes ≡ false → kind_at (fmt_at bytes) (type_at bytes) ≡ Some kind → has_bad_size kind bytes ≡ false
     → (is_memory kind && has_bad_enables (dw_count (length_at bytes)) (address_at bytes) (slice_index bytes 7 % 16) (slice_index bytes 7 / 16)) ≡ false
     → (is_memory kind && crosses (dw_count (length_at bytes)) (address_at bytes)) ≡ false
-    → (is_memory kind && is_wide_at bytes && ltb (address_at bytes) (2 ^ 32)) ≡ false
+    → (is_memory kind && has_4dw_header_at bytes && ltb (address_at bytes) (2 ^ 32)) ≡ false
     → has_bad_field kind bytes ≡ false → malformed bytes ≡ None
 unfolding malformed malformed_of_kind
 well_formed_by kind bytes long is_kind size enables within high field = rw (long, is_kind, size, enables, within, high, field) refl
@@ -80,7 +80,7 @@ fine_field kind bytes common aligned other = or_from _ _ (or_from _ _ common (an
 
 module _ (kind : Kind) (head : RequestHead) (count : ℕ) (payload : List ℕ) (made : IsMade kind count payload) (fits : RequestFits head count) where
   abbrev of_size : Bool → Packet
-  of_size wide = record (request kind head count payload) { is_wide = wide }
+  of_size wide = record (request kind head count payload) { has_4dw_header = wide }
 
   abbrev bytes_of : Bool → List ℕ
   bytes_of wide = packet_bytes (of_size wide)
@@ -88,7 +88,7 @@ module _ (kind : Kind) (head : RequestHead) (count : ℕ) (payload : List ℕ) (
   field_small : count % 1024 < 1024
   field_small = omega arith
 
-  is_wide_now : (wide : Bool) → is_wide_at (bytes_of wide) ≡ wide
+  is_wide_now : (wide : Bool) → has_4dw_header_at (bytes_of wide) ≡ wide
   is_wide_now wide = wide_again kind wide 0 (omega arith)
 
   count_now : (wide : Bool) → dw_count (length_at (bytes_of wide)) ≡ count
@@ -100,7 +100,7 @@ module _ (kind : Kind) (head : RequestHead) (count : ℕ) (payload : List ℕ) (
   data_now wide = ap (λ n. cond (has_data kind) (4 * n) 0) (count_now wide) ∙ sym made.sized
 
   fine_at : (wide : Bool) (h : ℕ) → is_short (bytes_of wide) ≡ false → header_len (bytes_of wide) ≡ h → length (bytes_of wide) ≡ h + length payload → address_at (bytes_of wide) ≡ head.address
-      → (is_memory kind && is_wide_at (bytes_of wide) && ltb (address_at (bytes_of wide)) (2 ^ 32)) ≡ false → malformed (bytes_of wide) ≡ None
+      → (is_memory kind && has_4dw_header_at (bytes_of wide) && ltb (address_at (bytes_of wide)) (2 ^ 32)) ≡ false → malformed (bytes_of wide) ≡ None
   fine_at wide h long header whole address high =
       let first : (16 * head.enables.last + head.enables.first) % 16 ≡ head.enables.first = omega (arith, fits.first) in
       let last : (16 * head.enables.last + head.enables.first) / 16 ≡ head.enables.last = omega (arith, fits.first) in
@@ -189,7 +189,7 @@ pub made_small : (address start end len n : ℕ) → start ≡ 8 → end ≡ sta
 made_small address start end len n s e l small = len_small (is_high address) start end len n s e l small
 
 pub read_made : (count : ℕ) → IsMade MRd count []
-read_made count = record { memory = refl; many = refl; type_is = refl; form = λ is_wide. refl; sized = refl; small = omega arith }
+read_made count = record { memory = refl; many = refl; type_is = refl; form = λ has_4dw_header. refl; sized = refl; small = omega arith }
 
 pub write_made : (payload : List ℕ) → length payload ≤ 256 → length payload % 4 ≡ 0 → IsMade MWr (length payload / 4) payload
-write_made payload small whole = record { memory = refl; many = refl; type_is = refl; form = λ is_wide. refl; sized = omega (arith, whole); small = small }
+write_made payload small whole = record { memory = refl; many = refl; type_is = refl; form = λ has_4dw_header. refl; sized = omega (arith, whole); small = small }

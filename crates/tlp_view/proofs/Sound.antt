@@ -5,7 +5,7 @@ use Rattle.fab_types.specs.declared.faults.malformed.Malformed.TheVariants.{Size
 use Rattle.tlp_view.specs.declared.kind.Kind.{Kind}
 use Rattle.tlp_view.specs.Packet.{dw_count}
 use Rattle.tlp_view.specs.Kinds.{is_memory}
-use Rattle.tlp_view.specs.Bytes.{is_wide_at, header_len, length_at, address_at, packet_of_kind, packet_of}
+use Rattle.tlp_view.specs.Bytes.{has_4dw_header_at, header_len, length_at, address_at, packet_of_kind, packet_of}
 use Rattle.tlp_view.specs.Malformed.{data_len, has_bad_size, has_bad_enables, crosses, has_bad_field, malformed_of_kind, malformed}
 use Rattle.tlp_view.specs.View.{IsView, IsSound}
 use Rattle.tlp_view.proofs.WellFormed.{passes, view_of, packet-kind}
@@ -31,7 +31,7 @@ whole_dw kind bytes fine memory =
 pub aligned_within : (kind : Kind) (bytes : List ℕ) → malformed_of_kind kind bytes ≡ None → is_memory kind ≡ true → (address_at bytes % 4 ≡ 0) × (address_at bytes % 4096 + 4 * dw_count (length_at bytes) ≤ 4096)
 unfolding malformed_of_kind crosses
 aligned_within kind bytes fine memory =
-    let tests = fine_memory (has_bad_size kind bytes) (is_memory kind && has_bad_enables (dw_count (length_at bytes)) (address_at bytes) (slice_index bytes 7 % 16) (slice_index bytes 7 / 16)) (is_memory kind && crosses (dw_count (length_at bytes)) (address_at bytes)) (is_memory kind && is_wide_at bytes && nat_lt (address_at bytes) (2 ^ 32)) (has_bad_field kind bytes) Size BadEnables Crosses HighForm Field fine in
+    let tests = fine_memory (has_bad_size kind bytes) (is_memory kind && has_bad_enables (dw_count (length_at bytes)) (address_at bytes) (slice_index bytes 7 % 16) (slice_index bytes 7 / 16)) (is_memory kind && crosses (dw_count (length_at bytes)) (address_at bytes)) (is_memory kind && has_4dw_header_at bytes && nat_lt (address_at bytes) (2 ^ 32)) (has_bad_field kind bytes) Size BadEnables Crosses HighForm Field fine in
     let page = ltb-false 4096 (address_at bytes / 4 * 4 % 4096 + 4 * dw_count (length_at bytes)) (second_false (is_memory kind) (crosses (dw_count (length_at bytes)) (address_at bytes)) memory tests.0) in
     let whole = whole_dw kind bytes tests.1 memory in
     let same : address_at bytes / 4 * 4 ≡ address_at bytes = omega (arith, whole) in

@@ -8,7 +8,7 @@ use Rattle.fab_types.specs.declared.faults.malformed.Malformed.TheVariants.{Size
 use Rattle.tlp_view.specs.declared.kind.Kind.{Kind}
 use Rattle.tlp_view.specs.Packet.{dw_count, Packet, Memory, Message, Request, Completion}
 use Rattle.tlp_view.specs.Kinds.{kind_at, has_data, has_form, type_of, is_memory, is_message, is_completion}
-use Rattle.tlp_view.specs.Bytes.{bits, is_set, word_at, fmt_at, type_at, is_wide_at, header_len, length_at, enables_at, address_at, status_at, body_at, packet_of_kind, packet_of}
+use Rattle.tlp_view.specs.Bytes.{bits, is_set, be_u16_at, fmt_at, type_at, has_4dw_header_at, header_len, length_at, enables_at, address_at, status_at, body_at, packet_of_kind, packet_of}
 use Rattle.tlp_view.specs.Malformed.{has_bad_size, has_bad_enables, crosses, has_bad_common, has_bad_field, malformed_of_kind, malformed}
 use Rattle.tlp_view.specs.Spelling.{flag, routing_in, first_dw, other_dws, header, BodyFits, Fits, Spells}
 use Rattle.tlp_view.proofs.KindFacts.{byte_0-apart, type_any, memory_no_completion, message_no_completion, completion_is_narrow, message_is_wide}
@@ -39,17 +39,17 @@ module _ (kind : Kind) (b0 b1 b2 b3 : ℕ) (tail : List ℕ) where
       λ i. e0 i ∷ e1 i ∷ e2 i ∷ e3 i ∷ []
 
   joined_up : (unused : List ℕ) → first_dw (packet_of_kind kind all) ≡ b0 ∷ b1 ∷ b2 ∷ b3 ∷ []
-      → other_dws (is_wide_at all) (packet_of_kind kind all).requester (packet_of_kind kind all).tag (body_at kind all) unused ++ drop (header_len all) all ≡ tail
+      → other_dws (has_4dw_header_at all) (packet_of_kind kind all).requester (packet_of_kind kind all).tag (body_at kind all) unused ++ drop (header_len all) all ≡ tail
       → all ≡ header (packet_of_kind kind all) unused ++ drop (header_len all) all
   joined_up unused first others =
-      let other = other_dws (is_wide_at all) (packet_of_kind kind all).requester (packet_of_kind kind all).tag (body_at kind all) unused in
+      let other = other_dws (has_4dw_header_at all) (packet_of_kind kind all).requester (packet_of_kind kind all).tag (body_at kind all) unused in
       sym (ap (λ x. x ++ other ++ drop (header_len all) all) first ∙ ap (λ x. b0 ∷ b1 ∷ b2 ∷ b3 ∷ x) others)
 
-fits_from : (kind : Kind) (bytes : List ℕ) → IsBytes bytes → kind_at (fmt_at bytes) (type_at bytes) ≡ Some kind → BodyFits kind (is_wide_at bytes) (body_at kind bytes) → Fits (packet_of_kind kind bytes)
+fits_from : (kind : Kind) (bytes : List ℕ) → IsBytes bytes → kind_at (fmt_at bytes) (type_at bytes) ≡ Some kind → BodyFits kind (has_4dw_header_at bytes) (body_at kind bytes) → Fits (packet_of_kind kind bytes)
 fits_from kind bytes fits is_kind body = record {
   form = (byte_0-apart (slice_index bytes 0) kind (fits 0) is_kind).1;
   length = omega (arith, fits 3);
-  requester = cond_both (is_completion kind) (word_at bytes 8) (word_at bytes 4) (λ n. n < 2 ^ 16) (λ _. omega (arith, fits 8, fits 9)) (λ _. omega (arith, fits 4, fits 5));
+  requester = cond_both (is_completion kind) (be_u16_at bytes 8) (be_u16_at bytes 4) (λ n. n < 2 ^ 16) (λ _. omega (arith, fits 8, fits 9)) (λ _. omega (arith, fits 4, fits 5));
   tag = cond_both (is_completion kind) (slice_index bytes 10) (slice_index bytes 6) (λ n. n < 2 ^ 8) (λ _. fits 10) (λ _. fits 6);
   body = body;
 }
@@ -63,7 +63,7 @@ bad_common : (kind : Kind) (bytes : List ℕ) → has_bad_field kind bytes ≡ f
 unfolding has_bad_field
 bad_common kind bytes fine = (or_parts _ _ (or_parts _ _ fine).0).0
 
-module _ (kind : Kind) (b0 b1 b2 b3 b4 b5 b6 b7 b8 b9 b10 b11 : ℕ) (rest : List ℕ) (fits : IsBytes (b0 ∷ b1 ∷ b2 ∷ b3 ∷ b4 ∷ b5 ∷ b6 ∷ b7 ∷ b8 ∷ b9 ∷ b10 ∷ b11 ∷ rest)) (wide : is_wide_at (b0 ∷ b1 ∷ b2 ∷ b3 ∷ b4 ∷ b5 ∷ b6 ∷ b7 ∷ b8 ∷ b9 ∷ b10 ∷ b11 ∷ rest) ≡ false)
+module _ (kind : Kind) (b0 b1 b2 b3 b4 b5 b6 b7 b8 b9 b10 b11 : ℕ) (rest : List ℕ) (fits : IsBytes (b0 ∷ b1 ∷ b2 ∷ b3 ∷ b4 ∷ b5 ∷ b6 ∷ b7 ∷ b8 ∷ b9 ∷ b10 ∷ b11 ∷ rest)) (wide : has_4dw_header_at (b0 ∷ b1 ∷ b2 ∷ b3 ∷ b4 ∷ b5 ∷ b6 ∷ b7 ∷ b8 ∷ b9 ∷ b10 ∷ b11 ∷ rest) ≡ false)
     (is_kind : kind_at (b0 / 32) (b0 % 32) ≡ Some kind) (fine : has_bad_field kind (b0 ∷ b1 ∷ b2 ∷ b3 ∷ b4 ∷ b5 ∷ b6 ∷ b7 ∷ b8 ∷ b9 ∷ b10 ∷ b11 ∷ rest) ≡ false) (well : malformed (b0 ∷ b1 ∷ b2 ∷ b3 ∷ b4 ∷ b5 ∷ b6 ∷ b7 ∷ b8 ∷ b9 ∷ b10 ∷ b11 ∷ rest) ≡ None) where
   abbrev bytes_narrow : List ℕ
   bytes_narrow = b0 ∷ b1 ∷ b2 ∷ b3 ∷ b4 ∷ b5 ∷ b6 ∷ b7 ∷ b8 ∷ b9 ∷ b10 ∷ b11 ∷ rest
@@ -71,7 +71,7 @@ module _ (kind : Kind) (b0 b1 b2 b3 b4 b5 b6 b7 b8 b9 b10 b11 : ℕ) (rest : Lis
   abbrev packet_narrow : Packet
   packet_narrow = packet_of_kind kind bytes_narrow
 
-  together_narrow : (unused : List ℕ) → other_dws (is_wide_at bytes_narrow) packet_narrow.requester packet_narrow.tag (body_at kind bytes_narrow) unused ++ drop (header_len bytes_narrow) bytes_narrow ≡ b4 ∷ b5 ∷ b6 ∷ b7 ∷ b8 ∷ b9 ∷ b10 ∷ b11 ∷ rest
+  together_narrow : (unused : List ℕ) → other_dws (has_4dw_header_at bytes_narrow) packet_narrow.requester packet_narrow.tag (body_at kind bytes_narrow) unused ++ drop (header_len bytes_narrow) bytes_narrow ≡ b4 ∷ b5 ∷ b6 ∷ b7 ∷ b8 ∷ b9 ∷ b10 ∷ b11 ∷ rest
       → bytes_narrow ≡ header packet_narrow unused ++ packet_narrow.payload
   together_narrow unused others =
       joined_up kind b0 b1 b2 b3 (b4 ∷ b5 ∷ b6 ∷ b7 ∷ b8 ∷ b9 ∷ b10 ∷ b11 ∷ rest) unused (first_apart kind b0 b1 b2 b3 (b4 ∷ b5 ∷ b6 ∷ b7 ∷ b8 ∷ b9 ∷ b10 ∷ b11 ∷ rest) (fits 0) (fits 1) (fits 2) (fits 3) is_kind (bad_common kind bytes_narrow fine)) others
@@ -79,7 +79,7 @@ module _ (kind : Kind) (b0 b1 b2 b3 b4 b5 b6 b7 b8 b9 b10 b11 : ℕ) (rest : Lis
   memory_narrow : is_memory kind ≡ true → Spells bytes_narrow packet_narrow
   memory_narrow memory =
       let other = memory_no_completion kind memory in
-      let r = cond-false (is_completion kind) (word_at bytes_narrow 8) (word_at bytes_narrow 4) other in
+      let r = cond-false (is_completion kind) (be_u16_at bytes_narrow 8) (be_u16_at bytes_narrow 4) other in
       let g = cond-false (is_completion kind) b10 b6 other in
       let is_body = body_memory kind bytes_narrow memory in
       let placed = address_narrow bytes_narrow wide in
@@ -87,12 +87,12 @@ module _ (kind : Kind) (b0 b1 b2 b3 b4 b5 b6 b7 b8 b9 b10 b11 : ℕ) (rest : Lis
       let high = high_apart b4 b5 (fits 5) in
       let low = low_apart b4 b5 (fits 5) in
       let enables : 16 * (b7 / 16) + b7 % 16 ≡ b7 = omega arith in
-      let shown : other_dws (is_wide_at bytes_narrow) packet_narrow.requester packet_narrow.tag (body_at kind bytes_narrow) [] ++ drop (header_len bytes_narrow) bytes_narrow ≡ other_dws false (b4 * 256 + b5) b6 (Memory (enables_at bytes_narrow) (address_at bytes_narrow)) [] ++ rest =
+      let shown : other_dws (has_4dw_header_at bytes_narrow) packet_narrow.requester packet_narrow.tag (body_at kind bytes_narrow) [] ++ drop (header_len bytes_narrow) bytes_narrow ≡ other_dws false (b4 * 256 + b5) b6 (Memory (enables_at bytes_narrow) (address_at bytes_narrow)) [] ++ rest =
       λ i. other_dws (wide i) (r i) (g i) (is_body i) [] ++ drop (cond (wide i) 16 12) bytes_narrow in
       let taken : other_dws false (b4 * 256 + b5) b6 (Memory (enables_at bytes_narrow) (address_at bytes_narrow)) [] ++ rest ≡ b4 ∷ b5 ∷ b6 ∷ b7 ∷ b8 ∷ b9 ∷ b10 ∷ b11 ∷ rest =
       λ i. high i ∷ low i ∷ b6 ∷ enables i ∷ (address i ++ rest) in
       let small : address_at bytes_narrow < 2 ^ 32 = rw placed (four_small b8 b9 b10 b11 (fits 8) (fits 9) (fits 10) (fits 11)) in
-      let body_fits : BodyFits kind (is_wide_at bytes_narrow) (body_at kind bytes_narrow) = rw (is_body, wide) (memory, omega (arith, fits 7), omega (arith, fits 7), small) in
+      let body_fits : BodyFits kind (has_4dw_header_at bytes_narrow) (body_at kind bytes_narrow) = rw (is_body, wide) (memory, omega (arith, fits 7), omega (arith, fits 7), small) in
       record {
         fits = fits_from kind bytes_narrow fits is_kind body_fits;
         unused = [];
@@ -103,17 +103,17 @@ module _ (kind : Kind) (b0 b1 b2 b3 b4 b5 b6 b7 b8 b9 b10 b11 : ℕ) (rest : Lis
 
   request_narrow : is_memory kind ≡ false → is_message kind ≡ false → is_completion kind ≡ false → Spells bytes_narrow packet_narrow
   request_narrow memory message other =
-      let r = cond-false (is_completion kind) (word_at bytes_narrow 8) (word_at bytes_narrow 4) other in
+      let r = cond-false (is_completion kind) (be_u16_at bytes_narrow 8) (be_u16_at bytes_narrow 4) other in
       let g = cond-false (is_completion kind) b10 b6 other in
       let is_body = body_request kind bytes_narrow memory message other in
       let high = high_apart b4 b5 (fits 5) in
       let low = low_apart b4 b5 (fits 5) in
       let unused : List ℕ = b7 ∷ b8 ∷ b9 ∷ b10 ∷ b11 ∷ [] in
-      let shown : other_dws (is_wide_at bytes_narrow) packet_narrow.requester packet_narrow.tag (body_at kind bytes_narrow) unused ++ drop (header_len bytes_narrow) bytes_narrow ≡ other_dws false (b4 * 256 + b5) b6 Request unused ++ rest =
+      let shown : other_dws (has_4dw_header_at bytes_narrow) packet_narrow.requester packet_narrow.tag (body_at kind bytes_narrow) unused ++ drop (header_len bytes_narrow) bytes_narrow ≡ other_dws false (b4 * 256 + b5) b6 Request unused ++ rest =
       λ i. other_dws (wide i) (r i) (g i) (is_body i) unused ++ drop (cond (wide i) 16 12) bytes_narrow in
       let taken : other_dws false (b4 * 256 + b5) b6 Request unused ++ rest ≡ b4 ∷ b5 ∷ b6 ∷ b7 ∷ b8 ∷ b9 ∷ b10 ∷ b11 ∷ rest =
       λ i. high i ∷ low i ∷ b6 ∷ (unused ++ rest) in
-      let body_fits : BodyFits kind (is_wide_at bytes_narrow) (body_at kind bytes_narrow) = rw is_body (memory, message, other) in
+      let body_fits : BodyFits kind (has_4dw_header_at bytes_narrow) (body_at kind bytes_narrow) = rw is_body (memory, message, other) in
       record {
         fits = fits_from kind bytes_narrow fits is_kind body_fits;
         unused = unused;
@@ -124,7 +124,7 @@ module _ (kind : Kind) (b0 b1 b2 b3 b4 b5 b6 b7 b8 b9 b10 b11 : ℕ) (rest : Lis
 
   completion_narrow : is_completion kind ≡ true → Spells bytes_narrow packet_narrow
   completion_narrow completion =
-      let r = cond-true (is_completion kind) (word_at bytes_narrow 8) (word_at bytes_narrow 4) completion in
+      let r = cond-true (is_completion kind) (be_u16_at bytes_narrow 8) (be_u16_at bytes_narrow 4) completion in
       let g = cond-true (is_completion kind) b10 b6 completion in
       let is_body = body_completion kind bytes_narrow completion in
       let status = unwrap_or (status_at bytes_narrow) SC in
@@ -138,11 +138,11 @@ module _ (kind : Kind) (b0 b1 b2 b3 b4 b5 b6 b7 b8 b9 b10 b11 : ℕ) (rest : Lis
       let e8 = high_apart b8 b9 (fits 9) in
       let e9 = low_apart b8 b9 (fits 9) in
       let e11 = bit.2 in
-      let shown : other_dws (is_wide_at bytes_narrow) packet_narrow.requester packet_narrow.tag (body_at kind bytes_narrow) unused ++ drop (header_len bytes_narrow) bytes_narrow ≡ other_dws false (b8 * 256 + b9) b10 (Completion (b4 * 256 + b5) status count (b11 % 128)) unused ++ rest =
+      let shown : other_dws (has_4dw_header_at bytes_narrow) packet_narrow.requester packet_narrow.tag (body_at kind bytes_narrow) unused ++ drop (header_len bytes_narrow) bytes_narrow ≡ other_dws false (b8 * 256 + b9) b10 (Completion (b4 * 256 + b5) status count (b11 % 128)) unused ++ rest =
       λ i. other_dws (wide i) (r i) (g i) (is_body i) unused ++ drop (cond (wide i) 16 12) bytes_narrow in
       let taken : other_dws false (b8 * 256 + b9) b10 (Completion (b4 * 256 + b5) status count (b11 % 128)) unused ++ rest ≡ b4 ∷ b5 ∷ b6 ∷ b7 ∷ b8 ∷ b9 ∷ b10 ∷ b11 ∷ rest =
       λ i. e4 i ∷ e5 i ∷ e6 i ∷ e7 i ∷ e8 i ∷ e9 i ∷ b10 ∷ e11 i ∷ rest in
-      let body_fits : BodyFits kind (is_wide_at bytes_narrow) (body_at kind bytes_narrow) = rw is_body (completion, omega (arith, fits 4, fits 5), omega (arith, fits 7), omega arith) in
+      let body_fits : BodyFits kind (has_4dw_header_at bytes_narrow) (body_at kind bytes_narrow) = rw is_body (completion, omega (arith, fits 4, fits 5), omega (arith, fits 7), omega arith) in
       record {
         fits = fits_from kind bytes_narrow fits is_kind body_fits;
         unused = unused;
@@ -151,7 +151,7 @@ module _ (kind : Kind) (b0 b1 b2 b3 b4 b5 b6 b7 b8 b9 b10 b11 : ℕ) (rest : Lis
         well_formed = well;
       }
 
-module _ (kind : Kind) (b0 b1 b2 b3 b4 b5 b6 b7 b8 b9 b10 b11 b12 b13 b14 b15 : ℕ) (rest : List ℕ) (fits : IsBytes (b0 ∷ b1 ∷ b2 ∷ b3 ∷ b4 ∷ b5 ∷ b6 ∷ b7 ∷ b8 ∷ b9 ∷ b10 ∷ b11 ∷ b12 ∷ b13 ∷ b14 ∷ b15 ∷ rest)) (wide : is_wide_at (b0 ∷ b1 ∷ b2 ∷ b3 ∷ b4 ∷ b5 ∷ b6 ∷ b7 ∷ b8 ∷ b9 ∷ b10 ∷ b11 ∷ b12 ∷ b13 ∷ b14 ∷ b15 ∷ rest) ≡ true)
+module _ (kind : Kind) (b0 b1 b2 b3 b4 b5 b6 b7 b8 b9 b10 b11 b12 b13 b14 b15 : ℕ) (rest : List ℕ) (fits : IsBytes (b0 ∷ b1 ∷ b2 ∷ b3 ∷ b4 ∷ b5 ∷ b6 ∷ b7 ∷ b8 ∷ b9 ∷ b10 ∷ b11 ∷ b12 ∷ b13 ∷ b14 ∷ b15 ∷ rest)) (wide : has_4dw_header_at (b0 ∷ b1 ∷ b2 ∷ b3 ∷ b4 ∷ b5 ∷ b6 ∷ b7 ∷ b8 ∷ b9 ∷ b10 ∷ b11 ∷ b12 ∷ b13 ∷ b14 ∷ b15 ∷ rest) ≡ true)
     (is_kind : kind_at (b0 / 32) (b0 % 32) ≡ Some kind) (fine : has_bad_field kind (b0 ∷ b1 ∷ b2 ∷ b3 ∷ b4 ∷ b5 ∷ b6 ∷ b7 ∷ b8 ∷ b9 ∷ b10 ∷ b11 ∷ b12 ∷ b13 ∷ b14 ∷ b15 ∷ rest) ≡ false) (well : malformed (b0 ∷ b1 ∷ b2 ∷ b3 ∷ b4 ∷ b5 ∷ b6 ∷ b7 ∷ b8 ∷ b9 ∷ b10 ∷ b11 ∷ b12 ∷ b13 ∷ b14 ∷ b15 ∷ rest) ≡ None) where
   abbrev bytes_wide : List ℕ
   bytes_wide = b0 ∷ b1 ∷ b2 ∷ b3 ∷ b4 ∷ b5 ∷ b6 ∷ b7 ∷ b8 ∷ b9 ∷ b10 ∷ b11 ∷ b12 ∷ b13 ∷ b14 ∷ b15 ∷ rest
@@ -159,7 +159,7 @@ module _ (kind : Kind) (b0 b1 b2 b3 b4 b5 b6 b7 b8 b9 b10 b11 b12 b13 b14 b15 : 
   abbrev packet_wide : Packet
   packet_wide = packet_of_kind kind bytes_wide
 
-  together_wide : (unused : List ℕ) → other_dws (is_wide_at bytes_wide) packet_wide.requester packet_wide.tag (body_at kind bytes_wide) unused ++ drop (header_len bytes_wide) bytes_wide ≡ b4 ∷ b5 ∷ b6 ∷ b7 ∷ b8 ∷ b9 ∷ b10 ∷ b11 ∷ b12 ∷ b13 ∷ b14 ∷ b15 ∷ rest
+  together_wide : (unused : List ℕ) → other_dws (has_4dw_header_at bytes_wide) packet_wide.requester packet_wide.tag (body_at kind bytes_wide) unused ++ drop (header_len bytes_wide) bytes_wide ≡ b4 ∷ b5 ∷ b6 ∷ b7 ∷ b8 ∷ b9 ∷ b10 ∷ b11 ∷ b12 ∷ b13 ∷ b14 ∷ b15 ∷ rest
       → bytes_wide ≡ header packet_wide unused ++ packet_wide.payload
   together_wide unused others =
       joined_up kind b0 b1 b2 b3 (b4 ∷ b5 ∷ b6 ∷ b7 ∷ b8 ∷ b9 ∷ b10 ∷ b11 ∷ b12 ∷ b13 ∷ b14 ∷ b15 ∷ rest) unused (first_apart kind b0 b1 b2 b3 (b4 ∷ b5 ∷ b6 ∷ b7 ∷ b8 ∷ b9 ∷ b10 ∷ b11 ∷ b12 ∷ b13 ∷ b14 ∷ b15 ∷ rest) (fits 0) (fits 1) (fits 2) (fits 3) is_kind (bad_common kind bytes_wide fine)) others
@@ -167,7 +167,7 @@ module _ (kind : Kind) (b0 b1 b2 b3 b4 b5 b6 b7 b8 b9 b10 b11 b12 b13 b14 b15 : 
   memory_wide : is_memory kind ≡ true → Spells bytes_wide packet_wide
   memory_wide memory =
       let other = memory_no_completion kind memory in
-      let r = cond-false (is_completion kind) (word_at bytes_wide 8) (word_at bytes_wide 4) other in
+      let r = cond-false (is_completion kind) (be_u16_at bytes_wide 8) (be_u16_at bytes_wide 4) other in
       let g = cond-false (is_completion kind) b10 b6 other in
       let is_body = body_memory kind bytes_wide memory in
       let placed = address_wide bytes_wide wide in
@@ -175,12 +175,12 @@ module _ (kind : Kind) (b0 b1 b2 b3 b4 b5 b6 b7 b8 b9 b10 b11 b12 b13 b14 b15 : 
       let high = high_apart b4 b5 (fits 5) in
       let low = low_apart b4 b5 (fits 5) in
       let enables : 16 * (b7 / 16) + b7 % 16 ≡ b7 = omega arith in
-      let shown : other_dws (is_wide_at bytes_wide) packet_wide.requester packet_wide.tag (body_at kind bytes_wide) [] ++ drop (header_len bytes_wide) bytes_wide ≡ other_dws true (b4 * 256 + b5) b6 (Memory (enables_at bytes_wide) (address_at bytes_wide)) [] ++ rest =
+      let shown : other_dws (has_4dw_header_at bytes_wide) packet_wide.requester packet_wide.tag (body_at kind bytes_wide) [] ++ drop (header_len bytes_wide) bytes_wide ≡ other_dws true (b4 * 256 + b5) b6 (Memory (enables_at bytes_wide) (address_at bytes_wide)) [] ++ rest =
       λ i. other_dws (wide i) (r i) (g i) (is_body i) [] ++ drop (cond (wide i) 16 12) bytes_wide in
       let taken : other_dws true (b4 * 256 + b5) b6 (Memory (enables_at bytes_wide) (address_at bytes_wide)) [] ++ rest ≡ b4 ∷ b5 ∷ b6 ∷ b7 ∷ b8 ∷ b9 ∷ b10 ∷ b11 ∷ b12 ∷ b13 ∷ b14 ∷ b15 ∷ rest =
       λ i. high i ∷ low i ∷ b6 ∷ enables i ∷ (address i ++ rest) in
       let small : address_at bytes_wide < 2 ^ 64 = rw placed (eight_small b8 b9 b10 b11 b12 b13 b14 b15 (fits 8) (fits 9) (fits 10) (fits 11) (fits 12) (fits 13) (fits 14) (fits 15)) in
-      let body_fits : BodyFits kind (is_wide_at bytes_wide) (body_at kind bytes_wide) = rw (is_body, wide) (memory, omega (arith, fits 7), omega (arith, fits 7), small) in
+      let body_fits : BodyFits kind (has_4dw_header_at bytes_wide) (body_at kind bytes_wide) = rw (is_body, wide) (memory, omega (arith, fits 7), omega (arith, fits 7), small) in
       record {
         fits = fits_from kind bytes_wide fits is_kind body_fits;
         unused = [];
@@ -191,17 +191,17 @@ module _ (kind : Kind) (b0 b1 b2 b3 b4 b5 b6 b7 b8 b9 b10 b11 b12 b13 b14 b15 : 
 
   request_wide : is_memory kind ≡ false → is_message kind ≡ false → is_completion kind ≡ false → Spells bytes_wide packet_wide
   request_wide memory message other =
-      let r = cond-false (is_completion kind) (word_at bytes_wide 8) (word_at bytes_wide 4) other in
+      let r = cond-false (is_completion kind) (be_u16_at bytes_wide 8) (be_u16_at bytes_wide 4) other in
       let g = cond-false (is_completion kind) b10 b6 other in
       let is_body = body_request kind bytes_wide memory message other in
       let high = high_apart b4 b5 (fits 5) in
       let low = low_apart b4 b5 (fits 5) in
       let unused : List ℕ = b7 ∷ b8 ∷ b9 ∷ b10 ∷ b11 ∷ b12 ∷ b13 ∷ b14 ∷ b15 ∷ [] in
-      let shown : other_dws (is_wide_at bytes_wide) packet_wide.requester packet_wide.tag (body_at kind bytes_wide) unused ++ drop (header_len bytes_wide) bytes_wide ≡ other_dws true (b4 * 256 + b5) b6 Request unused ++ rest =
+      let shown : other_dws (has_4dw_header_at bytes_wide) packet_wide.requester packet_wide.tag (body_at kind bytes_wide) unused ++ drop (header_len bytes_wide) bytes_wide ≡ other_dws true (b4 * 256 + b5) b6 Request unused ++ rest =
       λ i. other_dws (wide i) (r i) (g i) (is_body i) unused ++ drop (cond (wide i) 16 12) bytes_wide in
       let taken : other_dws true (b4 * 256 + b5) b6 Request unused ++ rest ≡ b4 ∷ b5 ∷ b6 ∷ b7 ∷ b8 ∷ b9 ∷ b10 ∷ b11 ∷ b12 ∷ b13 ∷ b14 ∷ b15 ∷ rest =
       λ i. high i ∷ low i ∷ b6 ∷ (unused ++ rest) in
-      let body_fits : BodyFits kind (is_wide_at bytes_wide) (body_at kind bytes_wide) = rw is_body (memory, message, other) in
+      let body_fits : BodyFits kind (has_4dw_header_at bytes_wide) (body_at kind bytes_wide) = rw is_body (memory, message, other) in
       record {
         fits = fits_from kind bytes_wide fits is_kind body_fits;
         unused = unused;
@@ -213,17 +213,17 @@ module _ (kind : Kind) (b0 b1 b2 b3 b4 b5 b6 b7 b8 b9 b10 b11 b12 b13 b14 b15 : 
   message_wide : is_message kind ≡ true → Spells bytes_wide packet_wide
   message_wide message =
       let other = message_no_completion kind message in
-      let r = cond-false (is_completion kind) (word_at bytes_wide 8) (word_at bytes_wide 4) other in
+      let r = cond-false (is_completion kind) (be_u16_at bytes_wide 8) (be_u16_at bytes_wide 4) other in
       let g = cond-false (is_completion kind) b10 b6 other in
       let is_body = body_message kind bytes_wide message in
       let high = high_apart b4 b5 (fits 5) in
       let low = low_apart b4 b5 (fits 5) in
       let unused : List ℕ = b7 ∷ b8 ∷ b9 ∷ b10 ∷ b11 ∷ b12 ∷ b13 ∷ b14 ∷ b15 ∷ [] in
-      let shown : other_dws (is_wide_at bytes_wide) packet_wide.requester packet_wide.tag (body_at kind bytes_wide) unused ++ drop (header_len bytes_wide) bytes_wide ≡ other_dws true (b4 * 256 + b5) b6 (Message (bits b0 0 3)) unused ++ rest =
+      let shown : other_dws (has_4dw_header_at bytes_wide) packet_wide.requester packet_wide.tag (body_at kind bytes_wide) unused ++ drop (header_len bytes_wide) bytes_wide ≡ other_dws true (b4 * 256 + b5) b6 (Message (bits b0 0 3)) unused ++ rest =
       λ i. other_dws (wide i) (r i) (g i) (is_body i) unused ++ drop (cond (wide i) 16 12) bytes_wide in
       let taken : other_dws true (b4 * 256 + b5) b6 (Message (bits b0 0 3)) unused ++ rest ≡ b4 ∷ b5 ∷ b6 ∷ b7 ∷ b8 ∷ b9 ∷ b10 ∷ b11 ∷ b12 ∷ b13 ∷ b14 ∷ b15 ∷ rest =
       λ i. high i ∷ low i ∷ b6 ∷ (unused ++ rest) in
-      let body_fits : BodyFits kind (is_wide_at bytes_wide) (body_at kind bytes_wide) = rw is_body (message, omega arith) in
+      let body_fits : BodyFits kind (has_4dw_header_at bytes_wide) (body_at kind bytes_wide) = rw is_body (message, omega arith) in
       record {
         fits = fits_from kind bytes_wide fits is_kind body_fits;
         unused = unused;
@@ -244,13 +244,13 @@ all_pass a b c d e v w x y z fine =
 fine_field : (kind : Kind) (bytes : List ℕ) → malformed_of_kind kind bytes ≡ None → has_bad_field kind bytes ≡ false
 unfolding malformed_of_kind
 fine_field kind bytes fine =
-    all_pass (has_bad_size kind bytes) (is_memory kind && has_bad_enables (dw_count (length_at bytes)) (address_at bytes) (slice_index bytes 7 % 16) (slice_index bytes 7 / 16)) (is_memory kind && crosses (dw_count (length_at bytes)) (address_at bytes)) (is_memory kind && is_wide_at bytes && nat_lt (address_at bytes) (2 ^ 32)) (has_bad_field kind bytes) Size BadEnables Crosses HighForm Field fine
+    all_pass (has_bad_size kind bytes) (is_memory kind && has_bad_enables (dw_count (length_at bytes)) (address_at bytes) (slice_index bytes 7 % 16) (slice_index bytes 7 / 16)) (is_memory kind && crosses (dw_count (length_at bytes)) (address_at bytes)) (is_memory kind && has_4dw_header_at bytes && nat_lt (address_at bytes) (2 ^ 32)) (has_bad_field kind bytes) Size BadEnables Crosses HighForm Field fine
 
 -- what is to be shown of bytes, whose first ones are taken by name
 abbrev IsSpelled : Kind → Bool → List ℕ → Type 0
-IsSpelled kind wide bytes = IsBytes bytes → is_wide_at bytes ≡ wide → kind_at (slice_index bytes 0 / 32) (slice_index bytes 0 % 32) ≡ Some kind → has_bad_field kind bytes ≡ false → malformed bytes ≡ None → Spells bytes (packet_of_kind kind bytes)
+IsSpelled kind wide bytes = IsBytes bytes → has_4dw_header_at bytes ≡ wide → kind_at (slice_index bytes 0 / 32) (slice_index bytes 0 % 32) ≡ Some kind → has_bad_field kind bytes ≡ false → malformed bytes ≡ None → Spells bytes (packet_of_kind kind bytes)
 
-has_form_at : (kind : Kind) (bytes : List ℕ) (wide : Bool) → IsBytes bytes → is_wide_at bytes ≡ wide → kind_at (slice_index bytes 0 / 32) (slice_index bytes 0 % 32) ≡ Some kind → has_form kind wide ≡ true
+has_form_at : (kind : Kind) (bytes : List ℕ) (wide : Bool) → IsBytes bytes → has_4dw_header_at bytes ≡ wide → kind_at (slice_index bytes 0 / 32) (slice_index bytes 0 % 32) ≡ Some kind → has_form kind wide ≡ true
 has_form_at kind bytes wide fits e is_kind = ap (has_form kind) (sym e) ∙ (byte_0-apart (slice_index bytes 0) kind (fits 0) is_kind).1
 
 spelled_narrow : (kind : Kind) (bytes : List ℕ) → 12 ≤ length bytes → IsSpelled kind false bytes
@@ -286,7 +286,7 @@ spelled bytes fits well =
     let kind = found.0 in
     let view = found.1 in
     let fine = fine_field kind bytes found.2 in
-    let by_kind : Spells bytes (packet_of_kind kind bytes) = elim (cases_Bool (is_wide_at bytes)) [
+    let by_kind : Spells bytes (packet_of_kind kind bytes) = elim (cases_Bool (has_4dw_header_at bytes)) [
       | inl wide ↦ spelled_wide kind bytes (view.whole.wide wide) fits wide view.kind_is fine well
       | inr wide ↦ spelled_narrow kind bytes view.whole.narrow fits wide view.kind_is fine well
     ] in

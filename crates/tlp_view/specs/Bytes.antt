@@ -20,8 +20,8 @@ abbrev pub is_set : ℕ → ℕ → Bool
 is_set value bit = bits value bit 1 == 1
 
 -- two bytes as a number
-abbrev pub word_at : List ℕ → ℕ → ℕ
-word_at bytes i = slice_index bytes i * 256 + slice_index bytes (i + 1)
+abbrev pub be_u16_at : List ℕ → ℕ → ℕ
+be_u16_at bytes i = slice_index bytes i * 256 + slice_index bytes (i + 1)
 
 -- byte 0: Fmt and Type
 abbrev pub fmt_at : List ℕ → ℕ
@@ -30,11 +30,11 @@ fmt_at bytes = slice_index bytes 0 / 32
 abbrev pub type_at : List ℕ → ℕ
 type_at bytes = slice_index bytes 0 % 32
 
-abbrev pub is_wide_at : List ℕ → Bool
-is_wide_at bytes = is_set (slice_index bytes 0) 5
+abbrev pub has_4dw_header_at : List ℕ → Bool
+has_4dw_header_at bytes = is_set (slice_index bytes 0) 5
 
 abbrev pub header_len : List ℕ → ℕ
-header_len bytes = if is_wide_at bytes then 16 else 12
+header_len bytes = if has_4dw_header_at bytes then 16 else 12
 
 -- bytes 1 to 3: Attr, AT and Length
 abbrev pub attributes_at : List ℕ → Attributes
@@ -56,7 +56,7 @@ enables_at bytes = record { first = slice_index bytes 7 % 16; last = slice_index
 
 unfoldable pub address_at : List ℕ → ℕ
 address_at bytes =
-    if is_wide_at bytes
+    if has_4dw_header_at bytes
     then from_be_bytes w64 (slice_index bytes 8 ∷ slice_index bytes 9 ∷ slice_index bytes 10 ∷ slice_index bytes 11 ∷ slice_index bytes 12 ∷ slice_index bytes 13 ∷ slice_index bytes 14 ∷ slice_index bytes 15 ∷ [])
     else from_be_bytes w32 (slice_index bytes 8 ∷ slice_index bytes 9 ∷ slice_index bytes 10 ∷ slice_index bytes 11 ∷ [])
 
@@ -71,18 +71,18 @@ abbrev pub body_at : Kind → List ℕ → Body
 body_at kind bytes =
     if is_memory kind then Memory (enables_at bytes) (address_at bytes)
     else (if is_message kind then Message (bits (slice_index bytes 0) 0 3)
-    else (if is_completion kind then Completion (word_at bytes 4) (unwrap_or (status_at bytes) SC) (bits (slice_index bytes 6) 0 4 * 256 + slice_index bytes 7) (slice_index bytes 11 % 128)
+    else (if is_completion kind then Completion (be_u16_at bytes 4) (unwrap_or (status_at bytes) SC) (bits (slice_index bytes 6) 0 4 * 256 + slice_index bytes 7) (slice_index bytes 11 % 128)
     else Request))
 
 -- the packet that well-formed bytes are
 abbrev pub packet_of_kind : Kind → List ℕ → Packet
 packet_of_kind kind bytes = record {
   kind = kind;
-  is_wide = is_wide_at bytes;
+  has_4dw_header = has_4dw_header_at bytes;
   attributes = attributes_at bytes;
   address_type = address_type_of (bits (slice_index bytes 2) 2 2);
   length = length_at bytes;
-  requester = if is_completion kind then word_at bytes 8 else word_at bytes 4;
+  requester = if is_completion kind then be_u16_at bytes 8 else be_u16_at bytes 4;
   tag = if is_completion kind then slice_index bytes 10 else slice_index bytes 6;
   body = body_at kind bytes;
   payload = drop (header_len bytes) bytes;
@@ -94,4 +94,4 @@ packet_of bytes = packet_of_kind (unwrap_or (kind_at (fmt_at bytes) (type_at byt
 -- the bytes hold a whole header
 pub record HasHeader (bytes : List ℕ) : Type 0 where
   pub narrow : 12 ≤ length bytes
-  pub wide : is_wide_at bytes ≡ true → 16 ≤ length bytes
+  pub wide : has_4dw_header_at bytes ≡ true → 16 ≤ length bytes

@@ -38,7 +38,7 @@ data_body completer count (Some enables) None = Completion completer SC 4 0
 abbrev pub read_completion : ℕ → Packet → List ℕ → Packet
 read_completion completer t bytes = record {
   kind = CplD;
-  is_wide = false;
+  has_4dw_header = false;
   attributes = t.attributes;
   address_type = Untranslated;
   length = length bytes / 4;
@@ -52,7 +52,7 @@ read_completion completer t bytes = record {
 abbrev pub refusal : ℕ → Status → Packet → Packet
 refusal completer status t = record {
   kind = Cpl;
-  is_wide = false;
+  has_4dw_header = false;
   attributes = t.attributes;
   address_type = Untranslated;
   length = 0;
@@ -66,7 +66,7 @@ refusal completer status t = record {
 abbrev pub completion : CompletionHead → ℕ → List ℕ → Packet
 completion head count payload = record {
   kind = if count == 0 then Cpl else CplD;
-  is_wide = false;
+  has_4dw_header = false;
   attributes = head.attributes;
   address_type = Untranslated;
   length = count;

@@ -104,15 +104,15 @@ type_of CAS routing = 14
 
 -- may the header be of this size?
 abbrev pub has_form : Kind → Bool → Bool
-has_form MRd is_wide = true
-has_form MRdLk is_wide = true
-has_form MWr is_wide = true
-has_form Msg is_wide = is_wide
-has_form MsgD is_wide = is_wide
-has_form FetchAdd is_wide = true
-has_form Swap is_wide = true
-has_form CAS is_wide = true
-has_form _ is_wide = if is_wide then false else true
+has_form MRd has_4dw_header = true
+has_form MRdLk has_4dw_header = true
+has_form MWr has_4dw_header = true
+has_form Msg has_4dw_header = has_4dw_header
+has_form MsgD has_4dw_header = has_4dw_header
+has_form FetchAdd has_4dw_header = true
+has_form Swap has_4dw_header = true
+has_form CAS has_4dw_header = true
+has_form _ has_4dw_header = if has_4dw_header then false else true
 
 -- Fmt 0 and 2 have a header of 3 DW, 1 and 3 one of 4 DW; 2 and 3 have data
 abbrev pub either_size : ℕ → Option Kind → Option Kind → Option Kind

@@ -6,10 +6,10 @@ use Rattle.fab_types.specs.declared.faults.malformed.Malformed.TheVariants.{Shor
 use Rattle.tlp_view.specs.declared.kind.Kind.{Kind}
 use Rattle.tlp_view.specs.Packet.{dw_count}
 use Rattle.tlp_view.specs.Kinds.{kind_at, has_data, is_memory, is_completion, is_one_dw}
-use Rattle.tlp_view.specs.Bytes.{bits, is_set, fmt_at, type_at, is_wide_at, header_len, length_at, address_at, status_at}
+use Rattle.tlp_view.specs.Bytes.{bits, is_set, fmt_at, type_at, has_4dw_header_at, header_len, length_at, address_at, status_at}
 
 abbrev pub is_short : List ℕ → Bool
-is_short bytes = nat_lt (length bytes) 12 || (nat_lt (length bytes) 16 && is_wide_at bytes)
+is_short bytes = nat_lt (length bytes) 12 || (nat_lt (length bytes) 16 && has_4dw_header_at bytes)
 
 -- bytes of payload that Length calls for
 abbrev pub data_len : Kind → List ℕ → ℕ
@@ -61,7 +61,7 @@ malformed_of_kind kind bytes =
     if has_bad_size kind bytes then Some Size
     else (if is_memory kind && has_bad_enables (dw_count (length_at bytes)) (address_at bytes) (slice_index bytes 7 % 16) (slice_index bytes 7 / 16) then Some BadEnables
     else (if is_memory kind && crosses (dw_count (length_at bytes)) (address_at bytes) then Some Crosses
-    else (if is_memory kind && is_wide_at bytes && nat_lt (address_at bytes) (2 ^ 32) then Some HighForm
+    else (if is_memory kind && has_4dw_header_at bytes && nat_lt (address_at bytes) (2 ^ 32) then Some HighForm
     else (if has_bad_field kind bytes then Some Field else None))))
 
 abbrev pub malformed_of : Option Kind → List ℕ → Option Malformed

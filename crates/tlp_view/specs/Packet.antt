@@ -20,7 +20,7 @@ pub data Body : Type 0 where
 -- a well-formed packet
 pub record Packet : Type 0 where
   pub kind : Kind
-  pub is_wide : Bool  -- a header of 4 DW
+  pub has_4dw_header : Bool  -- a header of 4 DW
   pub attributes : Attributes
   pub address_type : AddressType
   pub length : ℕ  -- the Length field, in which 0 stands for 1,024 DW

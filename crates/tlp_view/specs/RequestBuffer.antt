@@ -18,6 +18,6 @@ pub record IsMade (kind : Kind) (count : ℕ) (payload : List ℕ) : Type 0 wher
   pub memory : is_memory kind ≡ true
   pub many : is_one_dw kind ≡ false
   pub type_is : type_of kind 0 ≡ 0
-  pub form : (is_wide : Bool) → has_form kind is_wide ≡ true
+  pub form : (has_4dw_header : Bool) → has_form kind has_4dw_header ≡ true
   pub sized : length payload ≡ (if has_data kind then 4 * count else 0)
   pub small : length payload ≤ 256

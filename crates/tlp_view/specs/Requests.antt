@@ -16,7 +16,7 @@ is_high address = if nat_lt address (2 ^ 32) then false else true
 abbrev pub request : Kind → RequestHead → ℕ → List ℕ → Packet
 request kind head count payload = record {
   kind = kind;
-  is_wide = is_high head.address;
+  has_4dw_header = is_high head.address;
   attributes = head.attributes;
   address_type = head.address_type;
   length = count % 1024;
@@ -42,7 +42,7 @@ moved_body Request address = Request
 moved_body (Completion completer status count lower) address = Completion completer status count lower
 
 abbrev pub moved : Packet → ℕ → Packet
-moved t address = record t { is_wide = is_high address; body = moved_body t.body address }
+moved t address = record t { has_4dw_header = is_high address; body = moved_body t.body address }
 
 -- two addresses have one place in 4,096 bytes
 abbrev pub IsSamePlace : Packet → ℕ → Type 0

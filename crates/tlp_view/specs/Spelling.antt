@@ -32,56 +32,56 @@ routing_in Request = 0
 routing_in (Completion completer status count lower) = 0
 
 -- an ID or another number of 16 bits
-abbrev pub word : ℕ → List ℕ
-word n = n / 256 ∷ n % 256 ∷ []
+abbrev pub be_u16 : ℕ → List ℕ
+be_u16 n = n / 256 ∷ n % 256 ∷ []
 
 -- Fmt, Type, Attr, AT and Length
 abbrev pub first_dw : Packet → List ℕ
 first_dw t =
-    (64 * flag (has_data t.kind) + 32 * flag t.is_wide + type_of t.kind (routing_in t.body))
+    (64 * flag (has_data t.kind) + 32 * flag t.has_4dw_header + type_of t.kind (routing_in t.body))
     ∷ 4 * flag t.attributes.id_based_ordering
     ∷ (32 * flag t.attributes.relaxed_ordering + 16 * flag t.attributes.no_snoop + 4 * address_type_bits t.address_type + t.length / 256)
     ∷ t.length % 256 ∷ []
 
 abbrev pub address_bytes : Bool → ℕ → List ℕ
-address_bytes is_wide address = if is_wide then to_be_bytes w64 address else to_be_bytes w32 address
+address_bytes has_4dw_header address = if has_4dw_header then to_be_bytes w64 address else to_be_bytes w32 address
 
 -- the rest of the header; unused are the bytes, and of a completion the one bit, that have no field
 abbrev pub other_dws : Bool → ℕ → ℕ → Body → List ℕ → List ℕ
-other_dws is_wide requester tag (Memory enables address) unused = word requester ++ tag ∷ (16 * enables.last + enables.first) ∷ address_bytes is_wide address
-other_dws is_wide requester tag (Message routing) unused = word requester ++ tag ∷ unused
-other_dws is_wide requester tag Request unused = word requester ++ tag ∷ unused
-other_dws is_wide requester tag (Completion completer status count lower) unused =
-    word completer ++ (32 * status_bits status + count / 256) ∷ count % 256 ∷ word requester ++ tag ∷ (128 * length unused + lower) ∷ []
+other_dws has_4dw_header requester tag (Memory enables address) unused = be_u16 requester ++ tag ∷ (16 * enables.last + enables.first) ∷ address_bytes has_4dw_header address
+other_dws has_4dw_header requester tag (Message routing) unused = be_u16 requester ++ tag ∷ unused
+other_dws has_4dw_header requester tag Request unused = be_u16 requester ++ tag ∷ unused
+other_dws has_4dw_header requester tag (Completion completer status count lower) unused =
+    be_u16 completer ++ (32 * status_bits status + count / 256) ∷ count % 256 ∷ be_u16 requester ++ tag ∷ (128 * length unused + lower) ∷ []
 
 abbrev pub header : Packet → List ℕ → List ℕ
-header t unused = first_dw t ++ other_dws t.is_wide t.requester t.tag t.body unused
+header t unused = first_dw t ++ other_dws t.has_4dw_header t.requester t.tag t.body unused
 
 -- how many bytes of a request have no field: byte 7 and the DWs after it
 abbrev pub HasUnused : Body → Bool → List ℕ → Type 0
-HasUnused (Memory enables address) is_wide unused = unused ≡ []
-HasUnused (Message routing) is_wide unused = length unused ≡ (if is_wide then 9 else 5)
-HasUnused Request is_wide unused = length unused ≡ (if is_wide then 9 else 5)
-HasUnused (Completion completer status count lower) is_wide unused = length unused < 2
+HasUnused (Memory enables address) has_4dw_header unused = unused ≡ []
+HasUnused (Message routing) has_4dw_header unused = length unused ≡ (if has_4dw_header then 9 else 5)
+HasUnused Request has_4dw_header unused = length unused ≡ (if has_4dw_header then 9 else 5)
+HasUnused (Completion completer status count lower) has_4dw_header unused = length unused < 2
 
 -- each field has a value of its width
 abbrev pub BodyFits : Kind → Bool → Body → Type 0
-BodyFits kind is_wide (Memory enables address) = (is_memory kind ≡ true) × (enables.first < 16) × (enables.last < 16) × (address < (if is_wide then 2 ^ 64 else 2 ^ 32))
-BodyFits kind is_wide (Message routing) = (is_message kind ≡ true) × (routing < 8)
-BodyFits kind is_wide Request = (is_memory kind ≡ false) × (is_message kind ≡ false) × (is_completion kind ≡ false)
-BodyFits kind is_wide (Completion completer status count lower) = (is_completion kind ≡ true) × (completer < 2 ^ 16) × (count < 2 ^ 12) × (lower < 2 ^ 7)
+BodyFits kind has_4dw_header (Memory enables address) = (is_memory kind ≡ true) × (enables.first < 16) × (enables.last < 16) × (address < (if has_4dw_header then 2 ^ 64 else 2 ^ 32))
+BodyFits kind has_4dw_header (Message routing) = (is_message kind ≡ true) × (routing < 8)
+BodyFits kind has_4dw_header Request = (is_memory kind ≡ false) × (is_message kind ≡ false) × (is_completion kind ≡ false)
+BodyFits kind has_4dw_header (Completion completer status count lower) = (is_completion kind ≡ true) × (completer < 2 ^ 16) × (count < 2 ^ 12) × (lower < 2 ^ 7)
 
 pub record Fits (t : Packet) : Type 0 where
-  pub form : has_form t.kind t.is_wide ≡ true
+  pub form : has_form t.kind t.has_4dw_header ≡ true
   pub length : t.length < 2 ^ 10
   pub requester : t.requester < 2 ^ 16
   pub tag : t.tag < 2 ^ 8
-  pub body : BodyFits t.kind t.is_wide t.body
+  pub body : BodyFits t.kind t.has_4dw_header t.body
 
 -- the bytes are the packet's header and its payload, and no cause makes them malformed
 pub record Spells (bytes : List ℕ) (t : Packet) : Type 0 where
   pub fits : Fits t
   pub unused : List ℕ
-  pub has_unused : HasUnused t.body t.is_wide unused
+  pub has_unused : HasUnused t.body t.has_4dw_header unused
   pub put_together : bytes ≡ header t unused ++ t.payload
   pub well_formed : malformed bytes ≡ None

@@ -1,7 +1,7 @@
 //! The fields of a header, taken from its bytes (PCIe 4.0, 2.2.1 to 2.2.9).
 
 ghost use Rattle.std.specs.Prelude.{◌≡◌, ◌+◌, ◌<◌, ◌≤◌, length, ◌^◌};
-ghost use Rattle.tlp_view.specs.Bytes.{HasHeader, is_set, is_wide_at, length_at, address_at, enables_at, attributes_at, address_type_of, status_of, word_at};
+ghost use Rattle.tlp_view.specs.Bytes.{HasHeader, is_set, has_4dw_header_at, length_at, address_at, enables_at, attributes_at, address_type_of, status_of, be_u16_at};
 ghost use Rattle.tlp_view.specs.Packet.{dw_count};
 
 use crate::attributes::Attributes;
@@ -17,9 +17,9 @@ pub(crate) fn is_set(byte: u8, bit: u32) -> bool
 }
 
 /// Has the header 4 DW? It has 3 otherwise.
-pub(crate) fn is_wide(bytes: &[u8]) -> bool
+pub(crate) fn has_4dw_header(bytes: &[u8]) -> bool
     requires { 12 ≤ length bytes.now }
-    ensures { result ≡ is_wide_at bytes.now }
+    ensures { result ≡ has_4dw_header_at bytes.now }
 {
     is_set(bytes[0], 5)
 }
@@ -41,9 +41,9 @@ pub(crate) fn dw_count(length: u16) -> u16
 }
 
 /// The 16 bits at this place.
-pub(crate) fn word(bytes: &[u8], i: usize) -> u16
+pub(crate) fn be_u16(bytes: &[u8], i: usize) -> u16
     requires { i + 2 ≤ length bytes.now }
-    ensures { result ≡ word_at bytes.now i }
+    ensures { result ≡ be_u16_at bytes.now i }
 {
     u16::from_be_bytes([bytes[i], bytes[i + 1]])
 }
@@ -91,7 +91,7 @@ pub(crate) fn address(bytes: &[u8]) -> u64
     requires { HasHeader bytes.now }
     ensures { result ≡ address_at bytes.now }
 {
-    if is_wide(bytes) {
+    if has_4dw_header(bytes) {
         u64::from_be_bytes([
             bytes[8], bytes[9], bytes[10], bytes[11], bytes[12], bytes[13], bytes[14], bytes[15],
         ])

@@ -1,7 +1,7 @@
 //! Completions that answer a request (PCIe 4.0, 2.2.9 and 2.3.1).
 
 ghost use Rattle.std.specs.Prelude.{◌≡◌, ◌<◌, ◌≤◌, ◌*◌, ◌^◌, [], ◌++◌, length, replicate};
-ghost use Rattle.tlp_view.specs.Spelling.{word, header, status_bits};
+ghost use Rattle.tlp_view.specs.Spelling.{be_u16, header, status_bits};
 ghost use Rattle.tlp_view.specs.Completions.{completion, HeadFits, first_place, last_end, byte_count, lower_address};
 
 use crate::attributes::Attributes;
@@ -224,8 +224,8 @@ fn with_header(header: &[u8; 12]) -> [u8; 268]
 }
 
 /// A number of 16 bits, the high byte first.
-pub(crate) fn word(n: u16) -> [u8; 2]
-    ensures { result ≡ word n }
+pub(crate) fn be_u16(n: u16) -> [u8; 2]
+    ensures { result ≡ be_u16 n }
 {
     let mut bytes = [0; 2];
     BigEndian::write_u16(&mut bytes, n);
@@ -240,8 +240,8 @@ fn header_bytes(head: CompletionHead, length: usize) -> [u8; 12]
     ensures completer { head.completer < 2 ^ 16 }
     ensures requester { head.requester < 2 ^ 16 }
 {
-    let (completer, requester) = (word(head.completer.bits()), word(head.requester.bits()));
-    let count = word(head.byte_count);
+    let (completer, requester) = (be_u16(head.completer.bits()), be_u16(head.requester.bits()));
+    let count = be_u16(head.byte_count);
     [
         if length == 0 { 0x0a } else { 0x4a },
         4 * u8::from(head.attributes.id_based_ordering),

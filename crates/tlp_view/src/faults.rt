@@ -5,7 +5,7 @@ ghost use Rattle.std.specs.Prelude.{◌≡◌, ◌≤◌, length};
 ghost use Rattle.tlp_view.specs.Bytes.{HasHeader};
 ghost use Rattle.tlp_view.specs.Malformed.{is_short, data_len, has_bad_size, reaches_end, begins_at_start, has_bad_enables, crosses, has_bad_common, has_bad_field, malformed_of_kind};
 
-use crate::bits::{address, dw_count, is_set, is_wide, length_field, status};
+use crate::bits::{address, dw_count, has_4dw_header, is_set, length_field, status};
 use crate::kind::Kind;
 use fab_types::Malformed;
 
@@ -13,7 +13,7 @@ use fab_types::Malformed;
 pub(crate) fn is_short(bytes: &[u8]) -> bool
     ensures { result ≡ is_short bytes.now }
 {
-    bytes.len() < 12 || (bytes.len() < 16 && is_wide(bytes))
+    bytes.len() < 12 || (bytes.len() < 16 && has_4dw_header(bytes))
 }
 
 /// The bytes of payload that Length calls for.
@@ -33,7 +33,7 @@ fn has_bad_size(kind: Kind, bytes: &[u8]) -> bool
     requires { 12 ≤ length bytes.now }
     ensures { result ≡ has_bad_size kind bytes.now }
 {
-    let header = if is_wide(bytes) { 16 } else { 12 };
+    let header = if has_4dw_header(bytes) { 16 } else { 12 };
     let data = data_len(kind, bytes);
     bytes.len() != header + data || 256 < data || (kind.is_one_dw() && length_field(bytes) != 1)
 }
@@ -113,7 +113,7 @@ pub(crate) fn fault_of(kind: Kind, bytes: &[u8]) -> Option<Malformed>
         if crosses(count, address) {
             return Some(Malformed::Crosses);
         }
-        if is_wide(bytes) && address < 0x1_0000_0000 {
+        if has_4dw_header(bytes) && address < 0x1_0000_0000 {
             return Some(Malformed::HighForm);
         }
     }

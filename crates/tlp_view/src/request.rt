@@ -2,11 +2,11 @@
 
 ghost use Rattle.std.specs.Prelude.{true, false, ◌≡◌, ◌+◌, ◌<◌, ◌≤◌, ◌*◌, ◌/◌, ◌%◌, ◌^◌, [], ◌∷◌, ◌++◌, length, take, replicate, if◌then◌else◌};
 ghost use Rattle.tlp_view.specs.Kinds.{type_of, has_data};
-ghost use Rattle.tlp_view.specs.Spelling.{word, flag, header, address_bytes, address_type_bits};
+ghost use Rattle.tlp_view.specs.Spelling.{be_u16, flag, header, address_bytes, address_type_bits};
 ghost use Rattle.tlp_view.specs.Requests.{is_high, request, packet_bytes, RequestFits};
 
 use crate::attributes::Attributes;
-use crate::completion::word;
+use crate::completion::be_u16;
 use crate::enables::Enables;
 use crate::kind::Kind;
 use crate::view::TlpView;
@@ -161,11 +161,11 @@ fn front_bytes(kind: Kind, head: RequestHead, length: u16) -> [u8; 8]
     ensures requester { head.requester < 2 ^ 16 }
     ensures tag { head.tag < 2 ^ 8 }
 {
-    let requester = word(head.requester.bits());
-    let count = word(length % 1024);
-    let is_wide = head.address >= 1 << 32;
+    let requester = be_u16(head.requester.bits());
+    let count = be_u16(length % 1024);
+    let has_4dw_header = head.address >= 1 << 32;
     [
-        64 * u8::from(kind.has_data()) + 32 * u8::from(is_wide),
+        64 * u8::from(kind.has_data()) + 32 * u8::from(has_4dw_header),
         4 * u8::from(head.attributes.id_based_ordering),
         32 * u8::from(head.attributes.relaxed_ordering)
             + 16 * u8::from(head.attributes.no_snoop)

@@ -12,6 +12,7 @@ ghost use Rattle.tlp_view.specs.Runs.{runs};
 
 use crate::attributes::Attributes;
 use crate::bits;
+use crate::bits::has_4dw_header;
 use crate::enables::Enables;
 use crate::faults::{fault_of, is_short};
 use crate::kind::Kind;
@@ -95,9 +96,9 @@ impl<'a> TlpView<'a> {
         ensures { result ≡ self.now.requester }
     {
         Bdf::from_bits(if self.kind.is_completion() {
-            bits::word(self.bytes, 8)
+            bits::be_u16(self.bytes, 8)
         } else {
-            bits::word(self.bytes, 4)
+            bits::be_u16(self.bytes, 4)
         })
     }
 
@@ -233,7 +234,7 @@ impl<'a> TlpView<'a> {
         ensures sound { IsSound self.now }
         ensures value { result.now ≡ self.now.payload }
     {
-        let header = if bits::is_wide(self.bytes) { 16 } else { 12 };
+        let header = if has_4dw_header(self.bytes) { 16 } else { 12 };
         &self.bytes[header..]
     }
 

@@ -3,11 +3,11 @@ use Rattle.std.proofs.Common.{◌≡◌, ℕ, ◌==◌, Bool, true, false, cond,
 use Rattle.std.specs.Prelude.{Contains}
 use Rattle.std.specs.Option.{option_map}
 use Rattle.fab_types.specs.declared.place.Way.TheVariants.{Up, Down}
-use Rattle.layout.specs.declared.lines.PortLine.{PortLine}
-use Rattle.layout.specs.declared.lines.SwitchLine.{SwitchLine}
+use Rattle.platform.specs.declared.parts.DownstreamPort.{DownstreamPort}
+use Rattle.platform.specs.declared.parts.Switch.{Switch}
 use Rattle.layout.specs.Laws.{IsPlatform}
-use Rattle.layout.specs.Platform.{Platform}
-use Rattle.layout.specs.Tree.{id_below, is_taken}
+use Rattle.platform.specs.Platform.{Platform}
+use Rattle.platform.specs.Tree.{id_below, is_taken}
 use Rattle.topology.specs.declared.links.Link.{Link}
 use Rattle.topology.specs.declared.nodes.LinkEnd.{LinkEnd}
 use Rattle.topology.specs.Links.{link_at, link_of_switch, links_of, sender_of, sending_end}
@@ -17,7 +17,7 @@ use Rattle.topology.proofs.Members.{found, missed}
 use Rattle.topology.proofs.Standing.{link_found, link_is, link_of_listed, link_to}
 
 module _ (platform : Platform) (laws : IsPlatform platform) where
-  pub upstream_input : (switch : SwitchLine) → Contains platform.switches switch → (upstream_place platform switch).input ≡ sender_of (links_of platform) (record { lower = switch.id; way = Down })
+  pub upstream_input : (switch : Switch) → Contains platform.switches switch → (upstream_place platform switch).input ≡ sender_of (links_of platform) (record { lower = switch.id; way = Down })
   upstream_input switch within = sym (ap (option_map (sending_end Down)) (link_found platform laws (link_of_switch platform switch) (link_of_listed platform switch within)))
 
   -- what is sent up from an ID
@@ -35,5 +35,5 @@ module _ (platform : Platform) (laws : IsPlatform platform) where
       let taken : is_taken platform.switches platform.functions id ≡ true = subst (λ (n : ℕ). is_taken platform.switches platform.functions n ≡ true) (eqb-true link.lower id at.1) (link_is platform laws link at.0).taken in
       absurd cc
 
-  pub downstream_input : (port : PortLine) → (downstream_place platform port).input ≡ sender_of (links_of platform) (record { lower = id_below port; way = Up })
+  pub downstream_input : (port : DownstreamPort) → (downstream_place platform port).input ≡ sender_of (links_of platform) (record { lower = id_below port; way = Up })
   downstream_input port = up_from (id_below port) (is_taken platform.switches platform.functions (id_below port)) (link_at (links_of platform) (id_below port)) refl refl

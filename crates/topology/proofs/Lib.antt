@@ -3,7 +3,7 @@ pub mod Buses
 pub mod Ends
 pub mod Found
 pub mod Indexed
-pub mod Lanes
+pub mod Outputs
 pub mod Members
 pub mod OwnEnds
 pub mod Rooted

@@ -9,12 +9,12 @@ use Rattle.fab_types.specs.Id.{bus_of}
 use Rattle.fab_types.specs.declared.place.Direction.{Direction}
 use Rattle.fab_types.specs.declared.place.Way.{Way}
 use Rattle.fab_types.specs.declared.place.Way.TheVariants.{Up, Down}
-use Rattle.layout.specs.declared.lines.PortLine.{PortLine}
+use Rattle.platform.specs.declared.parts.DownstreamPort.{DownstreamPort}
 use Rattle.layout.specs.Laws.{IsPlatform, are_apart}
-use Rattle.layout.specs.Owners.{is_function}
-use Rattle.layout.specs.Platform.{Platform}
-use Rattle.layout.specs.Rules.{is_on_bus}
-use Rattle.layout.specs.Tree.{id_below, internal_bus, is_switch, is_taken}
+use Rattle.platform.specs.Owners.{is_function}
+use Rattle.platform.specs.Platform.{Platform}
+use Rattle.platform.specs.Tree.{is_on_bus}
+use Rattle.platform.specs.Tree.{id_below, internal_bus, is_switch, is_taken}
 use Rattle.layout.proofs.Bools.{and-first}
 use Rattle.topology.specs.declared.links.Link.{Link}
 use Rattle.topology.specs.declared.nodes.LinkEnd.{LinkEnd}
@@ -30,14 +30,14 @@ use Rattle.topology.proofs.Standing.{IsLinkOf, IsSentDown, link_is}
 pub record IsUpFromSwitch (platform : Platform) (id place : ℕ) (end : LinkEnd) : Type 0 where
   pub within : place < length platform.switches
   pub named : (get_or platform.switches place no_switch).id ≡ id
-  pub same : end ≡ record { node = 1 + place; lane = 0 }
+  pub same : end ≡ record { node = 1 + place; output = 0 }
 
 pub record IsUpFromFunction (platform : Platform) (id place : ℕ) (end : LinkEnd) : Type 0 where
   pub within : place < length platform.functions
   pub named : (get_or platform.functions place no_function).id ≡ id
-  pub same : end ≡ record { node = 1 + length platform.switches + place; lane = 0 }
+  pub same : end ≡ record { node = 1 + length platform.switches + place; output = 0 }
 
--- packets are sent up from a switch or a function, by its lane 0
+-- packets are sent up from a switch or a function, by its output 0
 abbrev pub IsSentUp : Platform → ℕ → LinkEnd → Type 0
 IsSentUp platform id end = ((place : ℕ) × IsUpFromSwitch platform id place end) ⊎ ((place : ℕ) × IsUpFromFunction platform id place end)
 
@@ -66,8 +66,8 @@ sent_up platform id taken = go (position (λ switch. switch.id == id) platform.s
 nodes : (one other : LinkEnd) → one ≡ other → one.node ≡ other.node
 nodes one other e = ap (λ (end : LinkEnd). end.node) e
 
-lanes : (one other : LinkEnd) → one ≡ other → one.lane ≡ other.lane
-lanes one other e = ap (λ (end : LinkEnd). end.lane) e
+outputs : (one other : LinkEnd) → one ≡ other → one.output ≡ other.output
+outputs one other e = ap (λ (end : LinkEnd). end.output) e
 
 pub up_apart : (platform : Platform) (one other : ℕ) (end : LinkEnd) → IsSentUp platform one end → IsSentUp platform other end → one ≡ other
 up_apart platform one other end (inl (place, is)) (inl (again, also)) =
@@ -83,42 +83,42 @@ up_apart platform one other end (inr (place, is)) (inr (again, also)) =
 
 -- ---- down
 
--- the lane that leads down out of a port
-pub record IsLaneDown (platform : Platform) (port : PortLine) (place lane : ℕ) : Type 0 where
+-- the output that leads down out of a port
+pub record IsOutputDown (platform : Platform) (port : DownstreamPort) (place output : ℕ) : Type 0 where
   pub within : place < length platform.switches
   pub bus : internal_bus (get_or platform.switches place no_switch) ≡ bus_of port.id
-  pub at : position (λ other. other.id == port.id) (ports_on platform.ports (bus_of port.id)) ≡ Some lane
-  pub end : downstream_end platform port ≡ record { node = 1 + place; lane = suc lane }
+  pub at : position (λ other. other.id == port.id) (ports_on platform.ports (bus_of port.id)) ≡ Some output
+  pub end : downstream_end platform port ≡ record { node = 1 + place; output = suc output }
 
 module _ (platform : Platform) (laws : IsPlatform platform) where
-  pub lane_down : (port : PortLine) → Contains platform.ports port → (place : ℕ) × (lane : ℕ) × IsLaneDown platform port place lane
-  lane_down port within = on_switch (position (λ switch. internal_bus switch == bus_of port.id) platform.switches) refl
+  pub output_down : (port : DownstreamPort) → Contains platform.ports port → (place : ℕ) × (output : ℕ) × IsOutputDown platform port place output
+  output_down port within = on_switch (position (λ switch. internal_bus switch == bus_of port.id) platform.switches) refl
     where
-      on_lane : (place : ℕ) (lane : Option ℕ) → position (λ switch. internal_bus switch == bus_of port.id) platform.switches ≡ Some place → lane ≡ position (λ other. other.id == port.id) (ports_on platform.ports (bus_of port.id))
-          → (place : ℕ) × (lane : ℕ) × IsLaneDown platform port place lane
-      on_lane place None at e =
+      on_output : (place : ℕ) (output : Option ℕ) → position (λ switch. internal_bus switch == bus_of port.id) platform.switches ≡ Some place → output ≡ position (λ other. other.id == port.id) (ports_on platform.ports (bus_of port.id))
+          → (place : ℕ) × (output : ℕ) × IsOutputDown platform port place output
+      on_output place None at e =
           let listed = kept (is_on_bus (bus_of port.id)) platform.ports port within (eq-eqb (bus_of port.id) (bus_of port.id) refl) in
           absurd (any_found (λ other. other.id == port.id) (ports_on platform.ports (bus_of port.id)) (some_passes (λ other. other.id == port.id) (ports_on platform.ports (bus_of port.id)) port listed (eq-eqb port.id port.id refl)) (sym e))
-      on_lane place (Some lane) at e =
+      on_output place (Some output) at e =
           let on = switch_found platform port place at in (
             place,
-            lane,
+            output,
             record {
               within = on.0;
               bus = on.1;
               at = sym e;
-              end = ap (end_of_port platform.ports port) at ∙ ap (λ (o : Option ℕ). record { node = 1 + place; lane = option_map_or suc o 0 }) (sym e);
+              end = ap (end_of_port platform.ports port) at ∙ ap (λ (o : Option ℕ). record { node = 1 + place; output = option_map_or suc o 0 }) (sym e);
             },
           )
 
-      on_switch : (place : Option ℕ) → place ≡ position (λ switch. internal_bus switch == bus_of port.id) platform.switches → (place : ℕ) × (lane : ℕ) × IsLaneDown platform port place lane
+      on_switch : (place : Option ℕ) → place ≡ position (λ switch. internal_bus switch == bus_of port.id) platform.switches → (place : ℕ) × (output : ℕ) × IsOutputDown platform port place output
       on_switch None e =
           let on = port_stands platform laws port within in
           absurd (any_found (λ switch. internal_bus switch == bus_of port.id) platform.switches (some_passes (λ switch. internal_bus switch == bus_of port.id) platform.switches on.0 on.1.listed (eq-eqb _ _ on.1.bus)) (sym e))
-      on_switch (Some place) e = on_lane place (position (λ other. other.id == port.id) (ports_on platform.ports (bus_of port.id))) (sym e) refl
+      on_switch (Some place) e = on_output place (position (λ other. other.id == port.id) (ports_on platform.ports (bus_of port.id))) (sym e) refl
 
   -- ports are known by their IDs
-  pub one_id : (one other : PortLine) → Contains platform.ports one → Contains platform.ports other → one.id ≡ other.id → one ≡ other
+  pub one_id : (one other : DownstreamPort) → Contains platform.ports one → Contains platform.ports other → one.id ≡ other.id → one ≡ other
   one_id one other one_listed other_listed same = go (paired are_apart platform.ports one other laws.apart one_listed other_listed)
     where
       differ : (a b : ℕ) → a ≡ b → not (a == b) ≡ true → ⊥
@@ -129,40 +129,40 @@ module _ (platform : Platform) (laws : IsPlatform platform) where
       go (inr (inl apart)) = absurd (differ one.id other.id same (and-first _ _ (and-first _ _ apart)))
       go (inr (inr apart)) = absurd (differ other.id one.id (sym same) (and-first _ _ (and-first _ _ apart)))
 
-  pub down_apart : (one other : PortLine) → Contains platform.ports one → Contains platform.ports other → downstream_end platform one ≡ downstream_end platform other → one ≡ other
-  down_apart one other one_listed other_listed same = go (lane_down one one_listed) (lane_down other other_listed)
+  pub down_apart : (one other : DownstreamPort) → Contains platform.ports one → Contains platform.ports other → downstream_end platform one ≡ downstream_end platform other → one ≡ other
+  down_apart one other one_listed other_listed same = go (output_down one one_listed) (output_down other other_listed)
     where
-      by_lane : (place lane again second : ℕ) → IsLaneDown platform one place lane → IsLaneDown platform other again second → place ≡ again → lane ≡ second → one ≡ other
-      by_lane place lane again second is also place_is lane_is =
+      by_output : (place output again second : ℕ) → IsOutputDown platform one place output → IsOutputDown platform other again second → place ≡ again → output ≡ second → one ≡ other
+      by_output place output again second is also place_is output_is =
           let bus : bus_of one.id ≡ bus_of other.id = sym is.bus ∙ ap (λ (n : ℕ). internal_bus (get_or platform.switches n no_switch)) place_is ∙ also.bus in
-          let first = position-Some (λ port. port.id == one.id) (ports_on platform.ports (bus_of one.id)) lane one is.at in
+          let first = position-Some (λ port. port.id == one.id) (ports_on platform.ports (bus_of one.id)) output one is.at in
           let last = position-Some (λ port. port.id == other.id) (ports_on platform.ports (bus_of other.id)) second one also.at in
-          let equal : get_or (ports_on platform.ports (bus_of one.id)) lane one ≡ get_or (ports_on platform.ports (bus_of other.id)) second one
-          = ap (λ (n : ℕ). get_or (ports_on platform.ports n) lane one) bus ∙ ap (λ (n : ℕ). get_or (ports_on platform.ports (bus_of other.id)) n one) lane_is in
-          one_id one other one_listed other_listed (sym (eqb-true _ _ first.1) ∙ ap (λ (p : PortLine). p.id) equal ∙ eqb-true _ _ last.1)
+          let equal : get_or (ports_on platform.ports (bus_of one.id)) output one ≡ get_or (ports_on platform.ports (bus_of other.id)) second one
+          = ap (λ (n : ℕ). get_or (ports_on platform.ports n) output one) bus ∙ ap (λ (n : ℕ). get_or (ports_on platform.ports (bus_of other.id)) n one) output_is in
+          one_id one other one_listed other_listed (sym (eqb-true _ _ first.1) ∙ ap (λ (p : DownstreamPort). p.id) equal ∙ eqb-true _ _ last.1)
 
-      go : (place : ℕ) × (lane : ℕ) × IsLaneDown platform one place lane → (place : ℕ) × (lane : ℕ) × IsLaneDown platform other place lane → one ≡ other
-      go (place, lane, is) (again, second, also) =
+      go : (place : ℕ) × (output : ℕ) × IsOutputDown platform one place output → (place : ℕ) × (output : ℕ) × IsOutputDown platform other place output → one ≡ other
+      go (place, output, is) (again, second, also) =
           let ends = sym is.end ∙ same ∙ also.end in
           let node = nodes _ _ ends in
-          let lane_is = lanes _ _ ends in
-          by_lane place lane again second is also (omega (arith, node)) (omega (arith, lane_is))
+          let output_is = outputs _ _ ends in
+          by_output place output again second is also (omega (arith, node)) (omega (arith, output_is))
 
   -- ---- both
 
-  up_down : (id : ℕ) (port : PortLine) (end : LinkEnd) → IsSentUp platform id end → Contains platform.ports port → end ≡ downstream_end platform port → ⊥
-  up_down id port end up listed e = go up (lane_down port listed)
+  up_down : (id : ℕ) (port : DownstreamPort) (end : LinkEnd) → IsSentUp platform id end → Contains platform.ports port → end ≡ downstream_end platform port → ⊥
+  up_down id port end up listed e = go up (output_down port listed)
     where
-      go : IsSentUp platform id end → (place : ℕ) × (lane : ℕ) × IsLaneDown platform port place lane → ⊥
-      go (inl (place, is)) (again, lane, down) = let lane_is = lanes _ _ (sym is.same ∙ e ∙ down.end) in omega (arith, lane_is)
-      go (inr (place, is)) (again, lane, down) = let lane_is = lanes _ _ (sym is.same ∙ e ∙ down.end) in omega (arith, lane_is)
+      go : IsSentUp platform id end → (place : ℕ) × (output : ℕ) × IsOutputDown platform port place output → ⊥
+      go (inl (place, is)) (again, output, down) = let output_is = outputs _ _ (sym is.same ∙ e ∙ down.end) in omega (arith, output_is)
+      go (inr (place, is)) (again, output, down) = let output_is = outputs _ _ (sym is.same ∙ e ∙ down.end) in omega (arith, output_is)
 
   up_root : (id : ℕ) (end : LinkEnd) → IsSentUp platform id end → end ≡ root_end → ⊥
   up_root id end (inl (place, is)) e = let node = nodes _ _ (sym is.same ∙ e) in omega (arith, node)
   up_root id end (inr (place, is)) e = let node = nodes _ _ (sym is.same ∙ e) in omega (arith, node)
 
-  down_root : (port : PortLine) → Contains platform.ports port → downstream_end platform port ≡ root_end → ⊥
-  down_root port listed e = let down = lane_down port listed in let node = nodes _ _ (sym down.2.end ∙ e) in omega (arith, node)
+  down_root : (port : DownstreamPort) → Contains platform.ports port → downstream_end platform port ≡ root_end → ⊥
+  down_root port listed e = let down = output_down port listed in let node = nodes _ _ (sym down.2.end ∙ e) in omega (arith, node)
 
   up_and_down : (up down : ℕ) (end : LinkEnd) → IsSentUp platform up end → IsSentDown platform down end → ⊥
   up_and_down up down end is (inl (top, root)) = up_root up end is root
@@ -173,7 +173,7 @@ module _ (platform : Platform) (laws : IsPlatform platform) where
   both_down one other end (inl (top, root)) (inr (port, listed, below, from)) = absurd (down_root port listed (sym from ∙ root))
   both_down one other end (inr (port, listed, below, from)) (inl (top, root)) = absurd (down_root port listed (sym from ∙ root))
   both_down one other end (inr (port, listed, below, from)) (inr (again, again_listed, again_below, again_from)) =
-      below ∙ ap (λ (p : PortLine). id_below p) (down_apart port again listed again_listed (sym from ∙ again_from)) ∙ sym again_below
+      below ∙ ap (λ (p : DownstreamPort). id_below p) (down_apart port again listed again_listed (sym from ∙ again_from)) ∙ sym again_below
 
   pub ends_apart : (one other : Link) (way back : Way) → Contains (links_of platform) one → Contains (links_of platform) other → sending_end way one ≡ sending_end back other → (one.lower ≡ other.lower) × (way ≡ back)
   ends_apart one other way back one_listed other_listed = go way back (link_is platform laws one one_listed) (link_is platform laws other other_listed)
@@ -210,8 +210,8 @@ module _ (platform : Platform) (laws : IsPlatform platform) where
       let same = ends_apart from.0 again.0 one.way other.way from.1 again.1 (from.3 ∙ sym again.3) in
       same_direction one other (sym from.2 ∙ same.0 ∙ again.2) same.1
 
-  -- from the lane of a port, packets are sent down to what stands below it
-  pub down_alone : (port : PortLine) (direction : Direction) → Contains platform.ports port → sender_of (links_of platform) direction ≡ Some (downstream_end platform port) → direction ≡ record { lower = id_below port; way = Down }
+  -- from the output of a port, packets are sent down to what stands below it
+  pub down_alone : (port : DownstreamPort) (direction : Direction) → Contains platform.ports port → sender_of (links_of platform) direction ≡ Some (downstream_end platform port) → direction ≡ record { lower = id_below port; way = Down }
   down_alone port direction listed e =
       let from = sender_link direction (downstream_end platform port) e in
       let is = link_is platform laws from.0 from.1 in

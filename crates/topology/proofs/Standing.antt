@@ -3,13 +3,13 @@ use Rattle.std.proofs.Common.{◌≡◌, ℕ, ◌+◌, ◌*◌, ◌/◌, ◌<◌
 use Rattle.std.specs.Prelude.{◌||◌, Contains}
 use Rattle.std.proofs.lemmas.List.Elements.{Contains-append_cases, Contains-append_left, Contains-append_right}
 use Rattle.fab_types.specs.Id.{bus_of}
-use Rattle.layout.specs.declared.lines.SwitchLine.{SwitchLine}
-use Rattle.layout.specs.declared.lines.PortLine.{PortLine}
-use Rattle.layout.specs.declared.lines.FunctionLine.{FunctionLine}
+use Rattle.platform.specs.declared.parts.Switch.{Switch}
+use Rattle.platform.specs.declared.parts.DownstreamPort.{DownstreamPort}
+use Rattle.platform.specs.declared.parts.EndpointFunction.{EndpointFunction}
 use Rattle.layout.specs.Laws.{IsPlatform, is_placed, is_placed_below}
-use Rattle.layout.specs.Owners.{is_function}
-use Rattle.layout.specs.Platform.{Platform}
-use Rattle.layout.specs.Tree.{id_below, is_switch, is_taken, port_above, port_over}
+use Rattle.platform.specs.Owners.{is_function}
+use Rattle.platform.specs.Platform.{Platform}
+use Rattle.platform.specs.Tree.{id_below, is_switch, is_taken, port_above, port_leading_to}
 use Rattle.topology.specs.declared.links.Link.{Link}
 use Rattle.topology.specs.declared.nodes.LinkEnd.{LinkEnd}
 use Rattle.topology.specs.Links.{end_above, link_at, link_of_function, link_of_switch, links_of}
@@ -27,23 +27,23 @@ below_bus id secondary e = omega (arith, e)
 
 module _ (platform : Platform) (laws : IsPlatform platform) where
   -- the upstream port of a switch is the first ID of its bus
-  pub switch_id : (switch : SwitchLine) → Contains platform.switches switch → switch.id ≡ bus_of switch.id * 256
+  pub switch_id : (switch : Switch) → Contains platform.switches switch → switch.id ≡ bus_of switch.id * 256
   switch_id switch within = go (switch_above platform laws switch within)
     where
-      go : IsTop platform.ports switch ⊎ ((port : PortLine) × IsAbove platform.ports switch port) → switch.id ≡ bus_of switch.id * 256
+      go : IsTop platform.ports switch ⊎ ((port : DownstreamPort) × IsAbove platform.ports switch port) → switch.id ≡ bus_of switch.id * 256
       go (inl top) = let id = top.id in omega (arith, id)
       go (inr (port, is)) = below_bus switch.id port.secondary is.below
 
   -- nothing stands on bus 1 but the top switch
-  pub not_top : (port : PortLine) → Contains platform.ports port → 256 ≡ id_below port → ⊥
+  pub not_top : (port : DownstreamPort) → Contains platform.ports port → 256 ≡ id_below port → ⊥
   not_top port within e = let has = buses platform laws port within in let own = has.own in let after = has.after in omega (arith, own, after, e)
 
   -- no upstream port has the ID of a downstream port
-  pub ids_apart : (switch : SwitchLine) (port : PortLine) → Contains platform.switches switch → Contains platform.ports port → switch.id ≡ port.id → ⊥
+  pub ids_apart : (switch : Switch) (port : DownstreamPort) → Contains platform.switches switch → Contains platform.ports port → switch.id ≡ port.id → ⊥
   ids_apart switch port switch_listed port_listed same = go (switch_above platform laws switch switch_listed) (above_bus platform laws port port_listed)
     where
       -- the port above the switch and the one above the port's own would share the bus of both
-      both : (over above : PortLine) → IsAbove platform.ports switch over → Contains platform.ports above → IsWithin above port → ⊥
+      both : (over above : DownstreamPort) → IsAbove platform.ports switch over → Contains platform.ports above → IsWithin above port → ⊥
       both over above is listed within =
           let upper = buses platform laws over is.listed in
           let upper_after = upper.after in
@@ -60,11 +60,11 @@ module _ (platform : Platform) (laws : IsPlatform platform) where
           (record { first = omega (arith, first); last = omega (arith, first, upper_rising) }) (record { first = omega (arith, bus); last = omega (arith, last, after, rising) })) upper_after above_after bus first
         where
           by_nesting : AreNested over above → bus_of over.id < over.secondary → bus_of above.id < above.secondary → above.secondary + 1 ≡ bus_of port.id → over.secondary ≡ bus_of port.id → ⊥
-          by_nesting (inl one) upper_after above_after bus first = let equal : over.secondary ≡ above.secondary = ap (λ (p : PortLine). p.secondary) one in omega (arith, equal, bus, first)
+          by_nesting (inl one) upper_after above_after bus first = let equal : over.secondary ≡ above.secondary = ap (λ (p : DownstreamPort). p.secondary) one in omega (arith, equal, bus, first)
           by_nesting (inr (inl below)) upper_after above_after bus first = omega (arith, below, upper_after, bus, first)
           by_nesting (inr (inr below)) upper_after above_after bus first = omega (arith, below, above_after, bus, first)
 
-      go : IsTop platform.ports switch ⊎ ((over : PortLine) × IsAbove platform.ports switch over) → (bus_of port.id ≡ 2) ⊎ ((above : PortLine) × Contains platform.ports above × IsWithin above port) → ⊥
+      go : IsTop platform.ports switch ⊎ ((over : DownstreamPort) × IsAbove platform.ports switch over) → (bus_of port.id ≡ 2) ⊎ ((above : DownstreamPort) × Contains platform.ports above × IsWithin above port) → ⊥
       go (inl top) bus = let id = top.id in let own = (buses platform laws port port_listed).own in omega (arith, id, own, same)
       go (inr (over, is)) (inl two) =
           let has = buses platform laws over is.listed in
@@ -78,7 +78,7 @@ module _ (platform : Platform) (laws : IsPlatform platform) where
 
 -- packets are sent down to the top switch from the root port, and to all else from the port directly above
 abbrev pub IsSentDown : Platform → ℕ → LinkEnd → Type 0
-IsSentDown platform id end = ((id ≡ 256) × (end ≡ root_end)) ⊎ ((port : PortLine) × Contains platform.ports port × (id ≡ id_below port) × (end ≡ downstream_end platform port))
+IsSentDown platform id end = ((id ≡ 256) × (end ≡ root_end)) ⊎ ((port : DownstreamPort) × Contains platform.ports port × (id ≡ id_below port) × (end ≡ downstream_end platform port))
 
 pub record IsLinkOf (platform : Platform) (link : Link) : Type 0 where
   pub taken : is_taken platform.switches platform.functions link.lower ≡ true
@@ -105,28 +105,28 @@ same_link one other lower above below =
 
 -- ---- links of functions
 
-function_over : (ports : List PortLine) (function : FunctionLine) (port : Option PortLine) → port ≡ port_over ports function.id → is_placed_below port function ≡ true
-    → (over : PortLine) × Contains ports over × (function.id ≡ id_below over) × (port_over ports function.id ≡ Some over)
+function_over : (ports : List DownstreamPort) (function : EndpointFunction) (port : Option DownstreamPort) → port ≡ port_leading_to ports function.id → is_placed_below port function ≡ true
+    → (over : DownstreamPort) × Contains ports over × (function.id ≡ id_below over) × (port_leading_to ports function.id ≡ Some over)
 function_over ports function None e h = absurd cc
 function_over ports function (Some port) e h =
     let at = found (λ p. id_below p == function.id) ports port (sym e) in
     (port, at.0, sym (eqb-true _ _ at.1), sym e)
 
 module _ (platform : Platform) (laws : IsPlatform platform) where
-  switch_link : (switch : SwitchLine) → Contains platform.switches switch → IsLinkOf platform (link_of_switch platform switch)
+  switch_link : (switch : Switch) → Contains platform.switches switch → IsLinkOf platform (link_of_switch platform switch)
   switch_link switch within = record {
     taken = or_left _ _ (some_passes (λ s. s.id == switch.id) platform.switches switch within (eq-eqb switch.id switch.id refl));
     below = refl;
     above = go (switch_above platform laws switch within);
   }
     where
-      go : IsTop platform.ports switch ⊎ ((port : PortLine) × IsAbove platform.ports switch port) → IsSentDown platform switch.id (end_above platform (port_above platform.ports switch))
+      go : IsTop platform.ports switch ⊎ ((port : DownstreamPort) × IsAbove platform.ports switch port) → IsSentDown platform switch.id (end_above platform (port_above platform.ports switch))
       go (inl top) = inl (top.id, ap (end_above platform) top.found)
       go (inr (port, is)) = inr (port, is.listed, is.below, ap (end_above platform) is.found)
 
-  function_link : (function : FunctionLine) → Contains platform.functions function → IsLinkOf platform (link_of_function platform function)
+  function_link : (function : EndpointFunction) → Contains platform.functions function → IsLinkOf platform (link_of_function platform function)
   function_link function within =
-      let over = function_over platform.ports function (port_over platform.ports function.id) refl (passes (is_placed platform.ports) platform.functions function laws.placed within) in
+      let over = function_over platform.ports function (port_leading_to platform.ports function.id) refl (passes (is_placed platform.ports) platform.functions function laws.placed within) in
       record {
         taken = or_right _ _ (some_passes (λ f. f.id == function.id) platform.functions function within (eq-eqb function.id function.id refl));
         below = refl;
@@ -167,7 +167,7 @@ module _ (platform : Platform) (laws : IsPlatform platform) where
 
 -- ---- and back
 
-pub link_of_listed : (platform : Platform) (switch : SwitchLine) → Contains platform.switches switch → Contains (links_of platform) (link_of_switch platform switch)
+pub link_of_listed : (platform : Platform) (switch : Switch) → Contains platform.switches switch → Contains (links_of platform) (link_of_switch platform switch)
 link_of_listed platform switch within =
     Contains-append_left (map (link_of_switch platform) platform.switches) (map (link_of_function platform) platform.functions) (link_of_switch platform switch) (mapped (link_of_switch platform) platform.switches switch within)
 

@@ -4,25 +4,25 @@ use Rattle.std.specs.List.{find}
 use Rattle.fab_types.specs.declared.place.Direction.{Direction}
 use Rattle.fab_types.specs.declared.place.Way.{Way}
 use Rattle.fab_types.specs.declared.place.Way.TheVariants.{Up, Down}
-use Rattle.layout.specs.declared.lines.SwitchLine.{SwitchLine}
-use Rattle.layout.specs.declared.lines.PortLine.{PortLine}
-use Rattle.layout.specs.declared.lines.FunctionLine.{FunctionLine}
-use Rattle.layout.specs.Platform.{Platform}
-use Rattle.layout.specs.Tree.{port_above, port_over}
+use Rattle.platform.specs.declared.parts.Switch.{Switch}
+use Rattle.platform.specs.declared.parts.DownstreamPort.{DownstreamPort}
+use Rattle.platform.specs.declared.parts.EndpointFunction.{EndpointFunction}
+use Rattle.platform.specs.Platform.{Platform}
+use Rattle.platform.specs.Tree.{port_above, port_leading_to}
 use Rattle.topology.specs.declared.links.Link.{Link}
 use Rattle.topology.specs.declared.nodes.LinkEnd.{LinkEnd}
 use Rattle.topology.specs.Nodes.{downstream_end, root_end, upstream_end}
 
 -- without a port above it hangs below the root port
-abbrev pub end_above : Platform → Option PortLine → LinkEnd
+abbrev pub end_above : Platform → Option DownstreamPort → LinkEnd
 end_above platform None = root_end
 end_above platform (Some port) = downstream_end platform port
 
-abbrev pub link_of_switch : Platform → SwitchLine → Link
+abbrev pub link_of_switch : Platform → Switch → Link
 link_of_switch platform switch = record { lower = switch.id; above = end_above platform (port_above platform.ports switch); below = upstream_end platform switch.id }
 
-abbrev pub link_of_function : Platform → FunctionLine → Link
-link_of_function platform function = record { lower = function.id; above = end_above platform (port_over platform.ports function.id); below = upstream_end platform function.id }
+abbrev pub link_of_function : Platform → EndpointFunction → Link
+link_of_function platform function = record { lower = function.id; above = end_above platform (port_leading_to platform.ports function.id); below = upstream_end platform function.id }
 
 abbrev pub links_of : Platform → List Link
 links_of platform = map (link_of_switch platform) platform.switches ++ map (link_of_function platform) platform.functions

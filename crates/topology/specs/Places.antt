@@ -1,16 +1,16 @@
--- The ports of switches: among which lanes each puts packets, and from where packets come into it.
+-- The ports of switches: among which outputs each puts packets, and from where packets come into it.
 use Rattle.std.specs.Prelude.{ℕ, ◌==◌, List, ◌++◌, map, Option, Some, None, if◌then◌else◌}
 use Rattle.std.specs.List.{find}
-use Rattle.layout.specs.declared.lines.SwitchLine.{SwitchLine}
-use Rattle.layout.specs.declared.lines.PortLine.{PortLine}
-use Rattle.layout.specs.Platform.{Platform}
-use Rattle.layout.specs.Tree.{id_below, is_taken, port_above}
+use Rattle.platform.specs.declared.parts.Switch.{Switch}
+use Rattle.platform.specs.declared.parts.DownstreamPort.{DownstreamPort}
+use Rattle.platform.specs.Platform.{Platform}
+use Rattle.platform.specs.Tree.{id_below, is_taken, port_above}
 use Rattle.topology.specs.declared.places.PortPlace.{PortPlace}
 use Rattle.topology.specs.Links.{end_above}
 use Rattle.topology.specs.Nodes.{downstream_end, upstream_end}
 
 -- into the upstream port of a switch packets come from the port above
-abbrev pub upstream_place : Platform → SwitchLine → PortPlace
+abbrev pub upstream_place : Platform → Switch → PortPlace
 upstream_place platform switch = record {
   id = switch.id;
   node = (upstream_end platform switch.id).node;
@@ -18,7 +18,7 @@ upstream_place platform switch = record {
 }
 
 -- into a downstream port they come from what stands below, if anything does
-abbrev pub downstream_place : Platform → PortLine → PortPlace
+abbrev pub downstream_place : Platform → DownstreamPort → PortPlace
 downstream_place platform port = record {
   id = port.id;
   node = (downstream_end platform port).node;

@@ -1,14 +1,14 @@
 -- What the laws of the ends of links take of a platform beside the laws of `layout`. It holds of every platform that
 -- is read: a line that names a place where something stands is faulty, and so is the top switch in a later line.
 use Rattle.std.specs.Prelude.{◌≡◌, ◌==◌, Bool, true, not, List, [], ◌∷◌, is_none}
-use Rattle.layout.specs.declared.lines.SwitchLine.{SwitchLine}
+use Rattle.platform.specs.declared.parts.Switch.{Switch}
 use Rattle.layout.specs.Laws.{each_pair}
-use Rattle.layout.specs.Platform.{Platform}
+use Rattle.platform.specs.Platform.{Platform}
 
-abbrev pub have_other_ids : SwitchLine → SwitchLine → Bool
+abbrev pub have_other_ids : Switch → Switch → Bool
 have_other_ids one other = not (one.id == other.id)
 
-abbrev pub is_top_first : List SwitchLine → Bool
+abbrev pub is_top_first : List Switch → Bool
 is_top_first [] = true
 is_top_first (first ∷ rest) = is_none first.above
 

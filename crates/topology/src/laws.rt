@@ -6,12 +6,12 @@ ghost use Rattle.fab_types.specs.Id.{bus_of};
 ghost use Rattle.fab_types.specs.declared.place.Direction.{Direction};
 ghost use Rattle.fab_types.specs.declared.place.Way.{Way};
 ghost use Rattle.fab_types.specs.declared.place.Way.TheVariants.{Up, Down};
-ghost use Rattle.layout.specs.declared.lines.FunctionLine.{FunctionLine};
-ghost use Rattle.layout.specs.declared.lines.PortLine.{PortLine};
-ghost use Rattle.layout.specs.declared.lines.SwitchLine.{SwitchLine};
+ghost use Rattle.platform.specs.declared.parts.EndpointFunction.{EndpointFunction};
+ghost use Rattle.platform.specs.declared.parts.DownstreamPort.{DownstreamPort};
+ghost use Rattle.platform.specs.declared.parts.Switch.{Switch};
 ghost use Rattle.layout.specs.Laws.{IsPlatform};
-ghost use Rattle.layout.specs.Platform.{Platform};
-ghost use Rattle.layout.specs.Tree.{has_root, id_below, internal_bus, is_taken};
+ghost use Rattle.platform.specs.Platform.{Platform};
+ghost use Rattle.platform.specs.Tree.{has_root, id_below, internal_bus, is_taken};
 ghost use Rattle.topology.specs.declared.links.Link.{Link};
 ghost use Rattle.topology.specs.declared.nodes.LinkEnd.{LinkEnd};
 ghost use Rattle.topology.specs.declared.places.PortPlace.{PortPlace};
@@ -32,57 +32,57 @@ pub fn links_have_ends_of_their_own()
 /// What comes into the upstream port of a switch is sent down its link. What comes into a downstream port is
 /// sent up the link of what stands below, if anything does.
 pub fn ports_take_what_links_bring()
-    ensures upstream { (platform : Platform) (switch : SwitchLine) → IsPlatform platform → Contains platform.switches switch
+    ensures upstream { (platform : Platform) (switch : Switch) → IsPlatform platform → Contains platform.switches switch
         → (upstream_place platform switch).input ≡ sender_of (links_of platform) (record { lower = switch.id; way = Down }) }
-    ensures downstream { (platform : Platform) (port : PortLine) → IsPlatform platform
+    ensures downstream { (platform : Platform) (port : DownstreamPort) → IsPlatform platform
         → (downstream_place platform port).input ≡ sender_of (links_of platform) (record { lower = id_below port; way = Up }) }
 {}
 
-/// Lane 0 of a switch or a function leads up its own link. Lane k + 1 of a switch leads down through its k-th port, as
+/// Output 0 of a switch or a function leads up its own link. Output k + 1 of a switch leads down through its k-th port, as
 /// the layout lists those on its internal bus, to what stands below that port, and nothing else is sent from there.
-pub fn lanes_lead_to_links()
-    ensures up { (platform : Platform) (switch : SwitchLine) → IsPlatform platform → Contains platform.switches switch
-        → sender_of (links_of platform) (record { lower = switch.id; way = Up }) ≡ Some (record { node = (upstream_end platform switch.id).node; lane = 0 }) }
-    ensures function { (platform : Platform) (function : FunctionLine) → IsPlatform platform → Contains platform.functions function
-        → sender_of (links_of platform) (record { lower = function.id; way = Up }) ≡ Some (record { node = (upstream_end platform function.id).node; lane = 0 }) }
+pub fn outputs_lead_to_links()
+    ensures up { (platform : Platform) (switch : Switch) → IsPlatform platform → Contains platform.switches switch
+        → sender_of (links_of platform) (record { lower = switch.id; way = Up }) ≡ Some (record { node = (upstream_end platform switch.id).node; output = 0 }) }
+    ensures function { (platform : Platform) (function : EndpointFunction) → IsPlatform platform → Contains platform.functions function
+        → sender_of (links_of platform) (record { lower = function.id; way = Up }) ≡ Some (record { node = (upstream_end platform function.id).node; output = 0 }) }
     // A downstream port on a switch's internal bus sends down from the node of that switch,
-    ensures node { (platform : Platform) (switch : SwitchLine) (port : PortLine) → IsPlatform platform → Contains platform.switches switch → bus_of port.id ≡ internal_bus switch
+    ensures node { (platform : Platform) (switch : Switch) (port : DownstreamPort) → IsPlatform platform → Contains platform.switches switch → bus_of port.id ≡ internal_bus switch
         → (downstream_end platform port).node ≡ (upstream_end platform switch.id).node }
-    // by the lane after the port's place on the bus,
-    ensures lane { (platform : Platform) (port : PortLine) → IsPlatform platform → Contains platform.ports port
-        → IsSomeAnd (position (λ other. other.id == port.id) (ports_on platform.ports (bus_of port.id))) (λ place. (downstream_end platform port).lane ≡ 1 + place) }
-    // and so each such lane is that of the port at this place.
-    ensures port { (platform : Platform) (switch : SwitchLine) (k : ℕ) (d : PortLine) → IsPlatform platform → Contains platform.switches switch
+    // by the output after the port's place on the bus,
+    ensures output { (platform : Platform) (port : DownstreamPort) → IsPlatform platform → Contains platform.ports port
+        → IsSomeAnd (position (λ other. other.id == port.id) (ports_on platform.ports (bus_of port.id))) (λ place. (downstream_end platform port).output ≡ 1 + place) }
+    // and so each such output is that of the port at this place.
+    ensures port { (platform : Platform) (switch : Switch) (k : ℕ) (d : DownstreamPort) → IsPlatform platform → Contains platform.switches switch
         → k < length (ports_on platform.ports (internal_bus switch))
-        → downstream_end platform (slice_index_or (ports_on platform.ports (internal_bus switch)) k d) ≡ record { node = (upstream_end platform switch.id).node; lane = 1 + k } }
-    ensures below { (platform : Platform) (port : PortLine) → IsPlatform platform → Contains platform.ports port
+        → downstream_end platform (slice_index_or (ports_on platform.ports (internal_bus switch)) k d) ≡ record { node = (upstream_end platform switch.id).node; output = 1 + k } }
+    ensures below { (platform : Platform) (port : DownstreamPort) → IsPlatform platform → Contains platform.ports port
         → is_taken platform.switches platform.functions (id_below port) ≡ true
         → sender_of (links_of platform) (record { lower = id_below port; way = Down }) ≡ Some (downstream_end platform port) }
-    ensures alone { (platform : Platform) (port : PortLine) (direction : Direction) → IsPlatform platform → Contains platform.ports port
+    ensures alone { (platform : Platform) (port : DownstreamPort) (direction : Direction) → IsPlatform platform → Contains platform.ports port
         → sender_of (links_of platform) direction ≡ Some (downstream_end platform port) → direction ≡ record { lower = id_below port; way = Down } }
     // Each downstream port stands on the internal bus of a switch.
-    ensures switch { (platform : Platform) (port : PortLine) → IsPlatform platform → Contains platform.ports port
+    ensures switch { (platform : Platform) (port : DownstreamPort) → IsPlatform platform → Contains platform.ports port
         → Any (λ switch. internal_bus switch ≡ bus_of port.id) platform.switches }
 {}
 
 /// The place of a port is found by the port's ID: no upstream port has the ID of a downstream port, and no two
 /// places are of one ID.
 pub fn places_are_found()
-    ensures upstream { (platform : Platform) (switch : SwitchLine) → IsPlatform platform → Contains platform.switches switch
+    ensures upstream { (platform : Platform) (switch : Switch) → IsPlatform platform → Contains platform.switches switch
         → place_at (places_of platform) switch.id ≡ Some (upstream_place platform switch) }
-    ensures downstream { (platform : Platform) (port : PortLine) → IsPlatform platform → Contains platform.ports port
+    ensures downstream { (platform : Platform) (port : DownstreamPort) → IsPlatform platform → Contains platform.ports port
         → place_at (places_of platform) port.id ≡ Some (downstream_place platform port) }
-    ensures apart { (platform : Platform) (switch : SwitchLine) (port : PortLine) → IsPlatform platform → Contains platform.switches switch → Contains platform.ports port
+    ensures apart { (platform : Platform) (switch : Switch) (port : DownstreamPort) → IsPlatform platform → Contains platform.switches switch → Contains platform.ports port
         → switch.id ≢ port.id }
     ensures place { (platform : Platform) (k : ℕ) (d : PortPlace) → IsPlatform platform → IsWellPlaced platform → k < length (places_of platform)
         → position (λ place. place.id == (slice_index_or (places_of platform) k d).id) (places_of platform) ≡ Some k }
 {}
 
-/// The root port sends down to the top switch, 01:00.0, by the one lane of node 0; that switch is node 1, and sends
-/// up by its lane 0.
+/// The root port sends down to the top switch, 01:00.0, by the one output of node 0; that switch is node 1, and sends
+/// up by its output 0.
 pub fn root_sends_down()
     ensures down { (platform : Platform) → IsPlatform platform → has_root platform.switches ≡ true
-        → sender_of (links_of platform) (record { lower = 0x0100; way = Down }) ≡ Some (record { node = 0; lane = 0 }) }
+        → sender_of (links_of platform) (record { lower = 0x0100; way = Down }) ≡ Some (record { node = 0; output = 0 }) }
     ensures up { (platform : Platform) → IsPlatform platform → IsWellPlaced platform → has_root platform.switches ≡ true
-        → sender_of (links_of platform) (record { lower = 0x0100; way = Up }) ≡ Some (record { node = 1; lane = 0 }) }
+        → sender_of (links_of platform) (record { lower = 0x0100; way = Up }) ≡ Some (record { node = 1; output = 0 }) }
 {}

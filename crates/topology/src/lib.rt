@@ -9,7 +9,7 @@ mod places;
 mod topology;
 
 pub use laws::{
-    lanes_lead_to_links, links_have_ends_of_their_own, places_are_found,
+    links_have_ends_of_their_own, outputs_lead_to_links, places_are_found,
     ports_take_what_links_bring, root_sends_down,
 };
 pub use links::Link;

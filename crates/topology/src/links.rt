@@ -1,12 +1,13 @@
 //! Links.
 
 ghost use Rattle.std.specs.Prelude.{◌≡◌, IfOk, map, ◌++◌};
-ghost use Rattle.layout.specs.Tree.{port_above};
+ghost use Rattle.platform.specs.Tree.{port_above};
 ghost use Rattle.topology.specs.Links.{end_above, link_of_switch, link_of_function, links_of, sending_end};
 
 use crate::nodes::{LinkEnd, downstream_end, root_end, upstream_end};
 use fab_types::{Bdf, NoMemory, Way};
-use layout::{FunctionLine, Layout, PortLine, SwitchLine, port_above, port_over};
+use layout::Layout;
+use platform::{DownstreamPort, EndpointFunction, Switch, port_above, port_leading_to};
 use std::alloc::Global;
 
 /// A link, which joins a function, or the upstream port of a switch, to the port above it.
@@ -20,7 +21,7 @@ pub struct Link {
     pub below: LinkEnd,
 }
 
-fn end_above(layout: &Layout, port: Option<PortLine>) -> LinkEnd
+fn end_above(layout: &Layout, port: Option<DownstreamPort>) -> LinkEnd
     ensures { result ≡ end_above layout.now port }
 {
     match port {
@@ -30,13 +31,13 @@ fn end_above(layout: &Layout, port: Option<PortLine>) -> LinkEnd
 }
 
 /// Where packets are sent down to a switch from.
-pub(crate) fn end_above_switch(layout: &Layout, switch: &SwitchLine) -> LinkEnd
+pub(crate) fn end_above_switch(layout: &Layout, switch: &Switch) -> LinkEnd
     ensures { result ≡ end_above layout.now (port_above (layout.now).ports switch.now) }
 {
     end_above(layout, port_above(layout.ports(), switch))
 }
 
-fn link_of_switch(layout: &Layout, switch: &SwitchLine) -> Link
+fn link_of_switch(layout: &Layout, switch: &Switch) -> Link
     ensures { result ≡ link_of_switch layout.now switch.now }
 {
     Link {
@@ -46,12 +47,12 @@ fn link_of_switch(layout: &Layout, switch: &SwitchLine) -> Link
     }
 }
 
-fn link_of_function(layout: &Layout, function: &FunctionLine) -> Link
+fn link_of_function(layout: &Layout, function: &EndpointFunction) -> Link
     ensures { result ≡ link_of_function layout.now function.now }
 {
     Link {
         lower: function.id,
-        above: end_above(layout, port_over(layout.ports(), function.id)),
+        above: end_above(layout, port_leading_to(layout.ports(), function.id)),
         below: upstream_end(layout, function.id),
     }
 }

@@ -1,38 +1,33 @@
-//! The nodes of a tree, and the lanes that lead out of them.
+//! The nodes of a tree, and the outputs that lead out of them.
 
 ghost use Rattle.std.specs.Prelude.{◌≡◌, ◌==◌, ◌+◌, ◌<◌, IfSome, length, count_by};
 ghost use Rattle.std.specs.List.{position, filter};
-ghost use Rattle.layout.specs.Rules.{is_on_bus};
-ghost use Rattle.layout.specs.Tree.{internal_bus};
-ghost use Rattle.topology.specs.Nodes.{root_end, ports_on, lanes_of_switch, lane_of, end_of_port, downstream_end, function_end, upstream_end_at, upstream_end};
+ghost use Rattle.platform.specs.Tree.{is_on_bus};
+ghost use Rattle.platform.specs.Tree.{internal_bus};
+ghost use Rattle.topology.specs.Nodes.{root_end, ports_on, outputs_of_switch, output_of, end_of_port, downstream_end, function_end, upstream_end_at, upstream_end};
 
 use fab_types::{Bdf, PortId};
-use layout::{FunctionLine, Layout, PortLine, SwitchLine, internal_bus};
+use layout::Layout;
+use platform::{DownstreamPort, EndpointFunction, Switch, internal_bus, is_on_bus};
 
-/// Where packets are sent from in one direction of a link: a node of the tree, and one of its lanes. The
+/// Where packets are sent from in one direction of a link: a node of the tree, and one of its outputs. The
 /// nodes are the root complex, the switches and the functions, in this order. The root complex and a
-/// function have lane 0 alone; out of a switch lane 0 leads up, and the lanes from 1 on lead down.
+/// function have output 0 alone; out of a switch output 0 leads up, and the outputs from 1 on lead down.
 #[derive(Clone, Copy, Debug, PartialEq, Eq)]
 pub struct LinkEnd {
     pub node: usize,
-    pub lane: usize,
+    pub output: usize,
 }
 
 /// The root port.
 pub(crate) fn root_end() -> LinkEnd
     ensures { result ≡ root_end }
 {
-    LinkEnd { node: 0, lane: 0 }
-}
-
-fn is_on_bus(bus: u16, port: &PortLine) -> bool
-    ensures { result ≡ is_on_bus bus port.now }
-{
-    u16::from(port.id.id().bus()) == bus
+    LinkEnd { node: 0, output: 0 }
 }
 
 /// Where a port stands among the ports of its switch.
-fn place_on(ports: &[PortLine], bus: u16, id: PortId) -> Option<usize>
+fn place_on(ports: &[DownstreamPort], bus: u16, id: PortId) -> Option<usize>
     ensures place { result ≡ position (λ port. port.id == id) (ports_on ports.now bus) }
     ensures within { IfSome result (λ place. place < length ports.now) }
 {
@@ -42,16 +37,16 @@ fn place_on(ports: &[PortLine], bus: u16, id: PortId) -> Option<usize>
         .position(|port| port.id == id)
 }
 
-/// How many lanes lead out of a switch.
-pub(crate) fn lanes_of_switch(ports: &[PortLine], switch: &SwitchLine) -> usize
-    ensures { result ≡ lanes_of_switch ports.now switch.now }
+/// How many outputs lead out of a switch.
+pub(crate) fn outputs_of_switch(ports: &[DownstreamPort], switch: &Switch) -> usize
+    ensures { result ≡ outputs_of_switch ports.now switch.now }
 {
     let bus = internal_bus(switch);
     1 + ports.iter().filter(|port| is_on_bus(bus, port)).count()
 }
 
-fn lane_of(ports: &[PortLine], port: &PortLine) -> usize
-    ensures { result ≡ lane_of ports.now port.now }
+fn output_of(ports: &[DownstreamPort], port: &DownstreamPort) -> usize
+    ensures { result ≡ output_of ports.now port.now }
 {
     match place_on(ports, u16::from(port.id.id().bus()), port.id) {
         Some(place) => place + 1,
@@ -59,7 +54,7 @@ fn lane_of(ports: &[PortLine], port: &PortLine) -> usize
     }
 }
 
-fn switch_on(switches: &[SwitchLine], bus: u16) -> Option<usize>
+fn switch_on(switches: &[Switch], bus: u16) -> Option<usize>
     ensures { result ≡ position (λ switch. internal_bus switch == bus) switches.now }
 {
     switches
@@ -67,26 +62,26 @@ fn switch_on(switches: &[SwitchLine], bus: u16) -> Option<usize>
         .position(|switch| internal_bus(switch) == bus)
 }
 
-fn switch_with(switches: &[SwitchLine], id: Bdf) -> Option<usize>
+fn switch_with(switches: &[Switch], id: Bdf) -> Option<usize>
     ensures { result ≡ position (λ switch. switch.id == id) switches.now }
 {
     switches.iter().position(|switch| switch.id == id)
 }
 
-fn function_with(functions: &[FunctionLine], id: Bdf) -> Option<usize>
+fn function_with(functions: &[EndpointFunction], id: Bdf) -> Option<usize>
     ensures { result ≡ position (λ function. function.id == id) functions.now }
 {
     functions.iter().position(|function| function.id == id)
 }
 
 /// Where packets are sent down from a downstream port.
-pub(crate) fn downstream_end(layout: &Layout, port: &PortLine) -> LinkEnd
+pub(crate) fn downstream_end(layout: &Layout, port: &DownstreamPort) -> LinkEnd
     ensures { result ≡ downstream_end layout.now port.now }
 {
     match switch_on(layout.switches(), u16::from(port.id.id().bus())) {
         Some(place) => LinkEnd {
             node: 1 + place,
-            lane: lane_of(layout.ports(), port),
+            output: output_of(layout.ports(), port),
         },
         None => root_end(),
     }
@@ -99,13 +94,13 @@ pub(crate) fn upstream_end(layout: &Layout, id: Bdf) -> LinkEnd
     if let Some(place) = switch_with(layout.switches(), id) {
         return LinkEnd {
             node: 1 + place,
-            lane: 0,
+            output: 0,
         };
     }
     match function_with(layout.functions(), id) {
         Some(place) => LinkEnd {
             node: 1 + layout.switches().len() + place,
-            lane: 0,
+            output: 0,
         },
         None => root_end(),
     }

@@ -6,20 +6,21 @@ ghost use Rattle.topology.specs.Places.{upstream_place, downstream_place, places
 use crate::links::end_above_switch;
 use crate::nodes::{LinkEnd, downstream_end, upstream_end};
 use fab_types::{NoMemory, PortId};
-use layout::{Layout, PortLine, SwitchLine, id_below, is_taken};
+use layout::Layout;
+use platform::{DownstreamPort, Switch, id_below, is_taken};
 use std::alloc::Global;
 
 /// Where a port of a switch stands.
 #[derive(Clone, Copy, Debug, PartialEq, Eq)]
 pub struct PortPlace {
     pub id: PortId,
-    /// The node of its switch, whose lanes it puts packets into.
+    /// The node of its switch, whose outputs it puts packets into.
     pub node: usize,
     /// Where the packets are sent from that come into it, if anything can send any.
     pub input: Option<LinkEnd>,
 }
 
-fn upstream_place(layout: &Layout, switch: &SwitchLine) -> PortPlace
+fn upstream_place(layout: &Layout, switch: &Switch) -> PortPlace
     ensures { result ≡ upstream_place layout.now switch.now }
 {
     PortPlace {
@@ -29,7 +30,7 @@ fn upstream_place(layout: &Layout, switch: &SwitchLine) -> PortPlace
     }
 }
 
-fn input_of(layout: &Layout, port: &PortLine) -> Option<LinkEnd>
+fn input_of(layout: &Layout, port: &DownstreamPort) -> Option<LinkEnd>
     ensures { result ≡ (downstream_place layout.now port.now).input }
 {
     if is_taken(layout.switches(), layout.functions(), id_below(port)) {
@@ -39,7 +40,7 @@ fn input_of(layout: &Layout, port: &PortLine) -> Option<LinkEnd>
     }
 }
 
-fn downstream_place(layout: &Layout, port: &PortLine) -> PortPlace
+fn downstream_place(layout: &Layout, port: &DownstreamPort) -> PortPlace
     ensures { result ≡ downstream_place layout.now port.now }
 {
     PortPlace {

@@ -5,14 +5,13 @@ ghost use Rattle.std.specs.List.{position, position_or_len};
 ghost use Rattle.std.specs.Option.{option_copied};
 ghost use Rattle.fab_types.specs.Id.{bus_of};
 ghost use Rattle.topology.specs.FirstIndexes.{firsts_of, link_buses, place_slots, slot_of};
-ghost use Rattle.topology.specs.Nodes.{lanes_of};
+ghost use Rattle.topology.specs.Nodes.{outputs_of};
 ghost use Rattle.topology.specs.Links.{link_at, sender_of};
-ghost use Rattle.topology.specs.Places.{place_at};
-ghost use Rattle.topology.specs.Topologies.{IsSound, tree_of};
+ghost use Rattle.topology.specs.Topologies.{IsTree, tree_of};
 
 use crate::first_index::FirstIndex;
 use crate::links::{Link, links_of};
-use crate::nodes::{LinkEnd, lanes_of_switch};
+use crate::nodes::{LinkEnd, outputs_of_switch};
 use crate::places::{PortPlace, places_of};
 use fab_types::{Bdf, Direction, NoMemory, PortId};
 use layout::Layout;
@@ -23,7 +22,7 @@ use std::marker::Model;
 /// Where the links of a layout lead, and where the ports of its switches stand. A contract sees a `Tree`.
 #[derive(Drop)]
 pub struct Topology {
-    lanes: Vec<usize>,
+    outputs: Vec<usize>,
     links: Vec<Link>,
     places: Vec<PortPlace>,
     links_by_bus: FirstIndex,
@@ -31,22 +30,22 @@ pub struct Topology {
 }
 
 impl Model for Topology {
-    ghost use Rattle.topology.specs.Topologies.{Tree, IsIndexed, view_of};
+    ghost use Rattle.topology.specs.Topologies.{Tree, IsIndexed, topology_view};
 
     ghost Value = { Tree };
 
-    ghost view = { view_of };
+    ghost view = { topology_view };
 
     ghost invariant = { IsIndexed };
 }
 
-fn lanes_of(alloc: Global, layout: &Layout) -> Result<Vec<usize>, NoMemory>
-    ensures { IfOk result (λ lanes. lanes.items ≡ lanes_of layout.now) }
+fn outputs_of(alloc: Global, layout: &Layout) -> Result<Vec<usize>, NoMemory>
+    ensures { IfOk result (λ outputs. outputs.items ≡ outputs_of layout.now) }
 {
     let of_switches = layout
         .switches()
         .iter()
-        .map(|line| lanes_of_switch(layout.ports(), line));
+        .map(|line| outputs_of_switch(layout.ports(), line));
     let of_functions = layout.functions().iter().map(|_| 1);
     Ok(
         once(1)
@@ -103,12 +102,6 @@ fn find_link(links: &[Link], lower: Bdf) -> Option<&Link>
     links.iter().find(|link| link.lower == lower)
 }
 
-fn find_place(places: &[PortPlace], id: PortId) -> Option<&PortPlace>
-    ensures { option_copied result ≡ place_at places.now id }
-{
-    places.iter().find(|place| place.id == id)
-}
-
 fn find_number(places: &[PortPlace], id: PortId) -> Option<usize>
     ensures value { result ≡ position (λ place. place.id == id) places.now }
     ensures within { IfSome result (λ i. i < length places.now) }
@@ -121,12 +114,12 @@ impl Topology {
     pub fn new(alloc: Global, layout: &Layout) -> Result<Topology, NoMemory>
         ensures { IfOk result (λ topology. topology ≡ tree_of layout.now) }
     {
-        // It tells what holds of every platform.
+        // for the proof: what holds of every platform
         let _ = layout.ports();
         let links = links_of(alloc, layout)?;
         let places = places_of(alloc, layout)?;
         Ok(Topology {
-            lanes: lanes_of(alloc, layout)?,
+            outputs: outputs_of(alloc, layout)?,
             links_by_bus: index_links(alloc, &links)?,
             places_by_slot: index_places(alloc, &places)?,
             links,
@@ -134,17 +127,17 @@ impl Topology {
         })
     }
 
-    /// How many lanes lead out of each node.
-    pub fn lanes(&self) -> &[usize]
-        ensures { result.now ≡ self.now.lanes }
+    /// How many outputs lead out of each node.
+    pub fn outputs(&self) -> &[usize]
+        ensures { result.now ≡ self.now.outputs }
     {
-        &self.lanes
+        &self.outputs
     }
 
     /// All links: those of switches, and then those of functions, in the order of the layout's lines.
     pub fn links(&self) -> &[Link]
         ensures value { result.now ≡ self.now.links }
-        ensures sound { IsSound self.now }
+        ensures sound { IsTree self.now }
     {
         &self.links
     }
@@ -152,7 +145,7 @@ impl Topology {
     /// The upstream ports, and then the downstream ports, in the order of the layout's lines.
     pub fn places(&self) -> &[PortPlace]
         ensures value { result.now ≡ self.now.places }
-        ensures sound { IsSound self.now }
+        ensures sound { IsTree self.now }
     {
         &self.places
     }
@@ -186,14 +179,6 @@ impl Topology {
         ensures { result ≡ sender_of self.now.links direction }
     {
         Some(self.link(direction.lower)?.sending_end(direction.way))
-    }
-
-    /// Where the port of this ID stands, if it is one of a switch.
-    pub fn place(&self, id: PortId) -> Option<PortPlace>
-        ensures { result ≡ place_at self.now.places id }
-    {
-        let start = self.first_place_in(id.id());
-        find_place(&self.places[start..], id).copied()
     }
 
     /// The number of the port of this ID among `places`, if it is one of a switch.

@@ -2,14 +2,16 @@
 
 ghost use Rattle.std.specs.Prelude.{◌≡◌, ◌≤◌, ◌<◌, ◌==◌, IfNone, true};
 ghost use Rattle.std.specs.List.{list_any};
-ghost use Rattle.layout.specs.Owners.{owns_port};
+ghost use Rattle.platform.specs.Owners.{owns_port};
 ghost use Rattle.layout.specs.Rules.{is_within, frames_fault, root_fault, switch_fault_below, switch_fault, function_fault_below, function_fault, budget_fault, has_good_credits, credit_fault};
 
-use crate::lines::{BudgetLine, CreditLine, FunctionLine, PortLine};
-use crate::platform::Layout;
-use crate::rules::tree::{id_below, is_taken, is_third_level, port_at, port_over};
+use crate::layout::Layout;
 use fab_types::{Bdf, LayoutCause};
-use statement::{BudgetText, CreditText, SwitchText};
+use layout_line::{BudgetText, CreditText, SwitchText};
+use platform::{
+    BudgetLine, CreditLine, DownstreamPort, EndpointFunction, id_below, is_taken, is_third_level,
+    port_at, port_leading_to,
+};
 
 pub(crate) fn is_within(least: u32, most: u32, number: u32) -> bool
     ensures { result ≡ is_within least most number }
@@ -17,7 +19,7 @@ pub(crate) fn is_within(least: u32, most: u32, number: u32) -> bool
     least <= number && number <= most
 }
 
-pub(crate) fn owns_port(ports: &[PortLine], domain: u32) -> bool
+pub(crate) fn owns_port_by_number(ports: &[DownstreamPort], domain: u32) -> bool
     ensures { result ≡ owns_port ports.now domain }
 {
     ports
@@ -78,7 +80,7 @@ impl Layout {
         None
     }
 
-    fn switch_fault_below(&self, id: Bdf, above: Option<PortLine>) -> Option<LayoutCause>
+    fn switch_fault_below(&self, id: Bdf, above: Option<DownstreamPort>) -> Option<LayoutCause>
         ensures { result ≡ switch_fault_below self.now id above }
     {
         let Some(port) = above else {
@@ -108,8 +110,8 @@ impl Layout {
 
     fn function_fault_below(
         &self,
-        function: &FunctionLine,
-        above: Option<PortLine>,
+        function: &EndpointFunction,
+        above: Option<DownstreamPort>,
     ) -> Option<LayoutCause>
         ensures { result ≡ function_fault_below self.now function.now above }
     {
@@ -131,10 +133,10 @@ impl Layout {
     /// `function ID BAR`: directly below an earlier port below which nothing stands; its page is in
     /// the port's window.
     #[tactic(auto, unfolding(crate::specs::Rules::function_fault))]
-    pub(crate) fn function_fault(&self, function: &FunctionLine) -> Option<LayoutCause>
+    pub(crate) fn function_fault(&self, function: &EndpointFunction) -> Option<LayoutCause>
         ensures { result ≡ function_fault self.now function.now }
     {
-        self.function_fault_below(function, port_over(self.ports(), function.id))
+        self.function_fault_below(function, port_leading_to(self.ports(), function.id))
     }
 
     /// `budget D N`: once for a domain that owns a port, 1 to 16,384.
@@ -143,7 +145,9 @@ impl Layout {
         ensures value { result ≡ budget_fault self.now budget.now }
         ensures owned { IfNone result (owns_port self.now.ports budget.now.domain ≡ true) }
     {
-        if !owns_port(self.ports(), budget.domain) || has_budget(self.budgets(), budget.domain) {
+        if !owns_port_by_number(self.ports(), budget.domain)
+            || has_budget(self.budgets(), budget.domain)
+        {
             return Some(LayoutCause::Line);
         }
         if !is_within(1, 16384, budget.begins) {

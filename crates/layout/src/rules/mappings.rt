@@ -6,14 +6,12 @@ ghost use Rattle.std.specs.Option.{option_copied};
 ghost use Rattle.layout.specs.Laws.{each_pair, share_no_frame};
 ghost use Rattle.layout.specs.Rules.{is_known_target, is_past_frames, is_mapping_of, is_foreign_frame, is_foreign, is_of_requester, is_mapped, has_full_table, map_fault};
 
-use crate::lines::{FunctionLine, MapLine, MapTarget, PortLine};
-use crate::owners::is_function;
-use crate::platform::Layout;
-use crate::rules::tree::domain_of;
+use crate::layout::Layout;
 use fab_types::{Bdf, LayoutCause};
-use statement::{MapText, TargetText};
+use layout_line::{MapText, TargetText};
+use platform::{DownstreamPort, EndpointFunction, MapTarget, Mapping, domain_of, is_function};
 
-fn is_known_target(functions: &[FunctionLine], target: &TargetText) -> bool
+fn is_known_target(functions: &[EndpointFunction], target: &TargetText) -> bool
     ensures { result ≡ is_known_target functions.now target.now }
 {
     match target {
@@ -41,7 +39,7 @@ pub(crate) fn is_mapping_of(frame: u32, target: MapTarget) -> bool
     }
 }
 
-fn first_mapping(maps: &[MapLine], frame: u32) -> Option<&MapLine>
+fn first_mapping(maps: &[Mapping], frame: u32) -> Option<&Mapping>
     ensures { option_copied result ≡ find (λ line. is_mapping_of frame line.target) maps.now }
 {
     maps.iter().find(|line| is_mapping_of(frame, line.target))
@@ -49,7 +47,7 @@ fn first_mapping(maps: &[MapLine], frame: u32) -> Option<&MapLine>
 
 /// Did a function of another domain map the frame? All that mapped it are of one domain, so the first
 /// of them tells.
-fn is_foreign_frame(ports: &[PortLine], maps: &[MapLine], domain: u8, frame: u32) -> bool
+fn is_foreign_frame(ports: &[DownstreamPort], maps: &[Mapping], domain: u8, frame: u32) -> bool
     requires { each_pair (share_no_frame ports.now) maps.now ≡ true }
     ensures { result ≡ is_foreign_frame ports.now maps.now domain frame }
 {
@@ -59,7 +57,7 @@ fn is_foreign_frame(ports: &[PortLine], maps: &[MapLine], domain: u8, frame: u32
     }
 }
 
-fn is_foreign(ports: &[PortLine], maps: &[MapLine], domain: u8, target: &TargetText) -> bool
+fn is_foreign(ports: &[DownstreamPort], maps: &[Mapping], domain: u8, target: &TargetText) -> bool
     requires { each_pair (share_no_frame ports.now) maps.now ≡ true }
     ensures { result ≡ is_foreign ports.now maps.now domain target.now }
 {
@@ -69,21 +67,21 @@ fn is_foreign(ports: &[PortLine], maps: &[MapLine], domain: u8, target: &TargetT
     }
 }
 
-fn is_of_requester(requester: Bdf, line: &MapLine) -> bool
+fn is_of_requester(requester: Bdf, line: &Mapping) -> bool
     ensures { result ≡ is_of_requester requester line.now }
 {
     line.requester == requester
 }
 
 #[tactic(auto, unfolding(crate::specs::Rules::is_mapped))]
-fn is_mapped(maps: &[MapLine], requester: Bdf, page: u64) -> bool
+fn is_mapped(maps: &[Mapping], requester: Bdf, page: u64) -> bool
     ensures { result ≡ is_mapped maps.now requester page }
 {
     maps.iter().any(|line| is_of_requester(requester, line) && line.page == page)
 }
 
 #[tactic(auto, unfolding(crate::specs::Rules::has_full_table))]
-fn has_full_table(maps: &[MapLine], requester: Bdf) -> bool
+fn has_full_table(maps: &[Mapping], requester: Bdf) -> bool
     ensures { result ≡ has_full_table maps.now requester }
 {
     64 <= maps

@@ -2,17 +2,16 @@
 
 ghost use Rattle.std.specs.Prelude.{◌≡◌, ◌≤◌, ◌<◌, IfNone, false};
 ghost use Rattle.fab_types.specs.Id.{bus_of};
-ghost use Rattle.layout.specs.Rules.{has_bad_fields, is_on_bus, is_past_port_limits, buses_meet, windows_meet, last_bus, buses_are_outside, window_is_outside, owner_differs, port_fault_below, port_fault_on, port_fault};
+ghost use Rattle.layout.specs.Rules.{has_bad_fields, is_past_port_limits, buses_meet, windows_meet, last_bus, buses_are_outside, window_is_outside, owner_differs, port_fault_below, port_fault_on, port_fault};
 
-use crate::lines::{PortLine, SwitchLine};
-use crate::platform::Layout;
+use crate::layout::Layout;
 use crate::rules::links::is_within;
-use crate::rules::tree::{port_above, port_at, switch_on};
 use fab_types::LayoutCause;
-use statement::PortText;
+use layout_line::PortText;
+use platform::{DownstreamPort, Switch, is_on_bus, port_above, port_at, switch_on};
 
 #[tactic(auto, unfolding(crate::specs::Rules::has_bad_fields))]
-fn has_bad_fields(ports: &[PortLine], port: &PortText) -> bool
+fn has_bad_fields(ports: &[DownstreamPort], port: &PortText) -> bool
     ensures { result ≡ has_bad_fields ports.now port.now }
 {
     port.id.function() != 0
@@ -23,26 +22,20 @@ fn has_bad_fields(ports: &[PortLine], port: &PortText) -> bool
         || port.limit <= port.base
 }
 
-fn is_on_bus(bus: u8, port: &PortLine) -> bool
-    ensures { result ≡ is_on_bus bus port.now }
-{
-    port.id.id().bus() == bus
-}
-
 #[tactic(auto, unfolding(crate::specs::Rules::is_past_port_limits))]
-fn is_past_port_limits(ports: &[PortLine], port: &PortText) -> bool
+fn is_past_port_limits(ports: &[DownstreamPort], port: &PortText) -> bool
     ensures value { result ≡ is_past_port_limits ports.now port.now }
     ensures owner { result ≡ false → (1 ≤ port.now.owner) × (port.now.owner ≤ 31) }
 {
-    let bus = port.id.bus();
+    let bus = u16::from(port.id.bus());
     !is_within(1, 31, port.owner) || 8 <= ports.iter().filter(|other| is_on_bus(bus, other)).count()
 }
 
 #[tactic(auto, unfolding(crate::specs::Rules::buses_meet))]
-fn buses_meet(ports: &[PortLine], port: &PortText) -> bool
+fn buses_meet(ports: &[DownstreamPort], port: &PortText) -> bool
     ensures { result ≡ buses_meet ports.now port.now }
 {
-    let bus = port.id.bus();
+    let bus = u16::from(port.id.bus());
     ports.iter().any(|other| {
         is_on_bus(bus, other)
             && other.secondary <= port.subordinate
@@ -51,16 +44,16 @@ fn buses_meet(ports: &[PortLine], port: &PortText) -> bool
 }
 
 #[tactic(auto, unfolding(crate::specs::Rules::windows_meet))]
-fn windows_meet(ports: &[PortLine], port: &PortText) -> bool
+fn windows_meet(ports: &[DownstreamPort], port: &PortText) -> bool
     ensures { result ≡ windows_meet ports.now port.now }
 {
-    let bus = port.id.bus();
+    let bus = u16::from(port.id.bus());
     ports.iter().any(|other| {
         is_on_bus(bus, other) && other.base <= port.limit && port.base <= other.limit
     })
 }
 
-fn last_bus(above: &Option<PortLine>) -> u8
+fn last_bus(above: &Option<DownstreamPort>) -> u8
     ensures { result ≡ last_bus above.now }
 {
     match above {
@@ -69,13 +62,13 @@ fn last_bus(above: &Option<PortLine>) -> u8
     }
 }
 
-fn buses_are_outside(above: &Option<PortLine>, port: &PortText) -> bool
+fn buses_are_outside(above: &Option<DownstreamPort>, port: &PortText) -> bool
     ensures { result ≡ buses_are_outside above.now port.now }
 {
     !(port.id.bus() < port.secondary && port.subordinate <= last_bus(above))
 }
 
-fn window_is_outside(above: &Option<PortLine>, port: &PortText) -> bool
+fn window_is_outside(above: &Option<DownstreamPort>, port: &PortText) -> bool
     ensures { result ≡ window_is_outside above.now port.now }
 {
     match above {
@@ -84,7 +77,7 @@ fn window_is_outside(above: &Option<PortLine>, port: &PortText) -> bool
     }
 }
 
-fn owner_differs(above: &Option<PortLine>, port: &PortText) -> bool
+fn owner_differs(above: &Option<DownstreamPort>, port: &PortText) -> bool
     ensures { result ≡ owner_differs above.now port.now }
 {
     match above {
@@ -95,8 +88,8 @@ fn owner_differs(above: &Option<PortLine>, port: &PortText) -> bool
 
 #[tactic(auto, unfolding(crate::specs::Rules::port_fault_below))]
 fn port_fault_below(
-    ports: &[PortLine],
-    above: Option<PortLine>,
+    ports: &[DownstreamPort],
+    above: Option<DownstreamPort>,
     port: &PortText,
 ) -> Option<LayoutCause>
     ensures value { result ≡ port_fault_below ports.now above port.now }
@@ -129,11 +122,7 @@ fn port_fault_below(
     None
 }
 
-fn port_fault_on(
-    layout: &Layout,
-    port: &PortText,
-    switch: Option<SwitchLine>,
-) -> Option<LayoutCause>
+fn port_fault_on(layout: &Layout, port: &PortText, switch: Option<Switch>) -> Option<LayoutCause>
     ensures value { result ≡ port_fault_on layout.now port.now switch }
     ensures ranges { IfNone result ((1 ≤ port.now.owner) × (port.now.owner ≤ 31) × (port.now.controls < 32)) }
 {

@@ -15,12 +15,12 @@ pub returns-clause-ok : goal.returns-clause-ok
 returns-clause-ok g c =
     let written = c.in_ok-drive_all.ensures.ok in
     let platform = c.args.layout.now in
-    let domains : c.domains.result.now ≡ (world_of platform).edge.domains = c.domains.ensures ∙ ap (λ (w : World). w.edge.domains) c.in_ok-fabric.ensures.start in (
+    let domains : c.domains.result.now ≡ (world_of platform).agents.domains = c.domains.ensures ∙ ap (λ (w : World). w.agents.domains) c.in_ok-fabric.ensures.start in (
       written.0,
       record {
         events = flat_map events_at c.deref.result.now;
         sweep =
-            subst (λ (ss : List Station). IsSweep platform (world_of platform).edge.domains (flat_map events_at ss)) (sym c.deref.ensures.value)
+            subst (λ (ss : List Station). IsSweep platform (world_of platform).agents.domains (flat_map events_at ss)) (sym c.deref.ensures.value)
             (subst (λ (ds : List DomainView). IsSweep platform ds (flat_map events_at c.in_ok-stations.stations.items)) domains c.in_ok-stations.ensures);
         drives = subst (λ (w : World). Drives (flat_map events_at c.deref.result.now) w c.args.lines.now c.drive_all.new.fabric written.0) c.in_ok-fabric.ensures.start written.1;
       },

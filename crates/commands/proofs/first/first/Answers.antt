@@ -8,7 +8,7 @@ use Rattle.commands.proofs.first.first.Goals as goal
 pub returns-clause-printed : goal.returns-clause-printed
 returns-clause-printed g c =
     let written = c.in_ok-fabric.ensures.ok in (
-      written.0 ++ flat_map memory_lines c.in_ok-fabric.fabric.edge.domains,
+      written.0 ++ flat_map memory_lines c.in_ok-fabric.fabric.agents.domains,
       record {
         bytes = c.in-Ok.bytes;
         stands = rw c.as_bytes.ensures.value at c.in-Ok.ensures;

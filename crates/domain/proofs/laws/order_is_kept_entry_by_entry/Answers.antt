@@ -1,5 +1,5 @@
 use Rattle.domain.proofs.Consuming.{consumed_needs}
-use Rattle.domain.proofs.InTurn.{in_order_after, in_order_new}
+use Rattle.domain.proofs.ConsumedInOrder.{in_order_after, in_order_new}
 use Rattle.domain.proofs.Sending.{sent_after}
 use Rattle.domain.proofs.laws.order_is_kept_entry_by_entry.Goals as goal
 

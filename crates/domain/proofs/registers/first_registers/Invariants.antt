@@ -1,7 +1,7 @@
 use Rattle.std.proofs.Common.{◌≡◌, take}
 use Rattle.std.specs.Prelude.{filter, map}
 use Rattle.function.specs.Registers.{first_page}
-use Rattle.layout.specs.Owners.{is_own_function}
+use Rattle.platform.specs.Owners.{is_own_function}
 use Rattle.domain.proofs.registers.first_registers.Given as goal
 
 abbrev pub invariant-loop-line : goal.invariant-loop-line

@@ -1,5 +1,5 @@
 use Rattle.fabric_core.specs.World.{world_of}
-use Rattle.fabric_core.proofs.Comparing.{same_journals}
+use Rattle.fabric_core.proofs.runs.Comparing.{same_journals}
 use Rattle.fabric_core.proofs.comparison.compare_runs.Goals as goal
 
 pub returns-then-has_same_journal-clause-compared : goal.returns-then-has_same_journal-clause-compared

@@ -1,31 +1,31 @@
 use Rattle.std.proofs.Common.{sym, ◌∙◌}
 use Rattle.fabric_core.specs.declared.event.Event.TheVariants.{Arrive}
-use Rattle.fabric_core.specs.Endings.{edge_by_function, ending_in}
+use Rattle.fabric_core.specs.Receipts.{agents_by_function, receipt_in}
 use Rattle.fabric_core.specs.Settling.{EntryWants, entry_by_function}
-use Rattle.fabric_core.proofs.Settled.{Took, arrive_ends, arrive_wants, ends_step, settled, took_after}
-use Rattle.fabric_core.proofs.Taking.{stray_by_function}
+use Rattle.fabric_core.proofs.effect.Settled.{Took, arrive_ends, arrive_wants, ends_step, settled, took_after}
+use Rattle.fabric_core.proofs.effect.Taking.{stray_by_function}
 use Rattle.fabric_core.proofs.ends.arrive.Goals as goal
 
 pub returns : goal.returns
 returns g c violations =
-    let h = c.args.hierarchy.now in
-    let edge = c.args.edge.now in
+    let h = c.args.interconnect.now in
+    let agents = c.args.agents.now in
     let end = c.in-Some.end in
     let class = c.args.class in
     let function = c.args.function in
     let strays = c.args.strays.now.items in
     let frame = c.in-Some-take_at.frame in
     let taking = c.take_at.new.self in
-    let new = c.settle.new.hierarchy in
-    let edge' = c.end_at_function-ended.new.edge in
-    let ending = ending_in edge.domains function frame in
-    let all = edge_by_function edge function frame ending in
-    let wants = EntryWants (entry_by_function edge.domains function frame ending) in
+    let new = c.settle.new.interconnect in
+    let agents' = c.end_at_function-ended.new.agents in
+    let receipt = receipt_in agents.domains function frame in
+    let all = agents_by_function agents function frame receipt in
+    let wants = EntryWants (entry_by_function agents.domains function frame receipt) in
     let t : Took h taking end class frame =
     took_after h c.head_at.new.self taking end class frame c.head_at.ensures.same c.head_at.ensures.rest
     (record { left = c.in-Some-take_at.ensures.taken.0; found = c.in-Some-take_at.ensures.taken.1; now = c.in-Some-take_at.ensures.taken.2; restores = c.in-Some-take_at.ensures.restores; rest = c.take_at.ensures.rest }) in
     let has = sym c.has_function.ensures ∙ c.if-not-has_function.false in
-    let stray = stray_by_function edge function frame ending in
-    ends_step h taking new edge edge' violations strays c.settle.new.strays.items end class frame all wants stray t (Arrive function class) c.settle.result
-    (arrive_ends h taking edge violations strays function end class frame t c.in-Some.ensures.value has) (arrive_wants h taking edge violations strays function end class frame t c.in-Some.ensures.value)
-    (settled h taking new edge edge' violations strays c.settle.new.strays.items end class frame all wants stray t c.settle.result c.end_at_function-ended.result c.end_at_function-ended.ensures c.settle.ensures)
+    let stray = stray_by_function agents function frame receipt in
+    ends_step h taking new agents agents' violations strays c.settle.new.strays.items end class frame all wants stray t (Arrive function class) c.settle.result
+    (arrive_ends h taking agents violations strays function end class frame t c.in-Some.ensures.value has) (arrive_wants h taking agents violations strays function end class frame t c.in-Some.ensures.value)
+    (settled h taking new agents agents' violations strays c.settle.new.strays.items end class frame all wants stray t c.settle.result c.end_at_function-ended.result c.end_at_function-ended.ensures c.settle.ensures)

@@ -1,4 +1,4 @@
-use Rattle.fabric_core.proofs.Room.{place_left}
+use Rattle.fabric_core.proofs.effect.Room.{place_left}
 use Rattle.fabric_core.proofs.ends.relay.Goals as goal
 
 pub put_at-requires-clause-place : goal.put_at-requires-clause-place

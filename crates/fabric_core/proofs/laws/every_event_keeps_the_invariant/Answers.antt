@@ -1,4 +1,4 @@
-use Rattle.fabric_core.proofs.Keeping as law
+use Rattle.fabric_core.proofs.invariant.Keeping as law
 use Rattle.fabric_core.proofs.laws.every_event_keeps_the_invariant.Goals as goal
 
 pub returns : goal.returns

@@ -1,4 +1,4 @@
-use Rattle.fabric_core.proofs.GuardedStart as law
+use Rattle.fabric_core.proofs.soundness.GuardedStart as law
 use Rattle.fabric_core.proofs.laws.fabrics_start_sound.Goals as goal
 
 pub returns : goal.returns

@@ -1,4 +1,4 @@
-use Rattle.fabric_core.proofs.Answered as law
+use Rattle.fabric_core.proofs.effect.Answered as law
 use Rattle.fabric_core.proofs.laws.only_non_posted_are_answered.Goals as goal
 
 pub returns : goal.returns

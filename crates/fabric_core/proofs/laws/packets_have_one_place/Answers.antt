@@ -1,4 +1,4 @@
-use Rattle.fabric_core.proofs.OnePlace.{one_place}
+use Rattle.fabric_core.proofs.places.OnePlace.{one_place}
 use Rattle.fabric_core.proofs.laws.packets_have_one_place.Goals as goal
 
 pub returns : goal.returns

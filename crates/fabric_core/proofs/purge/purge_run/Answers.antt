@@ -1,5 +1,5 @@
 use Rattle.fabric_core.specs.World.{world_of}
-use Rattle.fabric_core.proofs.Leaving.{both_next, both_start, both_whole}
+use Rattle.fabric_core.proofs.runs.Leaving.{both_next, both_start, both_whole}
 use Rattle.fabric_core.proofs.purge.purge_run.Goals as goal
 
 pub loop-event-init : goal.loop-event-init

@@ -1,6 +1,6 @@
 use Rattle.std.proofs.Common.{take}
 use Rattle.fabric_core.specs.World.{world_of}
-use Rattle.fabric_core.proofs.Leaving.{BothRun}
+use Rattle.fabric_core.proofs.runs.Leaving.{BothRun}
 use Rattle.fabric_core.proofs.purge.purge_run.Given as goal
 
 -- the events so far, and what is left of them

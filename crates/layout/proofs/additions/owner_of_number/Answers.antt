@@ -1,6 +1,6 @@
 use Rattle.std.proofs.Common.{◌≡◌, Some, ap}
 use Rattle.std.specs.Prelude.{is_some}
-use Rattle.layout.proofs.OwnerLemmas.{owner_found}
+use Rattle.platform.proofs.OwnerLemmas.{owner_found}
 use Rattle.layout.proofs.additions.owner_of_number.Goals as goal
 
 pub unwrap-requires : goal.unwrap-requires

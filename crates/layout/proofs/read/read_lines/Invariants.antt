@@ -1,6 +1,6 @@
 use Rattle.std.proofs.Common.{◌≡◌, ◌<◌, length}
 use Rattle.text.specs.Text.{pieces}
-use Rattle.layout.specs.Platform.{no_lines}
+use Rattle.platform.specs.Platform.{no_lines}
 use Rattle.layout.specs.Reading.{read_from}
 use Rattle.layout.proofs.read.read_lines.Given as goal
 

@@ -1,13 +1,10 @@
 use Rattle.std.proofs.Common.{ap}
-use Rattle.outboxes.proofs.Changing.{kept_at, restores_at, same_place, took_at}
+use Rattle.outboxes.proofs.Changing.{kept_at, same_place, took_at}
 use Rattle.outboxes.specs.Outboxes.{BoxView}
 use Rattle.outboxes.proofs.changes.take_at.Goals as goal
 
 pub returns-clause-taken : goal.returns-clause-taken
 returns-clause-taken c = took_at c.args.boxes.now c.args.place c.index-boxes-place.result c.take.new.self c.args.class c.take.result c.requires c.take.ensures.taken
-
-pub returns-clause-restores : goal.returns-clause-restores
-returns-clause-restores c = restores_at c.args.boxes.now c.args.place c.index-boxes-place.result c.take.new.self c.take.result c.requires c.take.ensures.restores
 
 pub returns-clause-kept : goal.returns-clause-kept
 returns-clause-kept c = kept_at c.args.boxes.now c.args.place c.index-boxes-place.result c.take.new.self c.requires c.take.ensures.kept

@@ -1,5 +1,5 @@
 use Rattle.std.proofs.Common.{Bool, sym, ap, ◌∙◌}
-use Rattle.port.specs.Lanes.{Class}
+use Rattle.lane.specs.Lanes.{Class}
 use Rattle.port.specs.Blocked.{may_refuse_answer}
 use Rattle.port.proofs.OneLane.{kept_at, counted_at, refused_at, refused_again}
 use Rattle.port.proofs.slots.answer_waits_at.Goals as goal

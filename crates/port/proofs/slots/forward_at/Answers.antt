@@ -1,6 +1,6 @@
 use Rattle.std.proofs.Common.{ap, ◌∙◌, inl, inr, ⊎_elim, Bool}
 use Rattle.port.proofs.OneLane.{put_at, kept_at, counted_at, refused_at}
-use Rattle.port.specs.Lanes.{Class}
+use Rattle.lane.specs.Lanes.{Class}
 use Rattle.port.proofs.slots.forward_at.Goals as goal
 
 pub returns-clause-moved : goal.returns-clause-moved

@@ -1,7 +1,7 @@
 use Rattle.std.proofs.Common.{◌≡◌, sym, ap, ◌∙◌, inr}
-use Rattle.port.specs.Lanes.{Class, class_of}
+use Rattle.lane.specs.Lanes.{Class, class_of}
 use Rattle.port.specs.Vetted.{Vetted}
-use Rattle.port.proofs.Waiting.{class_of-taken}
+use Rattle.lane.proofs.Waiting.{class_of-taken}
 use Rattle.port.proofs.steps.forward.Goals as goal
 
 pub returns-in-Err-push-clause-blocked : goal.returns-in-Err-push-clause-blocked

@@ -7,5 +7,5 @@ use Rattle.credit.proofs.receiver.Receiver.reclaim.Goals as goal
 pub returns-clause-totals : goal.returns-clause-totals
 returns-clause-totals c total counts =
     let P : Counters → Type 0 = λ x. Count total x in
-    let Q : Allotment → Type 0 = λ r. Count (with_cost total c.args.cost) r.limit in
-    subst P (sym c.minus-self-inside.ensures) (Count-uncounted total c.self.inside.limit c.args.cost (subst Q (sym c.self.view_is) counts))
+    let Q : Allotment → Type 0 = λ r. Count (with_cost total c.args.cost) r.credits_allocated in
+    subst P (sym c.minus-self-inside.ensures) (Count-uncounted total c.self.inside.credits_allocated c.args.cost (subst Q (sym c.self.view_is) counts))

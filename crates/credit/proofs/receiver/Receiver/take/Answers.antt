@@ -7,5 +7,5 @@ use Rattle.credit.proofs.receiver.Receiver.take.Goals as goal
 pub returns-clause-totals : goal.returns-clause-totals
 returns-clause-totals c total counts =
     let P : Counters → Type 0 = λ x. Count (with_cost total c.args.cost) x in
-    let Q : Allotment → Type 0 = λ r. Count total r.taken in
-    subst P (sym c.plus-self-inside.ensures) (Count-counted total c.self.inside.taken c.args.cost (subst Q (sym c.self.view_is) counts))
+    let Q : Allotment → Type 0 = λ r. Count total r.credits_received in
+    subst P (sym c.plus-self-inside.ensures) (Count-counted total c.self.inside.credits_received c.args.cost (subst Q (sym c.self.view_is) counts))

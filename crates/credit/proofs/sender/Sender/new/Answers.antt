@@ -5,5 +5,5 @@ use Rattle.credit.proofs.sender.Sender.new.Goals as goal
 
 pub invariant_of-result : goal.invariant_of-result
 invariant_of-result c =
-    let P : Counters → Type 0 = λ x. IsInRange (record { sent = x; limit = c.args.limits; start = c.args.limits }) in
+    let P : Counters → Type 0 = λ x. IsInRange (record { credits_consumed = x; credit_limit = c.args.limits; start = c.args.limits }) in
     subst P (sym c.zero.ensures) (start-in_range c.args.limits c.requires)

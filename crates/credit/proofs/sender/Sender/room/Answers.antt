@@ -5,8 +5,8 @@ use Rattle.credit.proofs.sender.Sender.room.Goals as goal
 
 pub returns-clause-exact : goal.returns-clause-exact
 returns-clause-exact c = room-exact c.args.self.now c.args.cost c.covers.result c.of.result c.of-2.result
-    (c.of.ensures ∙ ap (λ (s : Ledger). credits_at s.sent c.args.cost.class) c.self.view_is)
-    (c.of-2.ensures ∙ ap (λ (s : Ledger). credits_at s.limit c.args.cost.class) c.self.view_is)
+    (c.of.ensures ∙ ap (λ (s : Ledger). credits_at s.credits_consumed c.args.cost.class) c.self.view_is)
+    (c.of-2.ensures ∙ ap (λ (s : Ledger). credits_at s.credit_limit c.args.cost.class) c.self.view_is)
     c.covers.ensures
 
 pub returns-clause-totals : goal.returns-clause-totals

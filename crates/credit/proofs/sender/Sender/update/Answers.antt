@@ -5,7 +5,7 @@ use Rattle.credit.proofs.sender.Sender.update.Goals as goal
 
 pub invariant_of-self : goal.invariant_of-self
 invariant_of-self c =
-    let old : Ledger = record { sent = c.self.inside.sent; limit = c.self.inside.limit; start = c.self.inside.start } in
+    let old : Ledger = record { credits_consumed = c.self.inside.credits_consumed; credit_limit = c.self.inside.credit_limit; start = c.self.inside.start } in
     let P : Ledger → Type 0 = λ s. IsUpdate s c.args.limits in
     update-in_range old c.args.limits c.self.invariant (subst P (sym c.self.view_is) (c.accepts-accepted.ensures.0 c.if-accepted.true))
 

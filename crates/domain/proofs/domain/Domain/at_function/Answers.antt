@@ -1,12 +1,12 @@
 use Rattle.std.proofs.Common.{◌≡◌, false, sym, ap, ◌∙◌, subst, List, ℕ}
-use Rattle.fab_types.specs.declared.place.Origin.TheVariants.{Function}
+use Rattle.fab_types.specs.declared.origin.Origin.TheVariants.{Function}
 use Rattle.tlp_view.specs.Kinds.{is_completion}
 use Rattle.domain.specs.declared.reception.Reception.TheVariants.{Ends, Arrives}
-use Rattle.disposition.specs.Requests.{request_at_function}
+use Rattle.request_handling.specs.Requests.{request_at_function}
 use Rattle.domain.specs.Aliens.{answerer_of, at_function}
 use Rattle.domain.specs.Deliveries.{arrival_at}
 use Rattle.domain.specs.Domains.{DomainView}
-use Rattle.disposition.proofs.Choices.{else_is}
+use Rattle.request_handling.proofs.Choices.{else_is}
 use Rattle.domain.proofs.AlienLemmas.{ends}
 use Rattle.domain.proofs.domain.Domain.at_function.Goals as goal
 

@@ -2,8 +2,8 @@ use Rattle.std.proofs.Common.{◌+◌, ◌<◌, ◌^◌, List, [], ◌∷◌, �
 use Rattle.domain.specs.declared.entry.Entry.{Entry}
 use Rattle.domain.specs.declared.entry.Entry.TheVariants.{Alien}
 use Rattle.domain.specs.Aliens.{received}
-use Rattle.disposition.specs.Heads.{descriptor_of}
-use Rattle.domain.specs.Kept.{view_of}
+use Rattle.request_handling.specs.Heads.{descriptor_of}
+use Rattle.domain.specs.Kept.{domain_view}
 use Rattle.domain.specs.Machine.{aliens_in}
 use Rattle.domain.specs.Receptions.{IsReceivable}
 use Rattle.domain.specs.State.{Alone}
@@ -32,7 +32,7 @@ pub receive-requires-clause-fits : goal.receive-requires-clause-fits
 receive-requires-clause-fits g c =
     let d = c.self.inside in
     let b = c.args.bytes.now in
-    let is = found (view_of d) c.args.self.now c.args.place c.args.sender b _ c.in-Some.reception c.self.view_is c.in-Some.is c.reception.ensures in
+    let is = found (domain_view d) c.args.self.now c.args.place c.args.sender b _ c.in-Some.reception c.self.view_is c.in-Some.is c.reception.ensures in
     subst (λ (u : Alone). IsReceivable u.open_tags b c.in-Some.reception) (sym c.make_room.ensures) (found_fits d.start d.state c.args.place c.args.sender b c.in-Some.reception is)
 
 pub push_reserved-requires : goal.push_reserved-requires
@@ -48,7 +48,7 @@ invariant_of-self-2 g c =
     let js = d.journal.items in
     let b = c.args.bytes.now in
     let r = c.in-Some.reception in
-    let is = found (view_of d) c.args.self.now c.args.place c.args.sender b _ r c.self.view_is c.in-Some.is c.reception.ensures in
+    let is = found (domain_view d) c.args.self.now c.args.place c.args.sender b _ r c.self.view_is c.in-Some.is c.reception.ensures in
     let grown = alien_copied js _ c.args.place c.args.sender b c.in-Ok-copy_of.copy c.in-Ok-copy_of.ensures (c.push_reserved.ensures.items ∙ ap (λ (es : List Entry). es ++ Alien c.args.place c.args.sender c.in-Ok-copy_of.copy ∷ []) c.room_for_entries.ensures.items) in
     let left = c.in-Ok-receive.ensures.state ∙ ap (λ (u : Alone). (received u b r).state) c.make_room.ensures in
     record {
@@ -65,8 +65,8 @@ returns-clause-ok g c =
     let d = c.self.inside in
     let b = c.args.bytes.now in
     let r = c.in-Some.reception in
-    let is = found (view_of d) c.args.self.now c.args.place c.args.sender b _ r c.self.view_is c.in-Some.is c.reception.ensures in
+    let is = found (domain_view d) c.args.self.now c.args.place c.args.sender b _ r c.self.view_is c.in-Some.is c.reception.ensures in
     let grown = alien_copied d.journal.items _ c.args.place c.args.sender b c.in-Ok-copy_of.copy c.in-Ok-copy_of.ensures (c.push_reserved.ensures.items ∙ ap (λ (es : List Entry). es ++ Alien c.args.place c.args.sender c.in-Ok-copy_of.copy ∷ []) c.room_for_entries.ensures.items) in
     let left = c.in-Ok-receive.ensures.state ∙ ap (λ (u : Alone). (received u b r).state) c.make_room.ensures in
-    makes_alien (view_of d) c.args.self.now _ c.args.place c.args.sender b r c.domain-domain.result c.in-Ok-receive.sent c.self.view_is is refl grown left c.domain-domain.ensures
+    makes_alien (domain_view d) c.args.self.now _ c.args.place c.args.sender b r c.domain-domain.result c.in-Ok-receive.sent c.self.view_is is refl grown left c.domain-domain.ensures
     (c.in-Ok-receive.ensures.sent ∙ ap (λ (u : Alone). option_map (descriptor_of c.domain-domain.result (length u.flight)) (received u b r).emission) c.make_room.ensures)

@@ -1,5 +1,5 @@
 use Rattle.std.proofs.Common.{◌+◌, ◌*◌, ◌<◌, length, arith}
-use Rattle.domain.specs.Kept.{view_of}
+use Rattle.domain.specs.Kept.{domain_view}
 use Rattle.domain.specs.Machine.{aliens_in}
 use Rattle.domain.proofs.Keeping.{blocks_fit, end_room, ended_so, ends_seen, replays_more, room_stays}
 use Rattle.domain.proofs.domain.Domain.end_by.Goals as goal
@@ -12,19 +12,19 @@ conclude-requires-clause-blocks g c =
 pub push_reserved-requires : goal.push_reserved-requires
 push_reserved-requires g c =
     let d = c.self.inside in
-    let h = ends_seen (view_of d) c.args.self.now c.args.entry c.args.number c.args.ending c.self.view_is c.requires in
+    let h = ends_seen (domain_view d) c.args.self.now c.args.entry c.args.number c.args.handling c.self.view_is c.requires in
     let room : length d.journal.items < 4 * d.start.budget + 3 * aliens_in d.journal.items = end_room d.start d.state d.journal.items c.args.number h.emission c.self.invariant.replays h.waits in
     omega (arith, d.journal.ok, c.self.invariant.room, c.self.invariant.entries, room)
 
 pub invariant_of-self-2 : goal.invariant_of-self-2
 invariant_of-self-2 g c =
     let d = c.self.inside in
-    let h = ends_seen (view_of d) c.args.self.now c.args.entry c.args.number c.args.ending c.self.view_is c.requires in
+    let h = ends_seen (domain_view d) c.args.self.now c.args.entry c.args.number c.args.handling c.self.view_is c.requires in
     record {
       share = c.self.invariant.share;
       table = c.self.invariant.table;
       replays = replays_more d.start d.state c.conclude.new.self d.journal.items _ c.args.entry _ c.self.invariant.replays c.push_reserved.ensures.items
-          (ended_so (view_of d) c.args.entry c.args.number c.args.ending c.conclude.new.self h c.in-Ok.ensures.state);
+          (ended_so (domain_view d) c.args.entry c.args.number c.args.handling c.conclude.new.self h c.in-Ok.ensures.state);
       entries = room_stays d.entries d.start.budget d.journal.items _ c.args.entry c.push_reserved.ensures.items (h.own (aliens_in d.journal.items)) c.self.invariant.entries;
       room = omega (arith, c.self.invariant.room, c.push_reserved.ensures.capacity);
     }

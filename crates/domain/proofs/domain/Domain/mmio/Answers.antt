@@ -1,7 +1,7 @@
 use Rattle.std.proofs.Common.{◌+◌, ◌*◌, ◌<◌, length, refl, ap, ◌∙◌, Some, arith}
 use Rattle.domain.specs.declared.entry.Entry.TheVariants.{Mmio}
 use Rattle.domain.specs.HostAccesses.{host_emission, host_request}
-use Rattle.domain.specs.Kept.{view_of}
+use Rattle.domain.specs.Kept.{domain_view}
 use Rattle.domain.specs.Machine.{aliens_in}
 use Rattle.domain.proofs.Keeping.{replays_more, room_stays}
 use Rattle.domain.proofs.HostBegins.{admitted, makes_mmio, mmio_copied, mmio_legal, mmio_room}
@@ -11,7 +11,7 @@ pub push_reserved-requires : goal.push_reserved-requires
 push_reserved-requires g c =
     let d = c.self.inside in
     let x = c.args.access.now in
-    let h = admitted (view_of d) c.args.self.now x c.in_ok-tag.tag c.in_ok-tag.bar c.self.view_is c.in_ok-tag.ensures.accepted c.in_ok-tag.ensures.tag c.in_ok-tag.ensures.bar in
+    let h = admitted (domain_view d) c.args.self.now x c.in_ok-tag.tag c.in_ok-tag.bar c.self.view_is c.in_ok-tag.ensures.accepted c.in_ok-tag.ensures.tag c.in_ok-tag.ensures.bar in
     let room : length d.journal.items < 4 * d.start.budget + 3 * aliens_in d.journal.items = mmio_room d.start d.state d.journal.items x c.in_ok-tag.tag c.in_ok-tag.bar c.self.invariant.replays h in
     omega (arith, d.journal.ok, c.self.invariant.room, c.self.invariant.entries, room)
 
@@ -21,7 +21,7 @@ invariant_of-self-2 g c =
     let x = c.args.access.now in
     let tag = c.in_ok-tag.tag in
     let bar = c.in_ok-tag.bar in
-    let h = admitted (view_of d) c.args.self.now x tag bar c.self.view_is c.in_ok-tag.ensures.accepted c.in_ok-tag.ensures.tag c.in_ok-tag.ensures.bar in
+    let h = admitted (domain_view d) c.args.self.now x tag bar c.self.view_is c.in_ok-tag.ensures.accepted c.in_ok-tag.ensures.tag c.in_ok-tag.ensures.bar in
     record {
       share = c.self.invariant.share;
       table = c.self.invariant.table;
@@ -38,6 +38,6 @@ returns-clause-ok g c =
     let x = c.args.access.now in
     let tag = c.in_ok-tag.tag in
     let bar = c.in_ok-tag.bar in
-    let h = admitted (view_of d) c.args.self.now x tag bar c.self.view_is c.in_ok-tag.ensures.accepted c.in_ok-tag.ensures.tag c.in_ok-tag.ensures.bar in
-    makes_mmio (view_of d) c.args.self.now _ x tag bar _ _ _ c.in-Ok-request.frame c.self.view_is h c.domain-domain.ensures (c.host_request-packet.ensures.value ∙ ap (λ a. host_request c.domain-domain.result tag a x.operation) c.register_address-address.ensures) c.opened_for-opened.ensures refl
+    let h = admitted (domain_view d) c.args.self.now x tag bar c.self.view_is c.in_ok-tag.ensures.accepted c.in_ok-tag.ensures.tag c.in_ok-tag.ensures.bar in
+    makes_mmio (domain_view d) c.args.self.now _ x tag bar _ _ _ c.in-Ok-request.frame c.self.view_is h c.domain-domain.ensures (c.host_request-packet.ensures.value ∙ ap (λ a. host_request c.domain-domain.result tag a x.operation) c.register_address-address.ensures) c.opened_for-opened.ensures refl
     (mmio_copied d.journal.items _ x c.in-Ok.copy c.in-Ok.ensures c.push_reserved.ensures.items) c.in-Ok-request.ensures.state c.in-Ok-request.ensures.frame

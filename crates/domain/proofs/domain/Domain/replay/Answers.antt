@@ -1,5 +1,5 @@
 use Rattle.std.proofs.Common.{◌≡◌, None, subst}
-use Rattle.layout.specs.Share.{Share}
+use Rattle.platform.specs.Share.{Share}
 use Rattle.domain.specs.Machine.{change}
 use Rattle.domain.proofs.Replaying.{replay_stops, there_is}
 use Rattle.domain.proofs.domain.Domain.replay.Goals as goal

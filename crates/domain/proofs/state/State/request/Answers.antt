@@ -1,4 +1,4 @@
-use Rattle.disposition.proofs.WellMadeLemmas.{request_well}
+use Rattle.request_handling.proofs.WellMadeLemmas.{request_well}
 use Rattle.domain.proofs.state.State.request.Goals as goal
 
 pub emit-requires-clause-well_made : goal.emit-requires-clause-well_made

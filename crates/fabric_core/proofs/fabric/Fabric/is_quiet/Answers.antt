@@ -1,6 +1,6 @@
 use Rattle.std.proofs.Common.{sym, ◌∙◌}
 use Rattle.fabric_core.specs.Kept.{world_in}
-use Rattle.fabric_core.proofs.QuietStations.{quiet_idle}
+use Rattle.fabric_core.proofs.effect.QuietStations.{quiet_idle}
 use Rattle.fabric_core.proofs.fabric.Fabric.is_quiet.Goals as goal
 
 pub returns-clause-idle : goal.returns-clause-idle

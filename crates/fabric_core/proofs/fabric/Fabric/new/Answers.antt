@@ -1,7 +1,7 @@
-use Rattle.fabric_core.proofs.FirstRuns.{untold_new}
-use Rattle.fabric_core.proofs.FirstTurns.{turns_new}
-use Rattle.fabric_core.proofs.Orderly.{guarded_new}
-use Rattle.fabric_core.proofs.Starting.{kept_new}
+use Rattle.fabric_core.proofs.runs.FirstRuns.{untold_new}
+use Rattle.fabric_core.proofs.order.OrderAtStart.{order_new}
+use Rattle.fabric_core.proofs.soundness.Orderly.{guarded_new}
+use Rattle.fabric_core.proofs.invariant.Starting.{kept_new}
 use Rattle.fabric_core.proofs.fabric.Fabric.new.Goals as goal
 
 pub invariant_of-result : goal.invariant_of-result
@@ -11,7 +11,7 @@ invariant_of-result c = record {
       c.new-4.ensures.items;
   guarded =
       guarded_new c.args.layout.now c.in_ok-new.field-0 c.in_ok-new-2.field-0 c.new-3.result.violations c.new-4.result.items c.ports.ensures.laws c.in_ok-new.ensures.start c.in_ok-new-2.ensures.start c.new-3.ensures c.new-4.ensures.items;
-  ordered = λ controls. turns_new c.args.layout.now c.in_ok-new.field-0 c.in_ok-new-2.field-0 c.new-3.result.violations c.new-4.result.items c.in_ok-new.ensures.start c.in_ok-new-2.ensures.start c.new-3.ensures c.new-4.ensures.items _;
+  ordered = λ controls. order_new c.args.layout.now c.in_ok-new.field-0 c.in_ok-new-2.field-0 c.new-3.result.violations c.new-4.result.items c.in_ok-new.ensures.start c.in_ok-new-2.ensures.start c.new-3.ensures c.new-4.ensures.items _;
 }
 
 pub returns-clause-isolated : goal.returns-clause-isolated

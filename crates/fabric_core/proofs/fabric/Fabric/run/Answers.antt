@@ -4,12 +4,12 @@ use Rattle.fabric_core.specs.Orderly.{IsOrderly}
 use Rattle.fabric_core.specs.Orders.{AreInOrder}
 use Rattle.fabric_core.specs.Places.{HaveOnePlace}
 use Rattle.fabric_core.specs.World.{is_guarded}
-use Rattle.fabric_core.proofs.Apart.{apart_next, apart_whole}
-use Rattle.fabric_core.proofs.Begun.{run_grow}
-use Rattle.fabric_core.proofs.InOrder.{in_order}
-use Rattle.fabric_core.proofs.OnePlace.{one_place}
-use Rattle.fabric_core.proofs.Orderly.{orderly, run_controls}
-use Rattle.fabric_core.proofs.Running.{run_next, run_whole}
+use Rattle.fabric_core.proofs.apart.Apart.{apart_next, apart_whole}
+use Rattle.fabric_core.proofs.runs.Begun.{run_grow}
+use Rattle.fabric_core.proofs.order.InOrder.{in_order}
+use Rattle.fabric_core.proofs.places.OnePlace.{one_place}
+use Rattle.fabric_core.proofs.soundness.Orderly.{orderly, run_controls}
+use Rattle.fabric_core.proofs.runs.Running.{run_next, run_whole}
 use Rattle.fabric_core.proofs.fabric.Fabric.run.Goals as goal
 
 pub loop-event-preserved : goal.loop-event-preserved

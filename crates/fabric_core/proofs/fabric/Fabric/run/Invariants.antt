@@ -1,7 +1,7 @@
 use Rattle.std.proofs.Common.{◌≡◌, ◌≤◌, length, take}
 use Rattle.std.specs.Prelude.{vec_len, vec_capacity}
 use Rattle.fabric_core.specs.Runs.{Run}
-use Rattle.fabric_core.proofs.Apart.{AreApartIf}
+use Rattle.fabric_core.proofs.apart.Apart.{AreApartIf}
 use Rattle.fabric_core.proofs.fabric.Fabric.run.Given as goal
 
 -- the events so far had the outcomes so far, and in a guarded fabric left other domains alone

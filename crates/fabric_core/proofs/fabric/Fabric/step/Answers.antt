@@ -2,37 +2,37 @@ use Rattle.std.proofs.Common.{ap, ◌∙◌, subst}
 use Rattle.fabric_core.specs.Isolation.{IsApart}
 use Rattle.fabric_core.specs.Kept.{world_in}
 use Rattle.fabric_core.specs.World.{World, is_guarded, world_over}
-use Rattle.fabric_core.proofs.Apart.{apart_step}
-use Rattle.fabric_core.proofs.InOrder.{in_order}
-use Rattle.fabric_core.proofs.OnePlace.{one_place}
-use Rattle.fabric_core.proofs.Orderly.{fabric_step, orderly, step_controls}
+use Rattle.fabric_core.proofs.apart.Apart.{apart_step}
+use Rattle.fabric_core.proofs.order.InOrder.{in_order}
+use Rattle.fabric_core.proofs.places.OnePlace.{one_place}
+use Rattle.fabric_core.proofs.soundness.Orderly.{fabric_step, orderly, step_controls}
 use Rattle.fabric_core.proofs.fabric.Fabric.step.Goals as goal
 
 pub invariant_of-self : goal.invariant_of-self
 invariant_of-self g c =
-    fabric_step c.every_event_keeps_a_fabric.ensures (world_in c.self.inside) (world_over c.step.new.hierarchy c.step.new.edge c.step.new.reports.violations c.step.new.strays.items) c.args.event.now c.step.result c.self.invariant c.step.ensures
+    fabric_step c.every_event_keeps_a_fabric.ensures (world_in c.self.inside) (world_over c.step.new.interconnect c.step.new.agents c.step.new.reports.violations c.step.new.strays.items) c.args.event.now c.step.result c.self.invariant c.step.ensures
 
 pub returns-clause-controls : goal.returns-clause-controls
 returns-clause-controls g c =
-    step_controls (world_in c.self.inside) (world_over c.step.new.hierarchy c.step.new.edge c.step.new.reports.violations c.step.new.strays.items) c.args.event.now c.step.result c.step.ensures ∙ ap is_guarded c.self.view_is
+    step_controls (world_in c.self.inside) (world_over c.step.new.interconnect c.step.new.agents c.step.new.reports.violations c.step.new.strays.items) c.args.event.now c.step.result c.step.ensures ∙ ap is_guarded c.self.view_is
 
 pub returns-clause-guarded : goal.returns-clause-guarded
 returns-clause-guarded g c =
-    let new = world_over c.step.new.hierarchy c.step.new.edge c.step.new.reports.violations c.step.new.strays.items in
+    let new = world_over c.step.new.interconnect c.step.new.agents c.step.new.reports.violations c.step.new.strays.items in
     orderly new (fabric_step c.every_event_keeps_a_fabric.ensures (world_in c.self.inside) new c.args.event.now c.step.result c.self.invariant c.step.ensures)
 
 pub returns-clause-apart : goal.returns-clause-apart
 returns-clause-apart g c guarded =
-    let new = world_over c.step.new.hierarchy c.step.new.edge c.step.new.reports.violations c.step.new.strays.items in
+    let new = world_over c.step.new.interconnect c.step.new.agents c.step.new.reports.violations c.step.new.strays.items in
     subst (λ (old : World). IsApart old c.args.event.now new) c.self.view_is
     (apart_step (world_in c.self.inside) new c.args.event.now c.step.result c.self.invariant c.step.ensures (ap is_guarded c.self.view_is ∙ guarded))
 
 pub returns-clause-placed : goal.returns-clause-placed
 returns-clause-placed g c =
-    let new = world_over c.step.new.hierarchy c.step.new.edge c.step.new.reports.violations c.step.new.strays.items in
+    let new = world_over c.step.new.interconnect c.step.new.agents c.step.new.reports.violations c.step.new.strays.items in
     one_place new (fabric_step c.every_event_keeps_a_fabric.ensures (world_in c.self.inside) new c.args.event.now c.step.result c.self.invariant c.step.ensures)
 
 pub returns-clause-ordered : goal.returns-clause-ordered
 returns-clause-ordered g c =
-    let new = world_over c.step.new.hierarchy c.step.new.edge c.step.new.reports.violations c.step.new.strays.items in
+    let new = world_over c.step.new.interconnect c.step.new.agents c.step.new.reports.violations c.step.new.strays.items in
     in_order new (fabric_step c.every_event_keeps_a_fabric.ensures (world_in c.self.inside) new c.args.event.now c.step.result c.self.invariant c.step.ensures)

@@ -1,8 +1,8 @@
-use Rattle.port.specs.Queues.{frames_of}
+use Rattle.lane.specs.Queues.{frames_of}
 use Rattle.link.proofs.Stepping.{knows-told}
 use Rattle.link.proofs.simplex.Simplex.is_told.Goals as goal
 
 pub returns : goal.returns
 returns c = let s = c.self.inside in
     rw (← c.self.view_is)
-    (knows-told c.knows.result s.sender s.receiver.limit c.advert.result (frames_of s.egress.queue.waiting) s.wire (frames_of s.ingress.queue.waiting) c.self.invariant c.advert.ensures c.knows.ensures)
+    (knows-told c.knows.result s.sender s.receiver.credits_allocated c.advert.result (frames_of s.egress.queue.waiting) s.wire (frames_of s.ingress.queue.waiting) c.self.invariant c.advert.ensures c.knows.ensures)

@@ -1,11 +1,11 @@
 use Rattle.std.proofs.Common.{sym, subst}
 use Rattle.std.specs.Prelude.{IsSome}
-use Rattle.port.specs.Queues.{frames_of}
+use Rattle.lane.specs.Queues.{frames_of}
 use Rattle.link.specs.Simplexes.{SimplexView, simplex_restored}
 use Rattle.link.proofs.Stepping.{gave-kept}
 use Rattle.link.proofs.simplex.SimplexLaneIn.put_back.Goals as goal
 
 pub invariant_of-self : goal.invariant_of-self
 invariant_of-self c = let s = c.self.inside in
-    gave-kept c.args.frame s.sender s.receiver.limit c.give_back.new.receiver.limit (frames_of s.egress.queue.waiting) s.wire s.ingress.queue (frames_of c.give_back.new.ingress.queue.waiting)
+    gave-kept c.args.frame s.sender s.receiver.credits_allocated c.give_back.new.receiver.credits_allocated (frames_of s.egress.queue.waiting) s.wire s.ingress.queue (frames_of c.give_back.new.ingress.queue.waiting)
     c.self.invariant (subst (λ (v : SimplexView). IsSome (simplex_restored v c.args.frame)) (sym c.self.view_is) c.requires) c.give_back.ensures.waiting c.give_back.ensures.reclaimed

@@ -1,14 +1,14 @@
-use Rattle.port.specs.Queues.{frames_of}
+use Rattle.lane.specs.Queues.{frames_of}
 use Rattle.link.proofs.Stepping.{took-kept, took-restores}
 use Rattle.link.proofs.simplex.SimplexLaneIn.take.Goals as goal
 
 pub invariant_of-self : goal.invariant_of-self
 invariant_of-self c = let s = c.self.inside in
-    took-kept c.args.class c.hand_over.result s.sender s.receiver.limit c.hand_over.new.receiver.limit s.wire (frames_of s.ingress.queue.waiting) (frames_of c.hand_over.new.ingress.queue.waiting)
-    c.self.invariant c.hand_over.ensures.taken c.hand_over.ensures.freed
+    took-kept c.args.class c.release.result s.sender s.receiver.credits_allocated c.release.new.receiver.credits_allocated s.wire (frames_of s.ingress.queue.waiting) (frames_of c.release.new.ingress.queue.waiting)
+    c.self.invariant c.release.ensures.taken c.release.ensures.freed
 
 pub returns-clause-restores : goal.returns-clause-restores
 returns-clause-restores c = let s = c.self.inside in
     rw (← c.self.view_is)
-    (took-restores c.args.class c.hand_over.result s.sender s.receiver.limit (frames_of s.egress.queue.waiting) s.wire (frames_of s.ingress.queue.waiting) (frames_of c.hand_over.new.ingress.queue.waiting) c.hand_over.new.ingress.queue
-    c.self.invariant c.hand_over.ensures.taken c.hand_over.ensures.restores)
+    (took-restores c.args.class c.release.result s.sender s.receiver.credits_allocated (frames_of s.egress.queue.waiting) s.wire (frames_of s.ingress.queue.waiting) (frames_of c.release.new.ingress.queue.waiting) c.release.new.ingress.queue
+    c.self.invariant c.release.ensures.taken c.release.ensures.restores)

@@ -1,4 +1,4 @@
-use Rattle.port.specs.Lanes.{class_of}
+use Rattle.lane.specs.Lanes.{class_of}
 use Rattle.link.proofs.Fullness.{given_back}
 use Rattle.link.proofs.simplex.SimplexLaneOut.push.Goals as goal
 

@@ -1,5 +1,5 @@
 use Rattle.std.proofs.Common.{ap}
-use Rattle.fab_types.specs.declared.place.Origin.TheVariants.{Function, Host}
+use Rattle.fab_types.specs.declared.origin.Origin.TheVariants.{Function, Host}
 use Rattle.fab_types.specs.Id.{bus_of}
 use Rattle.origin_index.specs.Indexes.{entry_for, noted_place}
 use Rattle.origin_index.proofs.index.OriginIndex.new.Goals as goal

@@ -1,5 +1,5 @@
 use Rattle.std.proofs.Common.{Some, None, ap, ◌∙◌}
-use Rattle.port.proofs.Sorting.{home_found}
+use Rattle.lane.proofs.Sorting.{home_found}
 use Rattle.outboxes.proofs.origin_box.OriginBox.home.Goals as goal
 
 pub returns-in-Some : goal.returns-in-Some

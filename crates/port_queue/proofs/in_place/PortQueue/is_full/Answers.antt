@@ -1,6 +1,6 @@
 use Rattle.std.proofs.Common.{◌≡◌, length, sym, ap, ◌∙◌, arith}
 use Rattle.std.proofs.lemmas.Grind.{common_steps}
-use Rattle.port_queue.specs.Lanes.{lane_of}
+use Rattle.port_queue.specs.PerClass.{at_class}
 use Rattle.port_queue.specs.Queue.{Queue, count_of}
 use Rattle.port_queue.proofs.Arriving.{count_of-waiting}
 use Rattle.port_queue.proofs.Heads.{full_tells}
@@ -8,7 +8,7 @@ use Rattle.port_queue.proofs.in_place.PortQueue.is_full.Goals as goal
 
 counted : (g : _) (c : goal.After-len g) → c.len.result ≡ count_of c.args.class c.args.self.now.waiting
 counted g c =
-    c.len.ensures.len ∙ (ap length c.get.ensures ∙ (sym (count_of-waiting (lane_of c.self.inside.lanes) c.args.class)
+    c.len.ensures.len ∙ (ap length c.get.ensures ∙ (sym (count_of-waiting (at_class c.self.inside.queues) c.args.class)
     ∙ ap (λ (q : Queue g.row.T.Denot). count_of c.args.class q.waiting) c.self.view_is))
 
 pub returns-clause-exact : goal.returns-clause-exact

@@ -1,0 +1,5 @@
+//! Tests of the commands by their public calls.
+#![tactic(auto)]
+
+#[cfg(test)]
+mod outputs;

@@ -1,7 +1,0 @@
-use Rattle.std.proofs.Common.{sym, ap, ◌∙◌, []}
-use Rattle.std.specs.Prelude.{option_map, slice_index_or}
-use Rattle.disposition.proofs.Places.{page_at}
-use Rattle.disposition.proofs.page.place.Goals as goal
-
-pub returns-clause-page : goal.returns-clause-page
-returns-clause-page c = page_at c.args.functions.now _ ∙ ap (option_map (λ i. (slice_index_or c.args.functions.now i (0, [])).1)) (sym c.position_of.ensures.place)

@@ -1,0 +1,4 @@
+pub mod Domains
+pub mod Aliens
+pub mod Kept
+pub mod Indexes

@@ -1,0 +1,162 @@
+-- At a quiet station no event moves anything.
+use Rattle.std.proofs.Common.{◌≡◌, ℕ, Bool, true, false, cond, ◌&&◌, List, [], ◌∷◌, Option, Some, None, refl, sym, ap, ◌∙◌, subst}
+use Rattle.std.specs.Prelude.{All, is_none, is_some, map, slice_get, slice_index_or, option_map}
+use Rattle.std.specs.Option.{option_and_then}
+use Rattle.std.proofs.lemmas.List.Elements.{All-append, All-cons, All-nil}
+use Rattle.fab_types.specs.declared.class.Class.{Class}
+use Rattle.fab_types.specs.declared.class.Class.TheVariants.{Posted, NonPosted, Completion}
+use Rattle.fab_types.specs.declared.outcome.Outcome.TheVariants.{Idle}
+use Rattle.fab_types.specs.declared.place.Direction.{Direction}
+use Rattle.fab_types.specs.declared.origin.Origin.{Origin}
+use Rattle.fab_types.specs.declared.origin.Origin.TheVariants as origin
+use Rattle.frame_log.specs.Descriptor.{Descriptor}
+use Rattle.bridge.specs.Bridges.{Routes}
+use Rattle.agents.specs.Agents.{waiting_of}
+use Rattle.link.specs.Channels.{Channel, deliver, received_of, send, sent_on, update_fc}
+use Rattle.link.specs.Quiet.{is_quiet as is_quiet_channel, none_eligible}
+use Rattle.port.specs.Configs.{Config}
+use Rattle.lane.specs.Lanes.{eligible}
+use Rattle.domains.specs.Domains.{place_of_function}
+use Rattle.topology.specs.Links.{sender_of}
+use Rattle.topology.specs.declared.nodes.LinkEnd.{LinkEnd}
+use Rattle.topology.specs.declared.places.PortPlace.{PortPlace}
+use Rattle.interconnect.specs.Lost.{lost_from, lost_number, lost_of}
+use Rattle.interconnect.specs.declared.lost.Lost.{Lost}
+use Rattle.interconnect.specs.Moves.{channel_at, on_channel, with_channel}
+use Rattle.interconnect.specs.Passes.{index_of, input_number, input_of, no_place, no_port}
+use Rattle.interconnect.specs.Quiet.{is_quiet_at, none_received_at}
+use Rattle.fabric_core.specs.Aliens.{to_function, to_host}
+use Rattle.fabric_core.specs.Receipts.{arrived, rooted, taken_at}
+use Rattle.fabric_core.specs.Events.{StepsTo, effect, entered_at, link_of, refusal}
+use Rattle.fabric_core.specs.Losing.{losing_by, passed_unless}
+use Rattle.fabric_core.specs.Passing.{passed, passed_number, site_at, turned}
+use Rattle.fabric_core.specs.Stations.{classes, events_at, is_quiet}
+use Rattle.fabric_core.specs.World.{World, with_channels}
+use Rattle.fabric_core.specs.declared.event.Event.{Event}
+use Rattle.fabric_core.specs.declared.station.Station.{Station}
+use Rattle.fabric_core.specs.declared.station.Station.TheVariants as station
+
+-- ---- tests that nothing passes
+
+none_is : {X : Type 0} (o : Option X) → is_none o ≡ true → o ≡ None
+none_is None h = refl
+none_is (Some x) h = absurd cc
+
+both : (a b : Bool) → (a && b) ≡ true → (a ≡ true) × (b ≡ true)
+both true b h = (refl, h)
+both false b h = absurd cc
+
+-- no packet of a class may leave
+eligible_none : (waiting : List Descriptor) → none_eligible waiting ≡ true → (class : Class) → eligible class waiting ≡ None
+eligible_none waiting h Posted = none_is (eligible Posted waiting) (both (is_none (eligible Posted waiting)) _ h).0
+eligible_none waiting h NonPosted = none_is (eligible NonPosted waiting) (both (is_none (eligible NonPosted waiting)) _ (both (is_none (eligible Posted waiting)) _ h).1).0
+eligible_none waiting h Completion = none_is (eligible Completion waiting) (both (is_none (eligible NonPosted waiting)) _ (both (is_none (eligible Posted waiting)) _ h).1).1
+
+taken_none : (channels : List (List Channel)) (end : Option LinkEnd) → none_received_at channels end ≡ true → (class : Class) → taken_at channels class end ≡ None
+taken_none channels None h class = refl
+taken_none channels (Some end) h class = rw (eligible_none (channel_at channels end).ingress h class) refl
+
+lost_from_none : (routes : Routes) (channels : List (List Channel)) (class : Class) (config : Config) (node : ℕ) (input : Option LinkEnd) → none_received_at channels input ≡ true
+    → lost_from routes channels class config node input ≡ None
+lost_from_none routes channels class config node None h = refl
+lost_from_none routes channels class config node (Some input) h = ap (lost_of routes node input config) (eligible_none (channel_at channels input).ingress h class)
+
+-- ---- directions
+
+received_none : (c : Channel) (wire : List Descriptor) → is_none (slice_get wire 0) ≡ true → received_of c wire ≡ None
+received_none c [] h = refl
+received_none c (frame ∷ frames) h = absurd cc
+
+-- nothing can happen on a quiet direction
+record IsStillChannel (c : Channel) : Type 0 where
+  send : (class : Class) → send class c ≡ None
+  deliver : deliver c ≡ None
+  update_fc : update_fc c ≡ None
+
+still_channel : (c : Channel) → is_quiet_channel c ≡ true → IsStillChannel c
+still_channel c h =
+    let none = both (none_eligible c.egress) _ h in
+    let others = both (is_none (slice_get c.wire 0)) (is_none (update_fc c)) none.1 in record {
+      send = λ class. ap (sent_on c) (eligible_none c.egress none.0 class);
+      deliver = received_none c c.wire others.0;
+      update_fc = none_is (update_fc c) others.1;
+    }
+
+on_none : (channels : List (List Channel)) (end : Option LinkEnd) (step : Channel → Option Channel) → ((at : LinkEnd) → end ≡ Some at → step (channel_at channels at) ≡ None)
+    → on_channel channels end step ≡ None
+on_none channels None step h = refl
+on_none channels (Some end) step h = ap (option_map (with_channel channels end)) (h end refl)
+
+still_at : (channels : List (List Channel)) (end : Option LinkEnd) → is_quiet_at channels end ≡ true → (at : LinkEnd) → end ≡ Some at → IsStillChannel (channel_at channels at)
+still_at channels None h at e = absurd cc
+still_at channels (Some end) h at e = still_channel (channel_at channels at) (subst (λ (x : Option LinkEnd). is_quiet_at channels x ≡ true) e h)
+
+-- ---- each event
+
+-- an event that moves nothing and is no begin
+abbrev IsStill : World → Event → Type 0
+IsStill w event = (effect w event ≡ None) × (refusal w event ≡ None)
+
+still_enter : (w : World) (origin : Origin) → none_eligible (waiting_of w.agents.outboxes origin) ≡ true → (class : Class) → IsStill w (Event.Enter origin class)
+still_enter w origin h class =
+    (ap (option_and_then (entered_at w origin class (sender_of w.tree.links (link_of origin)))) (eligible_none (waiting_of w.agents.outboxes origin) h class), refl)
+
+module _ (w : World) (class : Class) where
+  lost_none : (i : Option ℕ) → none_received_at w.channels (input_number w.tree.places i) ≡ true → lost_number w.tree w.routes w.channels w.ports class i ≡ None
+  lost_none None h = refl
+  lost_none (Some i) h = lost_from_none w.routes w.channels class (slice_index_or w.ports i no_port).config (slice_index_or w.tree.places i no_place).node (slice_index_or w.tree.places i no_place).input h
+
+  passed_none : (i : Option ℕ) → none_received_at w.channels (input_number w.tree.places i) ≡ true → passed_number w class i ≡ None
+  passed_none None h = refl
+  passed_none (Some i) h =
+      let place = slice_index_or w.tree.places i no_place in
+      ap (option_and_then (passed w (site_at w i place) class)) (taken_none w.channels place.input h class)
+
+still_pass : (w : World) (port : ℕ) → none_received_at w.channels (input_of w.tree.places port) ≡ true → (class : Class) → IsStill w (Event.Pass port class)
+still_pass w port h class =
+    let i = index_of w.tree.places port in
+    (ap (λ (lost : Option Lost). passed_unless w port class (losing_by w class lost)) (lost_none w class i h) ∙ passed_none w class i h, refl)
+
+still_link : (w : World) (direction : Direction) → is_quiet_at w.channels (sender_of w.tree.links direction) ≡ true
+    → (step : Channel → Option Channel) → ((c : Channel) → IsStillChannel c → step c ≡ None) → option_map (with_channels w) (on_channel w.channels (sender_of w.tree.links direction) step) ≡ None
+still_link w direction h step none =
+    let end = sender_of w.tree.links direction in
+    ap (option_map (with_channels w)) (on_none w.channels end step (λ at is. none (channel_at w.channels at) (still_at w.channels end h at is)))
+
+still_root : (w : World) → none_received_at w.channels (sender_of w.tree.links to_host) ≡ true → (class : Class) → IsStill w (Event.Root class)
+still_root w h class = (ap (rooted w class) (taken_none w.channels (sender_of w.tree.links to_host) h class), refl)
+
+either_none : (b : Bool) (o : Option World) → o ≡ None → cond b o None ≡ None
+either_none true o h = h
+either_none false o h = refl
+
+still_arrive : (w : World) (function : ℕ) → none_received_at w.channels (sender_of w.tree.links (to_function function)) ≡ true → (class : Class) → IsStill w (Event.Arrive function class)
+still_arrive w function h class =
+    (either_none (is_some (place_of_function w.agents.domains function)) _ (ap (arrived w function) (taken_none w.channels (sender_of w.tree.links (to_function function)) h class)), refl)
+
+-- ---- each station
+
+abbrev IsIdle : World → Event → Type 0
+IsIdle w event = StepsTo w event Idle w
+
+idle : (w : World) (event : Event) → IsStill w event → IsIdle w event
+idle w event still = (still.0, still.1, refl)
+
+for_each : (w : World) (event : Class → Event) → ((class : Class) → IsStill w (event class)) → All (IsIdle w) (map event classes)
+for_each w event still =
+    let P = IsIdle w in
+    All-cons P (event Posted) (event NonPosted ∷ event Completion ∷ []) (idle w (event Posted) (still Posted))
+    (All-cons P (event NonPosted) (event Completion ∷ []) (idle w (event NonPosted) (still NonPosted)) (All-cons P (event Completion) [] (idle w (event Completion) (still Completion)) (All-nil P)))
+
+pub quiet_idle : (w : World) (s : Station) → is_quiet w s ≡ true → All (λ event. StepsTo w event Idle w) (events_at s)
+quiet_idle w (station.FunctionOutbox function) h = for_each w (Event.Enter (origin.Function function)) (still_enter w (origin.Function function) h)
+quiet_idle w (station.HostOutbox domain) h = for_each w (Event.Enter (origin.Host domain)) (still_enter w (origin.Host domain) h)
+quiet_idle w (station.Port port) h = for_each w (Event.Pass port) (still_pass w port h)
+quiet_idle w (station.Link direction) h =
+    let sent : (class : Class) → IsStill w (Event.Send direction class) = λ class. (still_link w direction h (send class) (λ c still. still.send class), refl) in
+    let P = IsIdle w in
+    All-append P (map (Event.Send direction) classes) (Event.Take direction ∷ Event.Credit direction ∷ []) (for_each w (Event.Send direction) sent)
+    (All-cons P (Event.Take direction) (Event.Credit direction ∷ []) (idle w (Event.Take direction) (still_link w direction h deliver (λ c still. still.deliver), refl))
+    (All-cons P (Event.Credit direction) [] (idle w (Event.Credit direction) (still_link w direction h update_fc (λ c still. still.update_fc), refl)) (All-nil P)))
+quiet_idle w station.Host h = for_each w Event.Root (still_root w h)
+quiet_idle w (station.Function function) h = for_each w (Event.Arrive function) (still_arrive w function h)

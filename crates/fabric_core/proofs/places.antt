@@ -1,0 +1,2 @@
+-- In a guarded fabric no packet is lost or doubled.
+pub mod OnePlace

@@ -1,0 +1,21 @@
+-- Runs of events: two runs side by side, and what is left without the events of other domains.
+pub mod Running
+pub mod Begun
+pub mod Comparing
+pub mod Pairwise
+pub mod OwnOnes
+pub mod Mirrors
+pub mod MirroredLinks
+pub mod MirroredAgents
+pub mod OwnMoves
+pub mod OwnEnds
+pub mod OwnTurns
+pub mod OwnSteps
+pub mod Narrowing
+pub mod Reported
+pub mod NarrowSteps
+pub mod ForeignSteps
+pub mod LeftEvents
+pub mod LeftRuns
+pub mod Leaving
+pub mod FirstRuns

@@ -1,0 +1,20 @@
+-- In a guarded fabric each packet stays where its home has a case for it.
+pub mod SoundLinks
+pub mod SoundBoxes
+pub mod SoundDomains
+pub mod LongPages
+pub mod WellSpelled
+pub mod WellReplied
+pub mod WellMade
+pub mod Guarding
+pub mod GuardedBegins
+pub mod GuardedAliens
+pub mod GuardedEnds
+pub mod GuardedRoot
+pub mod GuardedArrival
+pub mod Sites
+pub mod GuardedTurns
+pub mod Guarded
+pub mod GuardedStart
+pub mod Routes
+pub mod Orderly

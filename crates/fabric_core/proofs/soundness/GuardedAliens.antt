@@ -1,0 +1,114 @@
+-- In a guarded fabric nobody gets an alien packet.
+use Rattle.std.proofs.Common.{◌≡◌, ℕ, Bool, true, false, cond, List, Option, Some, None, refl, ap, ◌∙◌}
+use Rattle.std.specs.Prelude.{option_map, slice_get}
+use Rattle.std.specs.List.{list_all}
+use Rattle.std.specs.Option.{option_and_then}
+use Rattle.fab_types.specs.declared.head.Parties.{Parties}
+use Rattle.fab_types.specs.declared.origin.Origin.TheVariants.{Function, Host}
+use Rattle.fab_types.specs.declared.place.Place.{Place}
+use Rattle.fab_types.specs.declared.place.Place.TheVariants.{Ingress}
+use Rattle.frame_log.specs.Descriptor.{Descriptor}
+use Rattle.platform.specs.Share.{is_guarded, is_guarded_port}
+use Rattle.domain.specs.declared.entry.Entry.TheVariants.{Alien}
+use Rattle.domain.specs.Aliens.{alien}
+use Rattle.domain.specs.Domains.{DomainView}
+use Rattle.request_handling.specs.Emissions.{Emission}
+use Rattle.agents.specs.Agents.{AgentsView, emitted_if}
+use Rattle.interconnect.specs.declared.lost.Lost.{Lost}
+use Rattle.interconnect.specs.Lost.{lost_among}
+use Rattle.lane.specs.Lanes.{Class}
+use Rattle.domains.specs.Aliens.{aliened, aliened_at, aliened_by, flown}
+use Rattle.domains.specs.Domains.{made_at, made_by, made_of, place_of, place_of_function}
+use Rattle.fabric_core.specs.Aliens.{alien_at_function, alien_at_host, or_else, receiver_at_host, to_function, to_host}
+use Rattle.fabric_core.specs.Receipts.{Receipt, Taken, agents_by_function, agents_by_host, own_by_function, own_by_host, taken_at}
+use Rattle.fabric_core.specs.Losing.{Losing, is_at_port_of, losing, losing_by, losing_to, losing_with, pass, passed_unless}
+use Rattle.fabric_core.specs.Passing.{turned}
+use Rattle.fabric_core.specs.Invariant.{IsConsistent}
+use Rattle.fabric_core.specs.Soundness.{IsGuardedFabric}
+use Rattle.fabric_core.specs.World.{World, is_guarded as is_guarded_world}
+use Rattle.fabric_core.proofs.invariant.AlienEntries.{alien_illegal}
+use Rattle.fabric_core.proofs.invariant.Settling.{share_at}
+use Rattle.fabric_core.proofs.soundness.SoundDomains.{share_is}
+
+-- ---- in domains of guarded shares
+
+-- each domain that is found at a place is of a guarded layout
+abbrev pub AreOfGuarded : List DomainView → Type 0
+AreOfGuarded domains = (place : ℕ) (d : DomainView) → slice_get domains place ≡ Some d → is_guarded d.share ≡ true
+
+module _ (domains : List DomainView) (guarded : AreOfGuarded domains) where
+  none_made_of : (at : ℕ) (place : Place) (sender : Parties) (bytes : List ℕ) (found : Option DomainView) → slice_get domains at ≡ found → made_of domains at (Alien place sender bytes) found ≡ None
+  none_made_of at place sender bytes None e = refl
+  none_made_of at place sender bytes (Some d) e = ap (option_map (made_by domains at (Alien place sender bytes) d)) (alien_illegal d.share d.state place sender bytes (guarded at d e))
+
+  none_made : (at : Option ℕ) (place : Place) (sender : Parties) (bytes : List ℕ) → made_at domains (Alien place sender bytes) at ≡ None
+  none_made None place sender bytes = refl
+  none_made (Some at) place sender bytes = none_made_of at place sender bytes (slice_get domains at) refl
+
+  none_aliened_by : (at : Option ℕ) (place : Place) (sender : Parties) (item : Option Emission) → aliened_by domains at place sender item ≡ None
+  none_aliened_by at place sender None = refl
+  none_aliened_by at place sender (Some e) = none_made at place sender e.bytes
+
+  pub none_aliened : (at : Option ℕ) (place : Place) (frame : Descriptor) → aliened_at domains at place frame ≡ None
+  none_aliened at place frame = none_aliened_by at place frame.head.parties (flown domains frame.domain frame.number)
+
+-- ---- in a guarded fabric
+
+none_if : (is_there : Bool) (o : Option Losing) → o ≡ None → cond is_there o None ≡ None
+none_if true o none = none
+none_if false o none = refl
+
+or_none : (own other : Option AgentsView) → other ≡ None → or_else own other ≡ own
+or_none None other none = none
+or_none (Some agents) other none = refl
+
+-- where each domain is of a guarded layout, no port loses a packet
+module _ (w : World) (guarded : AreOfGuarded w.agents.domains) where
+  none_losing_to : (lost : Lost) (t : Taken) → losing_to w lost t ≡ None
+  none_losing_to lost t =
+      none_if (is_at_port_of w.agents.domains t.frame.domain lost.place) (losing_with lost t (aliened w.agents.domains t.frame.domain lost.place t.frame))
+      (ap (losing_with lost t) (none_aliened w.agents.domains guarded (place_of w.agents.domains t.frame.domain) lost.place t.frame))
+
+  none_losing_taken : (lost : Lost) (o : Option Taken) → option_and_then (losing_to w lost) o ≡ None
+  none_losing_taken lost None = refl
+  none_losing_taken lost (Some t) = none_losing_to lost t
+
+  none_losing_by : (class : Class) (o : Option Lost) → losing_by w class o ≡ None
+  none_losing_by class None = refl
+  none_losing_by class (Some lost) = none_losing_taken lost (taken_at w.channels class (Some lost.input))
+
+  pub none_losing : (port : ℕ) (class : Class) → losing w port class ≡ None
+  none_losing port class = none_losing_by class (lost_among w.tree w.routes w.channels w.ports port class)
+
+module _ (w : World) (g : IsGuardedFabric w) where
+  pub of_guarded : AreOfGuarded w.agents.domains
+  of_guarded place d at = ap is_guarded (share_is g.platform w.agents.domains place d g.of_it.shares at) ∙ g.guarded.controls
+
+  none_at_host : (frame : Descriptor) → alien_at_host w.routes.ports w.agents frame ≡ None
+  none_at_host frame =
+      let receiver = receiver_at_host w.routes.ports w.agents.domains frame in
+      ap (emitted_if w.agents (Host receiver)) (none_aliened w.agents.domains of_guarded (place_of w.agents.domains receiver) (Ingress to_host) frame)
+
+  none_at_function : (function : ℕ) (frame : Descriptor) → alien_at_function w.agents function frame ≡ None
+  none_at_function function frame =
+      ap (emitted_if w.agents (Function function)) (none_aliened w.agents.domains of_guarded (place_of_function w.agents.domains function) (Ingress (to_function function)) frame)
+
+  -- the host and a function take only what its home has a case for
+  pub home_at_host : (frame : Descriptor) (receipt : Receipt) → agents_by_host w.routes.ports w.agents frame receipt ≡ own_by_host w.agents frame receipt
+  home_at_host frame receipt = or_none (own_by_host w.agents frame receipt) (alien_at_host w.routes.ports w.agents frame) (none_at_host frame)
+
+  pub home_at_function : (function : ℕ) (frame : Descriptor) (receipt : Receipt) → agents_by_function w.agents function frame receipt ≡ own_by_function w.agents function frame receipt
+  home_at_function function frame receipt = or_none (own_by_function w.agents function frame receipt) (alien_at_function w.agents function frame) (none_at_function function frame)
+
+  -- no port loses a packet
+  pub passes_as_turned : (port : ℕ) (class : Class) → pass w port class ≡ turned w port class
+  passes_as_turned port class = ap (passed_unless w port class) (none_losing w of_guarded port class)
+
+-- ---- what is kept of any fabric
+
+-- its domains know the ports of its layout
+kept_of_guarded : (w : World) → IsConsistent w → is_guarded_world w ≡ true → AreOfGuarded w.agents.domains
+kept_of_guarded w kept controls place d at = ap (list_all is_guarded_port) (share_at w.routes.ports w.agents.domains place d kept.shares at) ∙ controls
+
+pub none_lost : (w : World) → IsConsistent w → is_guarded_world w ≡ true → (port : ℕ) (class : Class) → losing w port class ≡ None
+none_lost w kept controls = none_losing w (kept_of_guarded w kept controls)

@@ -1,0 +1,95 @@
+//! How a packet ends that the host or a function takes (PCIe 4.0, 2.2.9 and 2.3.1).
+
+ghost use Rattle.std.specs.Prelude.{◌≡◌};
+ghost use Rattle.fabric_core.specs.Receipts.{completion_at_host, receipt_at_host, receipt_by_function, receipt_by_host, is_relayed, request_at_function, request_at_host};
+
+use fab_types::{Bdf, DomainId, Header, Parties};
+use frame_log::Frame;
+
+/// How a packet ends that was taken.
+#[derive(Clone, Copy)]
+pub(crate) enum Receipt {
+    /// The host sends it down again.
+    Relay,
+    /// A request reached its completer.
+    Carry,
+    /// A completion reached whom it answers.
+    Deliver,
+    /// It has no case here.
+    Nobody,
+}
+
+fn request_at_host(parties: Parties) -> Receipt
+    ensures { result ≡ request_at_host parties }
+{
+    match parties {
+        Parties::Upward(_) => Receipt::Carry,
+        Parties::Downward(_) => Receipt::Nobody,
+        Parties::Answer(..) => Receipt::Nobody,
+    }
+}
+
+fn request_at_function(parties: Parties) -> Receipt
+    ensures { result ≡ request_at_function parties }
+{
+    match parties {
+        Parties::Upward(_) => Receipt::Nobody,
+        Parties::Downward(_) => Receipt::Carry,
+        Parties::Answer(..) => Receipt::Nobody,
+    }
+}
+
+/// Bus 00 is the host's own.
+fn completion_at_host(domain: DomainId, target: Bdf) -> Receipt
+    ensures { result ≡ completion_at_host domain target }
+{
+    if target.bus() != 0 {
+        Receipt::Relay
+    } else if target == domain.host() {
+        Receipt::Deliver
+    } else {
+        Receipt::Nobody
+    }
+}
+
+/// Does the host send it down again?
+pub(crate) fn is_relayed(header: Header) -> bool
+    ensures { result ≡ is_relayed header }
+{
+    match header {
+        Header::Malformed => false,
+        Header::Memory { .. } => false,
+        Header::OtherRequest { .. } => false,
+        Header::Completion { target, .. } => target.bus() != 0,
+    }
+}
+
+fn receipt_by_host(domain: DomainId, parties: Parties, header: Header) -> Receipt
+    ensures { result ≡ receipt_by_host domain parties header }
+{
+    match header {
+        Header::Malformed => Receipt::Nobody,
+        Header::Memory { .. } => request_at_host(parties),
+        Header::OtherRequest { .. } => request_at_host(parties),
+        Header::Completion { target, .. } => completion_at_host(domain, target),
+    }
+}
+
+pub(crate) fn receipt_at_host(frame: &Frame) -> Receipt
+    ensures { result ≡ receipt_at_host frame.now }
+{
+    let head = frame.head();
+    receipt_by_host(frame.domain(), head.parties, head.header)
+}
+
+pub(crate) fn receipt_by_function(frame: &Frame) -> Receipt
+    ensures { result ≡ receipt_by_function frame.now.head.parties frame.now.head.header }
+{
+    let head = frame.head();
+    match head.header {
+        Header::Malformed => Receipt::Nobody,
+        Header::Memory { .. } => request_at_function(head.parties),
+        Header::OtherRequest { .. } => request_at_function(head.parties),
+        Header::Completion { .. } => Receipt::Deliver,
+    }
+}

@@ -1,6 +1,0 @@
-use Rattle.std.proofs.Common.{◌≡◌, ◌++◌, map, take}
-use Rattle.hierarchy.specs.Starts.{switch_lanes}
-use Rattle.hierarchy.proofs.start.add_switches.Given as goal
-
-abbrev pub invariant-loop-switch : goal.invariant-loop-switch
-invariant-loop-switch l = l.nodes.items ≡ l.initial.nodes.items ++ map (switch_lanes l.layout) (take l.switch-index l.switch-items)

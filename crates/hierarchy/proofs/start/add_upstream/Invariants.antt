@@ -1,7 +1,0 @@
-use Rattle.std.proofs.Common.{◌≡◌, ◌++◌, map, take}
-use Rattle.port.specs.Configs.{upstream_config}
-use Rattle.hierarchy.specs.Starts.{idle_port}
-use Rattle.hierarchy.proofs.start.add_upstream.Given as goal
-
-abbrev pub invariant-loop-switch : goal.invariant-loop-switch
-invariant-loop-switch l = l.ports.items ≡ l.initial.ports.items ++ map (λ switch. idle_port (upstream_config l.layout switch)) (take l.switch-index l.switch-items)

@@ -1,0 +1,13 @@
+//! All that packets move through: the links and switches of a layout, without the agents at their ends.
+#![tactic(auto)]
+
+mod ends;
+mod interconnect;
+mod lost;
+mod node;
+mod outputs;
+mod pass;
+mod start;
+
+pub use interconnect::Interconnect;
+pub use lost::Lost;

@@ -1,0 +1,19 @@
+//! A node of the tree.
+
+use link::Simplex;
+use std::marker::Model;
+
+/// The root complex, a switch or a function, with the directions of links that lead out of it, by output.
+#[derive(Drop)]
+pub(crate) struct Node {
+    pub outputs: Vec<Simplex>,
+}
+
+impl Model for Node {
+    ghost use Rattle.std.specs.Prelude.{List};
+    ghost use Rattle.link.specs.Simplexes.{SimplexView};
+
+    ghost Value = { List SimplexView };
+
+    ghost view = { λ n. n.outputs.items };
+}

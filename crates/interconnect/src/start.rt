@@ -1,0 +1,165 @@
+//! The links and the ports of a layout at the start.
+
+ghost use Rattle.std.specs.Prelude.{◌≡◌, ◌<◌, ◌++◌, ◌∷◌, [], IfOk, OnOk, map};
+ghost use Rattle.credit.specs.Limits.{MayStart, zero_counters};
+ghost use Rattle.platform.specs.Tree.{is_on_bus};
+ghost use Rattle.platform.specs.Tree.{id_below};
+ghost use Rattle.topology.specs.Nodes.{ports_on};
+ghost use Rattle.layout.specs.Views.{credits_of};
+ghost use Rattle.port.specs.Configs.{downstream_config, upstream_config};
+ghost use Rattle.interconnect.specs.Starts.{AreFew, counters_of, first_credits, function_outputs, idle_port, nodes_of, ports_of, root_outputs, switch_outputs, unused_below};
+
+use crate::node::Node;
+use credit::{Counter, Counters, Credits, Limits};
+use fab_types::{Bdf, NoMemory};
+use layout::Layout;
+use link::Simplex;
+use platform::{CreditLimits, DownstreamPort, Switch, id_below, internal_bus, is_on_bus};
+use port::Port;
+use std::alloc::Global;
+use std::iter::once;
+
+fn credits_of(headers: u16, payload: u16) -> Credits
+    requires headers { headers < 128 }
+    requires payload { payload < 2048 }
+    ensures { result ≡ record { headers = headers; payload = payload } }
+{
+    Credits {
+        headers: Counter::new(headers),
+        payload: Counter::new(payload),
+    }
+}
+
+fn counters_of(limits: &CreditLimits) -> Limits
+    requires { AreFew limits.now }
+    ensures value { result ≡ counters_of limits.now }
+    ensures start { MayStart result }
+{
+    Counters {
+        posted: credits_of(limits.posted_headers, limits.posted_data),
+        non_posted: credits_of(limits.non_posted_headers, limits.non_posted_data),
+        completion: credits_of(limits.completion_headers, limits.completion_data),
+    }
+}
+
+fn no_credits() -> Limits
+    ensures value { result ≡ zero_counters }
+    ensures start { MayStart result }
+{
+    Counters {
+        posted: credits_of(0, 0),
+        non_posted: credits_of(0, 0),
+        completion: credits_of(0, 0),
+    }
+}
+
+fn first_credits(layout: &Layout, lower: Bdf) -> Limits
+    ensures value { result ≡ first_credits (credits_of layout.now lower) }
+    ensures start { MayStart result }
+{
+    // for the proof: what holds of every platform
+    let _ = layout.ports();
+    match layout.credits(lower) {
+        Some(limits) => counters_of(&limits),
+        None => no_credits(),
+    }
+}
+
+/// Either direction of the link with this lower end.
+fn unused_below(layout: &Layout, lower: Bdf) -> Simplex
+    ensures { result ≡ unused_below layout.now lower }
+{
+    Simplex::new(first_credits(layout, lower))
+}
+
+/// The root complex.
+fn root_node(alloc: Global, layout: &Layout) -> Result<Node, NoMemory>
+    ensures { IfOk result (λ node. node ≡ root_outputs layout.now) }
+{
+    function_node(alloc, layout, Bdf::from_bits(0x0100))
+}
+
+/// A function, or the root complex, above the link with this lower end.
+fn function_node(alloc: Global, layout: &Layout, lower: Bdf) -> Result<Node, NoMemory>
+    ensures { IfOk result (λ node. node ≡ unused_below layout.now lower ∷ []) }
+{
+    let outputs = once(unused_below(layout, lower)).collect(alloc)?;
+    Ok(Node { outputs })
+}
+
+fn add_outputs_down(layout: &Layout, bus: u16, outputs: &mut Vec<Simplex>) -> Result<(), NoMemory>
+    ensures { OnOk result (outputs.new.items ≡ outputs.old.items ++ map (λ port. unused_below layout.now (id_below port)) (ports_on layout.now.ports bus)) }
+{
+    for port in layout.ports() {
+        if is_on_bus(bus, port) {
+            outputs.push(unused_below(layout, id_below(port)))?;
+        }
+    }
+    Ok(())
+}
+
+fn switch_node(alloc: Global, layout: &Layout, switch: &Switch) -> Result<Node, NoMemory>
+    ensures { IfOk result (λ node. node ≡ switch_outputs layout.now switch.now) }
+{
+    let mut outputs = Vec::new(alloc);
+    outputs.push(unused_below(layout, switch.id))?;
+    add_outputs_down(layout, internal_bus(switch), &mut outputs)?;
+    Ok(Node { outputs })
+}
+
+fn add_switches(alloc: Global, layout: &Layout, nodes: &mut Vec<Node>) -> Result<(), NoMemory>
+    ensures { OnOk result (nodes.new.items ≡ nodes.old.items ++ map (switch_outputs layout.now) layout.now.switches) }
+{
+    for switch in layout.switches() {
+        nodes.push(switch_node(alloc, layout, switch)?)?;
+    }
+    Ok(())
+}
+
+fn add_functions(alloc: Global, layout: &Layout, nodes: &mut Vec<Node>) -> Result<(), NoMemory>
+    ensures { OnOk result (nodes.new.items ≡ nodes.old.items ++ map (function_outputs layout.now) layout.now.functions) }
+{
+    for function in layout.functions() {
+        nodes.push(function_node(alloc, layout, function.id)?)?;
+    }
+    Ok(())
+}
+
+/// The root complex, the switches and the functions, on whose links nothing was sent.
+pub(crate) fn nodes_of(alloc: Global, layout: &Layout) -> Result<Vec<Node>, NoMemory>
+    ensures { IfOk result (λ nodes. nodes.items ≡ nodes_of layout.now) }
+{
+    let mut nodes = Vec::new(alloc);
+    nodes.push(root_node(alloc, layout)?)?;
+    add_switches(alloc, layout, &mut nodes)?;
+    add_functions(alloc, layout, &mut nodes)?;
+    Ok(nodes)
+}
+
+fn add_upstream(alloc: Global, layout: &Layout, ports: &mut Vec<Port>) -> Result<(), NoMemory>
+    ensures { OnOk result (ports.new.items ≡ ports.old.items ++ map (λ switch. idle_port (upstream_config layout.now switch)) layout.now.switches) }
+{
+    for switch in layout.switches() {
+        ports.push(Port::upstream(alloc, layout, switch)?)?;
+    }
+    Ok(())
+}
+
+fn add_downstream(alloc: Global, layout: &Layout, ports: &mut Vec<Port>) -> Result<(), NoMemory>
+    ensures { OnOk result (ports.new.items ≡ ports.old.items ++ map (λ port. idle_port (downstream_config layout.now port)) layout.now.ports) }
+{
+    for line in layout.ports() {
+        ports.push(Port::downstream(alloc, layout, line)?)?;
+    }
+    Ok(())
+}
+
+/// The upstream ports, and then the downstream ports, each of which holds nothing.
+pub(crate) fn ports_of(alloc: Global, layout: &Layout) -> Result<Vec<Port>, NoMemory>
+    ensures { IfOk result (λ ports. ports.items ≡ ports_of layout.now) }
+{
+    let mut ports = Vec::new(alloc);
+    add_upstream(alloc, layout, &mut ports)?;
+    add_downstream(alloc, layout, &mut ports)?;
+    Ok(ports)
+}

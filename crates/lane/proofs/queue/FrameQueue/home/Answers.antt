@@ -1,0 +1,10 @@
+use Rattle.std.proofs.Common.{Some, None, ap, ◌∙◌}
+use Rattle.lane.proofs.Sorting.{home_found}
+use Rattle.lane.proofs.queue.FrameQueue.home.Goals as goal
+
+pub returns-in-Some : goal.returns-in-Some
+returns-in-Some g c = rw (← c.self.view_is)
+    (ap Some c.domain.ensures ∙ home_found c.args.class c.self.inside.queue.waiting (Some c.in-Some.frame.now) c.self.invariant c.in-Some.ensures)
+
+pub returns-in-None : goal.returns-in-None
+returns-in-None g c = rw (← c.self.view_is) (home_found c.args.class c.self.inside.queue.waiting None c.self.invariant c.in-None.ensures)

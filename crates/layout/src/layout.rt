@@ -1,0 +1,104 @@
+//! A platform, as the lines of a layout say it.
+
+ghost use Rattle.std.specs.Prelude.{◌≡◌, true};
+ghost use Rattle.std.specs.List.{list_all};
+ghost use Rattle.platform.specs.Platform.{no_lines};
+
+use platform::{BudgetLine, CreditLine, DownstreamPort, EndpointFunction, Mapping, Switch};
+use std::alloc::Global;
+use std::marker::Model;
+
+/// A platform that was read from a layout text: switches, downstream ports, functions, and what each
+/// domain may reach.
+#[derive(Drop)]
+pub struct Layout {
+    pub(crate) frames: u16,
+    pub(crate) switches: Vec<Switch>,
+    pub(crate) ports: Vec<DownstreamPort>,
+    pub(crate) functions: Vec<EndpointFunction>,
+    pub(crate) maps: Vec<Mapping>,
+    pub(crate) budgets: Vec<BudgetLine>,
+    pub(crate) credits: Vec<CreditLine>,
+}
+
+impl Model for Layout {
+    ghost use Rattle.platform.specs.Platform.{Platform};
+
+    ghost Value = { Platform };
+
+    ghost use Rattle.layout.specs.Layouts.{platform_of, IsLayout};
+
+    ghost view = { platform_of };
+
+    ghost invariant = { IsLayout };
+}
+
+impl Layout {
+    ghost use Rattle.layout.specs.Laws.{IsPlatform, is_good_budget};
+
+    /// The platform of no lines.
+    pub(crate) fn empty(alloc: Global) -> Layout
+        ensures { result ≡ no_lines }
+    {
+        Layout {
+            frames: 0,
+            switches: Vec::new(alloc),
+            ports: Vec::new(alloc),
+            functions: Vec::new(alloc),
+            maps: Vec::new(alloc),
+            budgets: Vec::new(alloc),
+            credits: Vec::new(alloc),
+        }
+    }
+
+    /// How many frames of memory there are.
+    pub(crate) fn frames(&self) -> u16
+        ensures { result ≡ self.now.frames }
+    {
+        self.frames
+    }
+
+    /// All switches, in the order of their lines.
+    pub fn switches(&self) -> &[Switch]
+        ensures value { result.now ≡ self.now.switches }
+        ensures laws { IsPlatform self.now }
+    {
+        &self.switches
+    }
+
+    /// All downstream ports, in the order of their lines.
+    pub fn ports(&self) -> &[DownstreamPort]
+        ensures value { result.now ≡ self.now.ports }
+        ensures laws { IsPlatform self.now }
+    {
+        &self.ports
+    }
+
+    /// All functions, in the order of their lines.
+    pub fn functions(&self) -> &[EndpointFunction]
+        ensures value { result.now ≡ self.now.functions }
+        ensures laws { IsPlatform self.now }
+    {
+        &self.functions
+    }
+
+    /// All mappings, in the order of their lines.
+    pub(crate) fn maps(&self) -> &[Mapping]
+        ensures { result.now ≡ self.now.maps }
+    {
+        &self.maps
+    }
+
+    pub(crate) fn budgets(&self) -> &[BudgetLine]
+        ensures value { result.now ≡ self.now.budgets }
+        ensures good { list_all is_good_budget result.now ≡ true }
+    {
+        &self.budgets
+    }
+
+    pub(crate) fn credit_lines(&self) -> &[CreditLine]
+        ensures { result.now ≡ self.now.credits }
+    {
+        &self.credits
+    }
+}

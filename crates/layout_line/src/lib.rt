@@ -1,0 +1,11 @@
+//! What the lines of a layout text say, each by itself: its form and its fields.
+#![tactic(auto)]
+
+mod forms;
+mod lines;
+
+pub use forms::layout_line_of;
+pub use lines::{
+    BudgetText, CreditText, FunctionText, LayoutLine, MapText, PortText, RightsText, SwitchText,
+    TargetText,
+};

@@ -1,5 +1,0 @@
-use Rattle.passage.proofs.LinksBelow.{lane_up_keeps}
-use Rattle.passage.proofs.laws.what_goes_up_keeps_to_the_way.Goals as goal
-
-pub returns : goal.returns
-returns c = λ platform line switch direction guarded listed on leads. lane_up_keeps platform guarded line switch direction listed on leads

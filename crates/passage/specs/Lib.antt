@@ -1,6 +1,0 @@
-pub mod Guarded
-pub mod Sound
-pub mod Ways
-pub mod Links
-pub mod Ends
-pub mod Dispositions

@@ -1,0 +1,4 @@
+pub mod Platform
+pub mod Share
+pub mod Owners
+pub mod Tree

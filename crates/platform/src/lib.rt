@@ -1,0 +1,17 @@
+//! What a platform is made of: switches, downstream ports, endpoint functions and mappings; where each of them stands, and
+//! who owns what (PCIe 4.0, 7.5.1.3).
+#![tactic(auto)]
+
+mod owners;
+mod parts;
+mod tree;
+
+pub use owners::{is_function, owner_of, owns_port, port_with_secondary};
+pub use parts::{
+    Access, BudgetLine, CreditLimits, CreditLine, DownstreamPort, EndpointFunction, MapTarget,
+    Mapping, Rights, Switch,
+};
+pub use tree::{
+    domain_of, has_root, id_below, internal_bus, is_on_bus, is_switch, is_taken, is_third_level,
+    port_above, port_at, port_leading_to, switch_on,
+};

@@ -1,0 +1,98 @@
+//! The parts of a platform.
+
+use fab_types::{AcsControl, Bdf, DomainId, PortId};
+
+/// A switch.
+#[derive(Clone, Copy, Debug, PartialEq, Eq)]
+pub struct Switch {
+    /// Its upstream port.
+    pub id: Bdf,
+    /// The port above, or none for the switch below the root port.
+    pub above: Option<PortId>,
+}
+
+/// A downstream port of a switch: its buses and its memory window (PCIe 4.0, 7.5.1.3), its ACS
+/// controls, and the domain that it is dealt out to.
+#[derive(Clone, Copy, Debug, PartialEq, Eq)]
+pub struct DownstreamPort {
+    pub id: PortId,
+    /// Secondary bus number, the least bus below.
+    pub secondary: u8,
+    /// Subordinate bus number, the greatest bus below.
+    pub subordinate: u8,
+    /// The first address of the window.
+    pub base: u32,
+    /// The last address of the window.
+    pub limit: u32,
+    pub controls: AcsControl,
+    pub owner: DomainId,
+}
+
+/// An endpoint function and its register page.
+#[derive(Clone, Copy, Debug, PartialEq, Eq)]
+pub struct EndpointFunction {
+    pub id: Bdf,
+    /// The address of its page of 4,096 bytes.
+    pub bar: u32,
+}
+
+/// What a page is mapped to.
+#[derive(Clone, Copy, Debug, PartialEq, Eq)]
+pub enum MapTarget {
+    /// The frame of host memory of this number.
+    Frame(u16),
+    /// The register page of this function.
+    Peer(Bdf),
+}
+
+/// What a mapping allows.
+#[derive(Clone, Copy, Debug, PartialEq, Eq)]
+pub struct Rights {
+    pub read: bool,
+    pub write: bool,
+}
+
+/// One kind of access.
+#[derive(Clone, Copy, Debug, PartialEq, Eq)]
+pub enum Access {
+    Read,
+    Write,
+}
+
+/// A page of a requester's addresses, and what it is mapped to.
+#[derive(Clone, Copy, Debug, PartialEq, Eq)]
+pub struct Mapping {
+    pub requester: Bdf,
+    /// The address divided by 4,096.
+    pub page: u64,
+    pub target: MapTarget,
+    pub rights: Rights,
+}
+
+/// How many begins a domain may make.
+#[derive(Clone, Copy, Debug, PartialEq, Eq)]
+pub struct BudgetLine {
+    pub domain: DomainId,
+    /// 1 to 16,384.
+    pub begins: u32,
+}
+
+/// The credits that each receiver of a link advertises at the start (PCIe 4.0, 2.6.1). A header
+/// credit is one header, a data credit 16 bytes.
+#[derive(Clone, Copy, Debug, PartialEq, Eq)]
+pub struct CreditLimits {
+    pub posted_headers: u16,
+    pub posted_data: u16,
+    pub non_posted_headers: u16,
+    pub non_posted_data: u16,
+    pub completion_headers: u16,
+    pub completion_data: u16,
+}
+
+/// The credits of both directions of a link.
+#[derive(Clone, Copy, Debug, PartialEq, Eq)]
+pub struct CreditLine {
+    /// The lower end of the link: a function or the upstream port of a switch.
+    pub id: Bdf,
+    pub limits: CreditLimits,
+}

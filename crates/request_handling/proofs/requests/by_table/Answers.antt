@@ -1,0 +1,15 @@
+use Rattle.std.proofs.Common.{◌≡◌, false, sym, ap, ◌∙◌, Option, ℕ}
+use Rattle.platform.specs.Owners.{owner_of}
+use Rattle.request_handling.specs.Requests.{or_discarded, unserved_by_host}
+use Rattle.request_handling.specs.Carries.{is_owner, serve}
+use Rattle.request_handling.proofs.Choices.{else_is}
+use Rattle.request_handling.proofs.requests.by_table.Goals as goal
+
+pub returns-else-is_owner : goal.returns-else-is_owner
+returns-else-is_owner c =
+    let share = c.args.start.now in
+    let t = c.args.view.now in
+    let owner : c.owner.result ≡ owner_of share.ports t.requester = c.owner.ensures ∙ ap (owner_of share.ports) c.requester.ensures in
+    let foreign : is_owner (owner_of share.ports t.requester) share.domain ≡ false =
+    sym (c.is_owner.ensures ∙ ap (λ (o : Option ℕ). is_owner o c.domain.result) owner ∙ ap (is_owner (owner_of share.ports t.requester)) c.domain.ensures) ∙ c.if-is_owner.false in
+    else_is (is_owner (owner_of share.ports t.requester) share.domain) (or_discarded (serve share c.args.memory.now t)) (unserved_by_host share t) c.unserved_by_host.result foreign c.unserved_by_host.ensures

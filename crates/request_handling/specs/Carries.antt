@@ -1,0 +1,124 @@
+-- What becomes of a request at its sender's first port, at the host, where the table of its Requester ID says
+-- where it goes, and at the function whose register page it is for.
+use Rattle.std.specs.Prelude.{ℕ, ◌/◌, ◌%◌, ◌==◌, Bool, ◌&&◌, nat_lt, List, Option, Some, None, option_map, if◌then◌else◌, false}
+use Rattle.platform.specs.declared.parts.MapTarget.{MapTarget}
+use Rattle.platform.specs.declared.parts.MapTarget.TheVariants.{Frame, Peer}
+use Rattle.platform.specs.declared.parts.Access.TheVariants.{Read, Write}
+use Rattle.platform.specs.declared.parts.DownstreamPort.{DownstreamPort}
+use Rattle.platform.specs.Share.{Share}
+use Rattle.platform.specs.Owners.{first_port, owner_of}
+use Rattle.layout.specs.Tables.{target_of}
+use Rattle.fab_types.specs.declared.head.Parties.{Parties}
+use Rattle.fab_types.specs.declared.head.Parties.TheVariants.{Upward, Downward, Answer}
+use Rattle.tlp_view.specs.Packet.{Packet, dw_count}
+use Rattle.tlp_view.specs.Runs.{is_write}
+use Rattle.tlp_view.specs.Bytes.{packet_of}
+use Rattle.request_handling.specs.declared.handling.Effect.TheVariants.{Leave, Block, Store, Access}
+use Rattle.request_handling.specs.declared.handling.Handling.{Handling}
+use Rattle.request_handling.specs.Emissions.{Emission}
+use Rattle.host_memory.specs.Pages.{page_of}
+use Rattle.request_handling.specs.Answers.{address_of, bar_of, forwarded, function_answer, host_data, host_refusal, port_answer, shown}
+use Rattle.request_handling.specs.declared.fate.Fate.{Fate}
+use Rattle.request_handling.specs.declared.fate.Fate.TheVariants.{Vanish, Refused, ToHost}
+use Rattle.request_handling.specs.Fates.{fate, is_untranslated}
+
+-- nothing happens, and nothing answers
+abbrev pub discarded : Handling
+discarded = record { effect = Leave; reply = None }
+
+-- ---- at the first port of its sender
+
+abbrev pub port_id : Option DownstreamPort → ℕ
+port_id None = 0
+port_id (Some port) = port.id
+
+-- what its fate stops there is discarded, or answered by the port
+abbrev pub refusal_by : ℕ → ℕ → List ℕ → Fate → Option Handling
+refusal_by port function bytes Vanish = Some discarded
+refusal_by port function bytes (Refused status) = Some (record { effect = Leave; reply = Some (port_answer port function status (packet_of bytes)) })
+refusal_by port function bytes ToHost = None
+
+abbrev pub refusal_of : Share → List ℕ → Parties → Option Handling
+refusal_of share bytes (Upward function) = refusal_by (port_id (first_port share.ports function)) function bytes (fate share.ports function bytes)
+refusal_of share bytes (Downward function) = None
+refusal_of share bytes (Answer answerer addressee) = None
+
+-- how a packet in flight ends at its sender's first port, if it ends there
+abbrev pub refusal_end : Share → Option Emission → Option Handling
+refusal_end share None = None
+refusal_end share (Some e) = refusal_of share e.bytes e.parties
+
+-- ---- at the host
+
+-- a request to a peer function goes down to its register page
+abbrev pub forward : ℕ → Packet → Option ℕ → Option Handling
+forward function t None = None
+forward function t (Some bar) = Some (record { effect = Leave; reply = Some (forwarded function bar t) })
+
+-- a write of a frame
+abbrev pub to_frame : ℕ → Packet → Handling
+to_frame k t = record { effect = Store k (address_of t % 4096); reply = None }
+
+-- a read of a frame
+abbrev pub from_frame : Share → List (ℕ × List ℕ) → Packet → ℕ → Handling
+from_frame share frames t k = record { effect = Leave; reply = Some (host_data share t (shown frames k t)) }
+
+-- a write goes where its page is mapped
+abbrev pub write_to : Share → Packet → Option MapTarget → Option Handling
+write_to share t None = Some (record { effect = Block; reply = None })
+write_to share t (Some (Frame k)) = Some (to_frame k t)
+write_to share t (Some (Peer function)) = forward function t (bar_of share.functions function)
+
+-- a read is answered with what its page is mapped to
+abbrev pub read_from : Share → List (ℕ × List ℕ) → Packet → Option MapTarget → Option Handling
+read_from share frames t None = Some (record { effect = Block; reply = Some (host_refusal share t) })
+read_from share frames t (Some (Frame k)) = Some (from_frame share frames t k)
+read_from share frames t (Some (Peer function)) = forward function t (bar_of share.functions function)
+
+abbrev pub refused_by_host : Share → Packet → Handling
+refused_by_host share t = record { effect = Leave; reply = Some (host_refusal share t) }
+
+-- a read of more than 64 DW is refused before its page is looked up
+abbrev pub serve_read : Share → List (ℕ × List ℕ) → Packet → Option Handling
+serve_read share frames t =
+    if nat_lt 64 (dw_count t.length)
+    then Some (refused_by_host share t)
+    else read_from share frames t (target_of share.maps t.requester (address_of t / 4096) Read)
+
+abbrev pub serve : Share → List (ℕ × List ℕ) → Packet → Option Handling
+serve share frames t =
+    if is_write t.kind
+    then write_to share t (target_of share.maps t.requester (address_of t / 4096) Write)
+    else serve_read share frames t
+
+abbrev pub is_owner : Option ℕ → ℕ → Bool
+is_owner None domain = false
+is_owner (Some owner) domain = owner == domain
+
+-- a request is carried that claims no translation, in the name of a requester of this domain
+abbrev pub is_carried : Share → Packet → Bool
+is_carried share t = is_untranslated t.address_type && is_owner (owner_of share.ports t.requester) share.domain
+
+abbrev pub carriage_by : Share → List (ℕ × List ℕ) → List ℕ → Fate → Option Handling
+carriage_by share frames bytes Vanish = None
+carriage_by share frames bytes (Refused status) = None
+carriage_by share frames bytes ToHost = if is_carried share (packet_of bytes) then serve share frames (packet_of bytes) else None
+
+-- ---- at a function
+
+-- a request of the host reads or writes the function's register page
+abbrev pub access_of : Share → List (ℕ × List ℕ) → ℕ → Packet → Option Handling
+access_of share registers function t =
+    option_map (λ page. record { effect = Access function; reply = function_answer share function page t }) (page_of registers function)
+
+-- ---- at either
+
+abbrev pub carriage_of : Share → List (ℕ × List ℕ) → List (ℕ × List ℕ) → List ℕ → Parties → Option Handling
+carriage_of share frames registers bytes (Upward function) = carriage_by share frames bytes (fate share.ports function bytes)
+carriage_of share frames registers bytes (Downward function) = access_of share registers function (packet_of bytes)
+carriage_of share frames registers bytes (Answer answerer addressee) = None
+
+-- how a packet in flight ends at its completer, if it ends there
+abbrev pub carriage_end : Share → List (ℕ × List ℕ) → List (ℕ × List ℕ) → Option Emission → Option Handling
+carriage_end share frames registers None = None
+carriage_end share frames registers (Some e) = carriage_of share frames registers e.bytes e.parties

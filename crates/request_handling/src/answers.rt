@@ -1,0 +1,158 @@
+//! The completions by which ports and the host answer.
+
+ghost use Rattle.std.specs.Prelude.{◌≡◌, ◌+◌, ◌*◌, ◌%◌, ◌≤◌, IfSome, length, true, unwrap_or};
+ghost use Rattle.std.specs.Option.{option_copied};
+ghost use Rattle.host_memory.specs.Pages.{part_of};
+ghost use Rattle.tlp_view.specs.Completions.{HeadFits, completion_of, read_completion};
+ghost use Rattle.tlp_view.specs.Packet.{dw_count};
+ghost use Rattle.request_handling.specs.Carries.{forward};
+ghost use Rattle.request_handling.specs.Answers.{address_of, bar_of, blank, forwarded, function_answer, function_refusal, host_data, host_refusal, port_answer, reads_nothing, shown};
+ghost use Rattle.function.specs.Accesses.{IsAccess};
+
+use crate::handling::{Effect, Handling, Reply};
+use fab_types::{Answerer, Bdf, Origin, PortId, Status};
+use function::Function;
+use host_memory::HostMemory;
+use layout::Start;
+use platform::EndpointFunction;
+use tlp_view::{CompletionHead, CplBuf, RequestBuf, TlpView};
+
+/// A port refuses a request of this function.
+pub(crate) fn port_answer(port: PortId, function: Bdf, status: Status, view: &TlpView) -> Reply
+    ensures { result ≡ port_answer port function status view.now }
+{
+    let head = CompletionHead::of_refusal(port.id(), status, view);
+    Reply::answer(
+        Answerer::Port,
+        Some(Origin::Function(function)),
+        CplBuf::new(head, 0),
+    )
+}
+
+/// The host refuses a request.
+pub(crate) fn host_refusal(start: &Start, view: &TlpView) -> Reply
+    ensures { result ≡ host_refusal start.now view.now }
+{
+    let head = CompletionHead::of_refusal(Bdf::from_bits(0), Status::UR, view);
+    Reply::answer(
+        Answerer::Host,
+        start.reach(view.requester()),
+        CplBuf::new(head, 0),
+    )
+}
+
+/// A function refuses a request.
+pub(crate) fn function_refusal(start: &Start, function: Bdf, view: &TlpView) -> Reply
+    ensures { result ≡ function_refusal start.now function view.now }
+{
+    let head = CompletionHead::of_refusal(function, Status::UR, view);
+    let asker = start.reach(view.requester());
+    Reply::answer(Answerer::Function, asker, CplBuf::new(head, 0))
+}
+
+/// The host answers a read of a frame of memory.
+pub(crate) fn host_data(start: &Start, memory: &HostMemory, frame: u16, view: &TlpView) -> Reply
+    requires { dw_count (view.now).length ≤ 64 }
+    ensures { result ≡ host_data start.now view.now (shown memory.now frame view.now) }
+{
+    Reply::answer(
+        Answerer::Host,
+        start.reach(view.requester()),
+        completed_read(view, part_read(memory, frame, view)),
+    )
+}
+
+/// The BAR of this function, if the layout has it.
+pub fn bar_of(functions: &[EndpointFunction], function: Bdf) -> Option<u32>
+    ensures { result ≡ bar_of functions.now function }
+{
+    functions
+        .iter()
+        .find(|line| line.id == function)
+        .map(|line| line.bar)
+}
+
+/// A request goes on to the same place in the register page of this function, if the layout has it.
+pub(crate) fn forward(start: &Start, function: Bdf, view: &TlpView) -> Option<Handling>
+    requires { IsAccess view.now }
+    ensures { result ≡ forward function view.now (bar_of start.now.functions function) }
+{
+    match bar_of(start.functions(), function) {
+        Some(bar) => Some(Handling {
+            effect: Effect::Leave,
+            reply: Some(forwarded(function, bar, view)),
+        }),
+        None => None,
+    }
+}
+
+fn forwarded(function: Bdf, bar: u32, view: &TlpView) -> Reply
+    requires { IsAccess view.now }
+    ensures { result ≡ forwarded function bar view.now }
+{
+    let place = view.address().unwrap_or(0) % 4096;
+    let page = u64::from(bar / 4096 * 4096);
+    Reply::request(function, RequestBuf::moved(view, page + place))
+}
+
+/// A function answers a read of its register page; a write has no answer.
+pub(crate) fn function_answer(start: &Start, function: &Function, view: &TlpView) -> Option<Reply>
+    requires { IsAccess view.now }
+    ensures { result ≡ function_answer start.now (function.now).0 (function.now).1 view.now }
+{
+    match function.answer(view) {
+        Some(packet) => Some(Reply::answer(
+            Answerer::Function,
+            start.reach(view.requester()),
+            packet,
+        )),
+        None => None,
+    }
+}
+
+/// Does the read ask for no bytes?
+fn reads_nothing(view: &TlpView) -> bool
+    ensures { result ≡ reads_nothing view.now }
+{
+    match view.enables() {
+        Some(enables) => view.dw_length() == 1 && enables.first == 0,
+        None => false,
+    }
+}
+
+/// The bytes that a read shows, where they are not all 0 for another cause.
+fn part_read<'a>(memory: &'a HostMemory, frame: u16, view: &TlpView) -> Option<&'a [u8]>
+    ensures value { unwrap_or (option_copied result) (blank view.now) ≡ shown memory.now frame view.now }
+    ensures size { IfSome result (λ part. length part.now ≡ 4 * dw_count (view.now).length) }
+{
+    if reads_nothing(view) {
+        return None;
+    }
+    let first = (view.address().unwrap_or(0) % 4096) as usize;
+    memory.part(frame, first..first + 4 * usize::from(view.dw_length()))
+}
+
+/// The successful completion of a read that shows this part, or 0 without one.
+fn completed_read(view: &TlpView, part: Option<&[u8]>) -> CplBuf
+    requires short { dw_count (view.now).length ≤ 64 }
+    requires size { IfSome part (λ bytes. length bytes.now ≡ 4 * dw_count (view.now).length) }
+    ensures { result ≡ read_completion 0 view.now (unwrap_or (option_copied part.entry) (blank view.now)) }
+{
+    let head = CompletionHead::of_read(Bdf::from_bits(0), view);
+    match part {
+        Some(bytes) => with_data(head, bytes),
+        None => CplBuf::new(head, usize::from(view.dw_length())),
+    }
+}
+
+/// A completion with these bytes.
+fn with_data(head: CompletionHead, bytes: &[u8]) -> CplBuf
+    requires fits { HeadFits head }
+    requires whole { length bytes.now % 4 ≡ 0 }
+    requires small { length bytes.now ≤ 256 }
+    ensures { result ≡ completion_of head bytes.now }
+{
+    let mut packet = CplBuf::new(head, bytes.len() / 4);
+    packet.payload_mut().copy_from_slice(bytes);
+    packet
+}

@@ -1,0 +1,240 @@
+//! What the host does with a request, and what a function does with one of the host.
+
+ghost use Rattle.std.specs.Prelude.{◌≡◌, ◌/◌, ◌≤◌, true, None, if◌then◌else◌};
+ghost use Rattle.fab_types.specs.declared.head.Parties.TheVariants.{Downward, Upward};
+ghost use Rattle.function.specs.Accesses.{IsAccess};
+ghost use Rattle.tlp_view.specs.Bytes.{packet_of};
+ghost use Rattle.tlp_view.specs.Kinds.{is_memory};
+ghost use Rattle.tlp_view.specs.Packet.{dw_count};
+ghost use Rattle.tlp_view.specs.Runs.{is_write};
+ghost use Rattle.request_handling.specs.WellMade.{IsWellMade};
+ghost use Rattle.request_handling.specs.Carries.{access_of, carriage_by, carriage_of, from_frame, is_carried, is_owner, refused_by_host, serve, serve_read, to_frame, write_to, read_from};
+ghost use Rattle.layout.specs.Tables.{target_of};
+ghost use Rattle.platform.specs.declared.parts.Access.TheVariants as access;
+ghost use Rattle.request_handling.specs.Answers.{address_of};
+ghost use Rattle.request_handling.specs.Fates.{fate, fate_at};
+
+use crate::answers::{forward, function_answer, host_data, host_refusal};
+use crate::fate::{Fate, is_untranslated, packet_fate};
+use crate::handling::{Effect, Handling};
+use crate::page::place;
+use fab_types::{Bdf, DomainId};
+use function::Function;
+use host_memory::HostMemory;
+use host_table::{HostTable, Target};
+use layout::Start;
+use platform::{Access, DownstreamPort};
+use tlp_view::{Kind, TlpView};
+
+pub(crate) fn is_write(kind: Kind) -> bool
+    ensures { result ≡ is_write kind }
+{
+    matches!(kind, Kind::MWr)
+}
+
+pub(crate) fn is_owner(owner: Option<DomainId>, domain: DomainId) -> bool
+    ensures { result ≡ is_owner owner domain }
+{
+    match owner {
+        Some(owner) => owner == domain,
+        None => false,
+    }
+}
+
+/// Does the request claim no translation, in the name of a requester of this domain?
+fn is_carried(start: &Start, view: &TlpView) -> bool
+    requires { is_memory (view.now).kind ≡ true }
+    ensures { result ≡ is_carried start.now view.now }
+{
+    match view.at() {
+        Some(address_type) => {
+            is_untranslated(address_type) && is_owner(start.owner(view.requester()), start.domain())
+        }
+        None => unreachable!(),
+    }
+}
+
+/// The host writes to a frame.
+pub(crate) fn to_frame(frame: u16, view: &TlpView) -> Handling
+    ensures { result ≡ to_frame frame view.now }
+{
+    let first = (view.address().unwrap_or(0) % 4096) as usize;
+    Handling {
+        effect: Effect::Store(frame, first),
+        reply: None,
+    }
+}
+
+/// The host answers a read of a frame.
+pub(crate) fn from_frame(start: &Start, memory: &HostMemory, view: &TlpView, frame: u16) -> Handling
+    requires { dw_count (view.now).length ≤ 64 }
+    ensures { result ≡ from_frame start.now memory.now view.now frame }
+{
+    Handling {
+        effect: Effect::Leave,
+        reply: Some(host_data(start, memory, frame, view)),
+    }
+}
+
+/// The host refuses a request.
+pub(crate) fn refused_by_host(start: &Start, view: &TlpView) -> Handling
+    ensures { result ≡ refused_by_host start.now view.now }
+{
+    Handling {
+        effect: Effect::Leave,
+        reply: Some(host_refusal(start, view)),
+    }
+}
+
+/// What the host does with a write.
+#[tactic(auto, using(crate::proofs::WellMadeLemmas::write_access))]
+fn serve_write(start: &Start, table: &HostTable, view: &TlpView) -> Option<Handling>
+    requires { is_write (view.now).kind ≡ true }
+    ensures { result ≡ write_to start.now view.now (target_of table.now view.now.requester (address_of view.now / 4096) access.Write) }
+{
+    let address = view.address().unwrap_or(0);
+    match table.lookup(view.requester(), address / 4096, Access::Write) {
+        Target::Frame(frame) => Some(to_frame(frame, view)),
+        Target::Peer(function) => forward(start, function, view),
+        Target::None => Some(Handling {
+            effect: Effect::Block,
+            reply: None,
+        }),
+    }
+}
+
+/// What the host does with a read.
+fn serve_read(
+    start: &Start,
+    table: &HostTable,
+    memory: &HostMemory,
+    view: &TlpView,
+) -> Option<Handling>
+    requires table { table.now ≡ (start.now).maps }
+    requires is_memory { is_memory (view.now).kind ≡ true }
+    ensures { result ≡ serve_read start.now memory.now view.now }
+{
+    if view.dw_length() > 64 {
+        return Some(refused_by_host(start, view));
+    }
+    let page = view.address().unwrap_or(0) / 4096;
+    match table.lookup(view.requester(), page, Access::Read) {
+        Target::Frame(frame) => Some(from_frame(start, memory, view, frame)),
+        Target::Peer(function) => forward(start, function, view),
+        Target::None => Some(Handling {
+            effect: Effect::Block,
+            reply: Some(host_refusal(start, view)),
+        }),
+    }
+}
+
+/// What the host does with a memory request, by the table of its Requester ID.
+pub(crate) fn serve(
+    start: &Start,
+    table: &HostTable,
+    memory: &HostMemory,
+    view: &TlpView,
+) -> Option<Handling>
+    requires table { table.now ≡ (start.now).maps }
+    requires is_memory { is_memory (view.now).kind ≡ true }
+    ensures { result ≡ serve start.now memory.now view.now }
+{
+    if is_write(view.kind()) {
+        serve_write(start, table, view)
+    } else {
+        serve_read(start, table, memory, view)
+    }
+}
+
+/// What the host does with a memory request of this domain.
+fn carried(
+    start: &Start,
+    table: &HostTable,
+    memory: &HostMemory,
+    view: &TlpView,
+) -> Option<Handling>
+    requires table { table.now ≡ (start.now).maps }
+    requires is_memory { is_memory (view.now).kind ≡ true }
+    ensures { result ≡ (if is_carried start.now view.now then serve start.now memory.now view.now else None) }
+{
+    if is_carried(start, view) {
+        serve(start, table, memory, view)
+    } else {
+        None
+    }
+}
+
+/// What the host does with what passes this first port of its sender.
+fn carriage_past(
+    port: &DownstreamPort,
+    start: &Start,
+    table: &HostTable,
+    memory: &HostMemory,
+    bytes: &[u8],
+) -> Option<Handling>
+    requires { table.now ≡ (start.now).maps }
+    ensures { result ≡ carriage_by start.now memory.now bytes.now (fate_at port.now bytes.now) }
+{
+    let Ok(view) = TlpView::read(bytes) else {
+        return None;
+    };
+    match packet_fate(port, &view) {
+        Fate::ToHost => carried(start, table, memory, &view),
+        Fate::Vanish => None,
+        Fate::Refused(_) => None,
+    }
+}
+
+/// What the host does with these bytes that a function sent; `None` where they don't go on to the host, or
+/// it carries nothing of the kind.
+pub fn carriage_to_host(
+    start: &Start,
+    table: &HostTable,
+    memory: &HostMemory,
+    function: Bdf,
+    bytes: &[u8],
+) -> Option<Handling>
+    requires { table.now ≡ (start.now).maps }
+    ensures { result ≡ carriage_by start.now memory.now bytes.now (fate start.now.ports function bytes.now) }
+{
+    match start.first_port(function) {
+        Some(port) => carriage_past(&port, start, table, memory, bytes),
+        None => None,
+    }
+}
+
+/// What a function does with a request for its register page.
+pub(crate) fn access_of(
+    start: &Start,
+    functions: &[Function],
+    id: Bdf,
+    view: &TlpView,
+) -> Option<Handling>
+    requires { IsAccess view.now }
+    ensures { result ≡ access_of start.now functions.now id view.now }
+{
+    match place(functions, id) {
+        Some(at) => Some(Handling {
+            effect: Effect::Access(id),
+            reply: function_answer(start, &functions[at], view),
+        }),
+        None => None,
+    }
+}
+
+/// What a function does with these bytes of the host; `None` exactly where it isn't one of these
+/// functions.
+pub fn carriage_to_function(
+    start: &Start,
+    functions: &[Function],
+    id: Bdf,
+    bytes: &[u8],
+) -> Option<Handling>
+    requires { IsWellMade (Downward id) bytes.now }
+    ensures { result ≡ access_of start.now functions.now id (packet_of bytes.now) }
+{
+    let Ok(view) = TlpView::read(bytes) else {
+        unreachable!();
+    };
+    access_of(start, functions, id, &view)
+}

@@ -1,0 +1,75 @@
+//! The descriptor's head of a packet.
+
+ghost use Rattle.std.specs.Prelude.{◌≡◌};
+ghost use Rattle.tlp_view.specs.Costs.{packet_cost};
+ghost use Rattle.request_handling.specs.Heads.{head_of, malformed_cost, packet_header, target_for};
+
+use fab_types::{Answerer, Bdf, Class, Cost, Head, Header, Parties};
+use tlp_view::TlpView;
+
+/// To which ID a completion is routed: a port's answer goes to the sender of what the port refused,
+/// whatever Requester ID that bore.
+pub fn target_for(parties: Parties, requester: Bdf) -> Bdf
+    ensures { result ≡ target_for parties requester }
+{
+    match parties {
+        Parties::Answer(Answerer::Port, Some(sender)) => sender.id(),
+        _ => requester,
+    }
+}
+
+fn packet_header(parties: Parties, view: &TlpView) -> Header
+    ensures { result ≡ packet_header parties view.now }
+{
+    let requester = view.requester();
+    if view.kind().is_completion() {
+        return Header::Completion {
+            target: target_for(parties, requester),
+            relaxed_ordering: view.attr().relaxed_ordering,
+        };
+    }
+    match view.at() {
+        Some(address_type) => Header::Memory {
+            requester,
+            address_type,
+            address: view.address().unwrap_or(0),
+        },
+        None => Header::OtherRequest { requester },
+    }
+}
+
+fn packet_head(parties: Parties, view: &TlpView) -> Head
+    ensures { result ≡ record { parties = parties; cost = packet_cost view.now; header = packet_header parties view.now } }
+{
+    let cost = view.cost();
+    let these = parties;
+    let header = packet_header(these, view);
+    Head {
+        parties,
+        cost,
+        header,
+    }
+}
+
+fn malformed_head(parties: Parties) -> Head
+    ensures { result ≡ record { parties = parties; cost = malformed_cost; header = Header.Malformed } }
+{
+    Head {
+        parties,
+        cost: Cost {
+            class: Class::Posted,
+            data: 0,
+        },
+        header: Header::Malformed,
+    }
+}
+
+/// What ports read of these bytes: the parties, and the cost and header fields of the packet.
+pub fn head_of(parties: Parties, bytes: &[u8]) -> Head
+    ensures { result ≡ head_of (record { parties = parties; bytes = bytes.now }) }
+{
+    match TlpView::read(bytes) {
+        Ok(view) => packet_head(parties, &view),
+        Err(_) => malformed_head(parties),
+    }
+}

@@ -1,0 +1,22 @@
+//! What becomes of one packet, by its bytes and its domain's share of the layout.
+#![tactic(auto)]
+
+mod answers;
+mod carriage;
+mod fate;
+mod handling;
+mod heads;
+mod page;
+mod refusal;
+mod requests;
+mod taker;
+
+pub use answers::bar_of;
+pub use carriage::{carriage_to_function, carriage_to_host};
+pub use fate::{Fate, first_port_fate};
+pub use handling::{Effect, Handling, Made, Reply};
+pub use heads::{head_of, target_for};
+pub use page::place;
+pub use refusal::{discarded, refusal_of};
+pub use requests::{at_port, request_at_function, request_at_host};
+pub use taker::{Taker, taker_of};

@@ -1,0 +1,52 @@
+//! What the first port of its sender does with a packet that it stops.
+
+ghost use Rattle.std.specs.Prelude.{◌≡◌, Some};
+ghost use Rattle.fab_types.specs.declared.head.Parties.TheVariants.{Upward};
+ghost use Rattle.platform.specs.Owners.{first_port};
+ghost use Rattle.request_handling.specs.Carries.{discarded, refusal_by, refusal_of};
+ghost use Rattle.request_handling.specs.Fates.{fate_at};
+
+use crate::answers::port_answer;
+use crate::fate::{Fate, packet_fate};
+use crate::handling::{Effect, Handling};
+use fab_types::Bdf;
+use layout::Start;
+use platform::DownstreamPort;
+use tlp_view::TlpView;
+
+/// Nothing happens, and nothing answers.
+pub fn discarded() -> Handling
+    ensures { result ≡ discarded }
+{
+    Handling {
+        effect: Effect::Leave,
+        reply: None,
+    }
+}
+
+/// How these bytes of a function end at this port, if they end there.
+pub(crate) fn refusal_at(port: &DownstreamPort, function: Bdf, bytes: &[u8]) -> Option<Handling>
+    ensures { result ≡ refusal_by port.now.id function bytes.now (fate_at port.now bytes.now) }
+{
+    let Ok(view) = TlpView::read(bytes) else {
+        return Some(discarded());
+    };
+    match packet_fate(port, &view) {
+        Fate::Vanish => Some(discarded()),
+        Fate::Refused(status) => Some(Handling {
+            effect: Effect::Leave,
+            reply: Some(port_answer(port.id, function, status, &view)),
+        }),
+        Fate::ToHost => None,
+    }
+}
+
+/// How these bytes of a function end at its first port, if they end there.
+pub fn refusal_of(start: &Start, function: Bdf, bytes: &[u8]) -> Option<Handling>
+    ensures { result ≡ refusal_of start.now bytes.now (Upward function) }
+{
+    match start.first_port(function) {
+        Some(port) => refusal_at(&port, function, bytes),
+        None => Some(discarded()),
+    }
+}

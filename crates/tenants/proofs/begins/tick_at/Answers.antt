@@ -1,8 +1,0 @@
-use Rattle.std.proofs.Common.{get_or}
-use Rattle.tenants.proofs.Indexed.{places_stay, share_kept}
-use Rattle.tenants.proofs.begins.tick_at.Goals as goal
-
-pub returns-clause-places : goal.returns-clause-places
-returns-clause-places g c =
-    let ds = c.args.domains.now in let i = c.args.place in let read = c.index-domains-place.result in
-    places_stay ds i read c.tick.new.self (share_kept _ (get_or ds i read) c.tick.new.self c.tick.result (λ x m. m.share) c.tick.ensures.ok c.tick.ensures.err)

@@ -1,5 +1,0 @@
-use Rattle.tenants.specs.Indexes.{IsIndexOf}
-use Rattle.tenants.proofs.indexing.note_functions.Given as goal
-
-abbrev pub invariant-loop-line : goal.invariant-loop-line
-invariant-loop-line l = IsIndexOf l.index l.domains

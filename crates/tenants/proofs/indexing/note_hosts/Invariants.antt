@@ -1,5 +1,0 @@
-use Rattle.tenants.specs.Indexes.{IsIndexOf}
-use Rattle.tenants.proofs.indexing.note_hosts.Given as goal
-
-abbrev pub invariant-loop-domain : goal.invariant-loop-domain
-invariant-loop-domain l = IsIndexOf l.index l.domains

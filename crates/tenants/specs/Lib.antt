@@ -1,4 +1,0 @@
-pub mod Tenants
-pub mod Aliens
-pub mod Kept
-pub mod Indexes
