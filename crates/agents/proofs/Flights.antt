@@ -16,11 +16,11 @@ use Rattle.domain.specs.declared.entry.Entry.{Entry}
 use Rattle.domain.specs.declared.entry.Entry.TheVariants.{Submit, Tick, Mmio, Refuse, Carry, Deliver, Alien}
 use Rattle.request_handling.specs.Answers.{bar_of}
 use Rattle.domain.specs.Deliveries.{arrival, arrived}
-use Rattle.domain.specs.Ends.{replied}
-use Rattle.domain.specs.HostAccesses.{mmio_fault, mmio_unless, mmio_with, tag_for}
+use Rattle.domain_parts.specs.Ends.{replied}
+use Rattle.domain_parts.specs.HostAccesses.{mmio_fault, mmio_unless, mmio_with, tag_for}
 use Rattle.domain.specs.Machine.{aliens_in, change, replay}
 use Rattle.request_handling.specs.Emissions.{Emission}
-use Rattle.domain.specs.State.{Alone, Change, emits_nothing, item_at, without}
+use Rattle.domain_parts.specs.State.{Alone, Change, emits_nothing, item_at, without}
 use Rattle.domain.specs.Submits.{submit_fault, submit_unless}
 use Rattle.domain.specs.Ticks.{sent_by, tick_fault, tick_unless, ticked, ticks}
 

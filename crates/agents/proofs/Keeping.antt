@@ -20,7 +20,7 @@ use Rattle.domain.specs.declared.entry.Entry.{Entry}
 use Rattle.domain.specs.Domains.{DomainView}
 use Rattle.domain.specs.Machine.{aliens_in, change, replay, with_alien}
 use Rattle.request_handling.specs.Emissions.{Emission}
-use Rattle.domain.specs.State.{Change}
+use Rattle.domain_parts.specs.State.{Change}
 use Rattle.outboxes.proofs.Changing.{changed_there, others_stay}
 use Rattle.outboxes.specs.Outboxes.{BoxView, changed, has_place, has_place_in, with_put}
 use Rattle.domains.specs.Domains.{Made, after, made_at, made_by, made_of, place_of, place_of_function}

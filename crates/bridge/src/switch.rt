@@ -11,7 +11,7 @@ ghost use Rattle.bridge.specs.Groups.{Group, group_of, holder_of};
 use crate::route::Route;
 use crate::target::{Target, holds};
 use fab_types::{NoMemory, PortId};
-use platform::{DownstreamPort, Switch, internal_bus, is_on_bus};
+use platform::{DownstreamPort, Switch, find_port, internal_bus, is_on_bus};
 use std::alloc::Global;
 use std::marker::Model;
 
@@ -26,12 +26,6 @@ impl Model for SwitchRoutes {
     ghost Value = { Group };
 
     ghost view = { λ s. record { line = s.line; ports = s.ports.items } };
-}
-
-fn find_port(ports: &[DownstreamPort], id: PortId) -> Option<&DownstreamPort>
-    ensures { option_copied result ≡ port_at ports.now id }
-{
-    ports.iter().find(|port| port.id == id)
 }
 
 fn find_holder(ports: &[DownstreamPort], target: Option<Target>) -> Option<&DownstreamPort>

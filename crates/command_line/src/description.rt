@@ -8,7 +8,7 @@ use clap::{Arg, ArgAction, Command};
 use std::alloc::{AllocError, Global};
 
 const ABOUT: &str =
-    "Runs a fabric of PCI Express switches whose domains (domains) are kept apart by Access Control Services";
+    "Runs a fabric of PCI Express switches whose domains (tenants) are kept apart by Access Control Services";
 
 const FIRST_ABOUT: &str =
     "Submits one packet at the only function of the smallest fabric, and prints the memory that it changed";

@@ -41,7 +41,7 @@ use Rattle.tlp_view.specs.View.{address_type_in}
 use Rattle.tlp_view.specs.Runs.{runs, is_write}
 use Rattle.tlp_view.specs.Bytes.{packet_of}
 use Rattle.fab_types.specs.declared.host_access.HostAccess.{HostAccess}
-use Rattle.domain.specs.declared.counts.Counts.{Counts}
+use Rattle.domain_parts.specs.declared.counts.Counts.{Counts}
 use Rattle.domain.specs.declared.deliver.Arrival.{Arrival}
 use Rattle.request_handling.specs.declared.handling.Effect.{Effect}
 use Rattle.request_handling.specs.declared.handling.Effect.TheVariants.{Leave, Block, Store, Access}
@@ -49,27 +49,28 @@ use Rattle.request_handling.specs.declared.handling.Handling.{Handling}
 use Rattle.domain.specs.declared.entry.Entry.{Entry}
 use Rattle.domain.specs.declared.entry.Entry.TheVariants.{Submit, Tick, Mmio, Refuse, Carry, Deliver, Alien}
 use Rattle.request_handling.specs.declared.fate.Fate.{Fate}
-use Rattle.domain.specs.declared.reception.Reception.{Reception}
-use Rattle.domain.specs.declared.reception.Reception.TheVariants.{Ends, Arrives}
+use Rattle.domain.specs.declared.receive.Reception.{Reception}
+use Rattle.domain.specs.declared.receive.Reception.TheVariants.{Ends, Arrives}
 use Rattle.request_handling.specs.declared.taker.Taker.{Taker}
 use Rattle.request_handling.specs.declared.taker.Taker.TheVariants.{Host, Port, Upstream}
 use Rattle.request_handling.specs.declared.taker.Taker.TheVariants as taker
 use Rattle.request_handling.specs.declared.fate.Fate.TheVariants.{Vanish, Refused, ToHost}
 use Rattle.request_handling.specs.Requests.{at_frame_if, at_port, frame_at, is_access, lies_in, or_discarded, request_at_function, request_at_host, unserved, unserved_by_host}
-use Rattle.domain.specs.Aliens.{answerer_of, completion_at_host, is_excluded, received, received_if, reception_at, reception_by, reception_of, reception_unless}
+use Rattle.domain.specs.Aliens.{answerer_of, completion_at_host, is_excluded, received_if, reception_at, reception_by, reception_of, reception_unless}
+use Rattle.domain.specs.Receptions.{received}
 use Rattle.request_handling.specs.Answers.{address_of, answered_by, bar_of, function_answer, function_refusal, host_refusal}
 use Rattle.request_handling.specs.Carries.{access_of, carriage_by, carriage_of, discarded, forward, from_frame, is_carried, is_owner, port_id, read_from, refusal_by, refusal_of, refused_by_host, serve, serve_read, to_frame, write_to}
 use Rattle.domain.specs.Deliveries.{arrival_at, arrival_of, arrived, recorded, unexpected}
-use Rattle.domain.specs.Ends.{blocked, conclude, done, replied, with_access, with_stored}
+use Rattle.domain_parts.specs.Ends.{blocked, conclude, done, replied, with_access, with_stored}
 use Rattle.request_handling.specs.Fates.{fate, fate_at}
 use Rattle.request_handling.specs.Heads.{target_for}
 use Rattle.domain.specs.Machine.{aliens_from, aliens_in, carry, change, deliver, refuse, replay, replay_from, with_alien}
 use Rattle.request_handling.specs.Emissions.{Emission}
-use Rattle.domain.specs.State.{Alone, Change, Delivery, begun, emits_nothing, item_at, start_state, with_emission, without}
-use Rattle.domain.specs.HostAccesses.{host_emission, is_in_page, mmio_fault, mmio_unless, mmio_with, opened_for, size_of, tag_for}
+use Rattle.domain_parts.specs.State.{Alone, Change, Delivery, begun, emits_nothing, item_at, start_state, with_emission, without}
+use Rattle.domain_parts.specs.HostAccesses.{host_emission, is_in_page, mmio_fault, mmio_unless, mmio_with, opened_for, size_of, tag_for}
 use Rattle.domain.specs.Ticks.{sent_by, tick_fault, tick_unless, ticked, ticks}
 use Rattle.domain.specs.Submits.{submit_fault, submit_unless, submitted}
-use Rattle.domain.specs.Tags.{completes, is_open, opens_tag}
+use Rattle.domain_parts.specs.Tags.{completes, is_open, opens_tag}
 use Rattle.request_handling.specs.Takers.{taker_of}
 
 -- how many packets may still come of one in flight, itself left out

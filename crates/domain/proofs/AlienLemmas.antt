@@ -34,30 +34,30 @@ use Rattle.domain.specs.declared.entry.Entry.{Entry}
 use Rattle.domain.specs.declared.entry.Entry.TheVariants.{Submit, Tick, Mmio, Refuse, Carry, Deliver, Alien}
 use Rattle.request_handling.specs.declared.fate.Fate.{Fate}
 use Rattle.request_handling.specs.declared.fate.Fate.TheVariants.{Vanish, Refused, ToHost}
-use Rattle.domain.specs.declared.reception.Reception.{Reception}
-use Rattle.domain.specs.declared.reception.Reception.TheVariants.{Ends, Arrives}
+use Rattle.domain.specs.declared.receive.Reception.{Reception}
+use Rattle.domain.specs.declared.receive.Reception.TheVariants.{Ends, Arrives}
 use Rattle.request_handling.specs.declared.taker.Taker.{Taker}
 use Rattle.request_handling.specs.declared.taker.Taker.TheVariants.{Host, Function, Port, Upstream}
 use Rattle.request_handling.specs.Requests.{at_frame_if, at_port, frame_at, is_access, lies_in, or_discarded, request_at_function, request_at_host, unserved, unserved_by_host}
-use Rattle.domain.specs.Aliens.{answerer_of, completion_at_host, is_excluded, received, received_if, reception_at, reception_by, reception_of, reception_unless}
+use Rattle.domain.specs.Aliens.{answerer_of, completion_at_host, is_excluded, received_if, reception_at, reception_by, reception_of, reception_unless}
 use Rattle.request_handling.specs.Answers.{address_of, bar_of, function_answer, function_refusal, host_refusal}
 use Rattle.request_handling.specs.Carries.{access_of, discarded, from_frame, is_owner, refusal_by, refused_by_host, serve, to_frame}
 use Rattle.domain.specs.Deliveries.{arrival_at, is_port}
 use Rattle.domain.specs.Domains.{DomainView, Makes}
-use Rattle.domain.specs.Ends.{BytesFit, EffectFits}
+use Rattle.domain_parts.specs.Ends.{BytesFit, EffectFits}
 use Rattle.request_handling.specs.Fates.{fate_at}
 use Rattle.fab_types.specs.Origins.{origin_id}
 use Rattle.request_handling.specs.Heads.{descriptor_of, target_for}
 use Rattle.domain.specs.Machine.{aliens_from, aliens_in, change, replay, replay_from, with_alien}
-use Rattle.domain.specs.Receptions.{IsReceivable}
+use Rattle.domain.specs.Receptions.{IsReceivable, received}
 use Rattle.request_handling.specs.Emissions.{Emission}
-use Rattle.domain.specs.State.{Alone, Change, start_state}
-use Rattle.domain.specs.Tags.{is_open}
+use Rattle.domain_parts.specs.State.{Alone, Change, start_state}
+use Rattle.domain_parts.specs.Tags.{is_open}
 use Rattle.request_handling.specs.Takers.{taker_of, takes}
 use Rattle.domain.proofs.Accounting.{aliens_more, goes_on}
 use Rattle.domain.proofs.EndLemmas.{serve_fits}
 use Rattle.domain.proofs.Keeping.{makes_end, makes_seen}
-use Rattle.domain.proofs.PageFits.{write_in_page}
+use Rattle.domain_parts.proofs.PageFits.{write_in_page}
 use Rattle.request_handling.proofs.WellMadeLemmas.{is_an_access}
 
 abbrev some : {A : Type 0} → A → Option A

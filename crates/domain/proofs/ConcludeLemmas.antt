@@ -6,20 +6,31 @@ use Rattle.std.specs.Option.{IsSome}
 use Rattle.fab_types.specs.declared.origin.Origin.{Origin}
 use Rattle.tlp_view.specs.Bytes.{packet_of}
 use Rattle.tlp_view.specs.Runs.{runs}
-use Rattle.domain.proofs.FlightLemmas.{clear_push, item_push}
+use Rattle.domain_parts.proofs.FlightLemmas.{clear_push, item_push}
 use Rattle.request_handling.specs.declared.handling.Effect.{Effect}
 use Rattle.request_handling.specs.declared.handling.Effect.TheVariants.{Leave, Block, Store, Access}
 use Rattle.function.specs.declared.tags.OpenTag.{OpenTag}
-use Rattle.domain.specs.Deliveries.{closed}
-use Rattle.domain.specs.Ends.{EffectFits, blocked, done, replied, with_access, with_stored}
+use Rattle.domain_parts.specs.Closings.{closed}
+use Rattle.domain_parts.specs.Ends.{EffectFits, blocked, done, replied, with_access, with_stored}
 use Rattle.request_handling.specs.Emissions.{Emission}
-use Rattle.domain.specs.State.{Alone, Delivery, item_at, without}
-use Rattle.domain.specs.Tags.{is_open, same_origin}
+use Rattle.domain_parts.specs.State.{Alone, Delivery, item_at, without}
+use Rattle.domain_parts.specs.Tags.{is_open, same_origin}
 
 abbrev pub with_flight : Alone → List (Option Emission) → Alone
 with_flight s flight = record { frames = s.frames; registers = s.registers; open_tags = s.open_tags; deliveries = s.deliveries; counts = s.counts; flight = flight }
 
+-- one packet is in flight under a number
+pub one_item : (o : Option Emission) (x y : Emission) → o ≡ Some x → o ≡ Some y → x ≡ y
+one_item o x y e f = cc
+
 -- ---- the reply is put into flight before the packet leaves it
+
+pub done_replied : (s : Alone) (o : Option Emission) (bytes : List ℕ) (d : Effect) → done (replied s o) bytes d ≡ replied (done s bytes d) o
+done_replied s None bytes d = refl
+done_replied s (Some x) bytes Leave = refl
+done_replied s (Some x) bytes Block = refl
+done_replied s (Some x) bytes (Store k first) = refl
+done_replied s (Some x) bytes (Access g) = refl
 
 pub item_replied : (s : Alone) (o : Option Emission) (n : ℕ) → IsSome (item_at s.flight n) → item_at (replied s o).flight n ≡ item_at s.flight n
 item_replied s None n h = refl

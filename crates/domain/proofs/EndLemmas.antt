@@ -16,7 +16,7 @@ use Rattle.tlp_view.specs.Bytes.{packet_of}
 use Rattle.tlp_view.specs.Malformed.{malformed}
 use Rattle.tlp_view.specs.Packet.{Packet, dw_count}
 use Rattle.tlp_view.specs.Runs.{is_write}
-use Rattle.domain.proofs.PageFits.{write_in_page}
+use Rattle.domain_parts.proofs.PageFits.{write_in_page}
 use Rattle.request_handling.specs.declared.handling.Effect.TheVariants.{Leave, Access}
 use Rattle.request_handling.specs.declared.handling.Handling.{Handling}
 use Rattle.domain.specs.declared.entry.Entry.TheVariants.{Carry, Deliver, Refuse}
@@ -25,11 +25,11 @@ use Rattle.request_handling.specs.declared.fate.Fate.TheVariants.{Vanish, Refuse
 use Rattle.request_handling.specs.Answers.{address_of, bar_of, function_answer, host_refusal}
 use Rattle.request_handling.specs.Carries.{access_of, carriage_by, carriage_end, carriage_of, forward, is_carried, port_id, read_from, refusal_by, refusal_end, refusal_of, serve, serve_read, write_to}
 use Rattle.domain.specs.Domains.{DomainView, EndsBy}
-use Rattle.domain.specs.Ends.{EffectFits, conclude}
+use Rattle.domain_parts.specs.Ends.{EffectFits, conclude}
 use Rattle.request_handling.specs.Fates.{fate, fate_below, fate_unless}
 use Rattle.domain.specs.Machine.{carry, change, ended, refuse}
 use Rattle.request_handling.specs.Emissions.{Emission}
-use Rattle.domain.specs.State.{Alone, Change, emits_nothing, item_at, without}
+use Rattle.domain_parts.specs.State.{Alone, Change, emits_nothing, item_at, without}
 use Rattle.domain.specs.declared.deliver.Arrival.{Arrival}
 use Rattle.function.specs.declared.tags.OpenTag.{OpenTag}
 use Rattle.domain.specs.Deliveries.{arrival, arrived}

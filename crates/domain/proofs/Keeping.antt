@@ -10,11 +10,11 @@ use Rattle.domain.specs.declared.entry.Entry.TheVariants.{Submit}
 use Rattle.request_handling.specs.declared.handling.Effect.{Effect}
 use Rattle.request_handling.specs.declared.handling.Handling.{Handling}
 use Rattle.domain.specs.Domains.{DomainView, EndsBy, Makes}
-use Rattle.domain.specs.Ends.{EffectFits, conclude}
+use Rattle.domain_parts.specs.Ends.{EffectFits, conclude}
 use Rattle.request_handling.specs.Heads.{descriptor_of}
 use Rattle.domain.specs.Machine.{aliens_in, change, step_from, replay_from, replay, with_alien}
 use Rattle.request_handling.specs.Emissions.{Emission}
-use Rattle.domain.specs.State.{Alone, Change, item_at, start_state, with_emission}
+use Rattle.domain_parts.specs.State.{Alone, Change, item_at, start_state, with_emission}
 use Rattle.domain.specs.Submits.{submit_fault, submitted, submit_unless}
 use Rattle.domain.proofs.Accounting.{accounted, aliens_more, submit_budget, room_to_begin, room_to_end}
 

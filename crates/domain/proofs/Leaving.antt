@@ -10,15 +10,16 @@ use Rattle.request_handling.specs.declared.handling.Effect.{Effect}
 use Rattle.request_handling.specs.declared.handling.Effect.TheVariants.{Leave, Block, Store, Access}
 use Rattle.request_handling.specs.declared.handling.Handling.{Handling}
 use Rattle.domain.specs.declared.entry.Entry.TheVariants.{Refuse, Carry, Deliver, Alien}
-use Rattle.domain.specs.declared.reception.Reception.{Reception}
-use Rattle.domain.specs.declared.reception.Reception.TheVariants.{Ends, Arrives}
-use Rattle.domain.specs.Aliens.{received, received_if, reception_of}
+use Rattle.domain.specs.declared.receive.Reception.{Reception}
+use Rattle.domain.specs.declared.receive.Reception.TheVariants.{Ends, Arrives}
+use Rattle.domain.specs.Aliens.{received_if, reception_of}
+use Rattle.domain.specs.Receptions.{received}
 use Rattle.request_handling.specs.Carries.{carriage_end, refusal_end}
 use Rattle.domain.specs.Deliveries.{arrival, arrived, recorded, unexpected}
-use Rattle.domain.specs.Ends.{done, replied}
+use Rattle.domain_parts.specs.Ends.{done, replied}
 use Rattle.domain.specs.Machine.{change, ended}
 use Rattle.request_handling.specs.Emissions.{Emission}
-use Rattle.domain.specs.State.{Alone, Change, Delivery, emits_nothing, item_at, without}
+use Rattle.domain_parts.specs.State.{Alone, Change, Delivery, emits_nothing, item_at, without}
 
 abbrev some : {A : Type 0} → A → Option A
 some x = Some x

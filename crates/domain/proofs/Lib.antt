@@ -1,6 +1,3 @@
-pub mod PageFits
-pub mod FlightLemmas
-pub mod StoreLemmas
 pub mod ConcludeLemmas
 pub mod Accounting
 pub mod PageIds

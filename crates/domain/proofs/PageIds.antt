@@ -29,18 +29,19 @@ use Rattle.request_handling.specs.declared.handling.Effect.TheVariants.{Leave, B
 use Rattle.request_handling.specs.declared.handling.Handling.{Handling}
 use Rattle.domain.specs.declared.entry.Entry.{Entry}
 use Rattle.domain.specs.declared.entry.Entry.TheVariants.{Submit, Tick, Mmio, Refuse, Carry, Deliver, Alien}
-use Rattle.domain.specs.declared.reception.Reception.{Reception}
-use Rattle.domain.specs.declared.reception.Reception.TheVariants.{Ends, Arrives}
+use Rattle.domain.specs.declared.receive.Reception.{Reception}
+use Rattle.domain.specs.declared.receive.Reception.TheVariants.{Ends, Arrives}
 use Rattle.domain.specs.Aliens.{received_if, reception_of}
 use Rattle.request_handling.specs.Answers.{bar_of}
 use Rattle.request_handling.specs.Carries.{carriage_end, refusal_end}
-use Rattle.domain.specs.Deliveries.{arrival, arrived, completed, recorded, unexpected}
-use Rattle.domain.specs.Ends.{done, replied}
-use Rattle.domain.specs.HostAccesses.{mmio_fault, mmio_unless, mmio_with, tag_for}
+use Rattle.domain.specs.Deliveries.{arrival, arrived, recorded, unexpected}
+use Rattle.domain_parts.specs.Closings.{completed}
+use Rattle.domain_parts.specs.Ends.{done, replied}
+use Rattle.domain_parts.specs.HostAccesses.{mmio_fault, mmio_unless, mmio_with, tag_for}
 use Rattle.domain.specs.Machine.{change, ended, replay, replay_from}
-use Rattle.domain.specs.RegisterPages.{changed, changed_at}
+use Rattle.domain_parts.specs.RegisterPages.{changed, changed_at}
 use Rattle.request_handling.specs.Emissions.{Emission}
-use Rattle.domain.specs.State.{Alone, Change, Delivery, emits_nothing, first_registers, item_at, start_state, without}
+use Rattle.domain_parts.specs.State.{Alone, Change, Delivery, emits_nothing, first_registers, item_at, start_state, without}
 use Rattle.domain.specs.Submits.{submit_fault, submit_unless}
 use Rattle.domain.specs.Ticks.{sent_by, tick_fault, tick_unless, ticked, ticks}
 use Rattle.domain.proofs.Accounting.{goes_on}

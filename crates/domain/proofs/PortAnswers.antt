@@ -19,16 +19,17 @@ use Rattle.tlp_view.specs.Packet.{Packet}
 use Rattle.tlp_view.proofs.Completed.{completion_well_formed}
 use Rattle.request_handling.specs.declared.fate.Fate.{Fate}
 use Rattle.request_handling.specs.declared.fate.Fate.TheVariants.{Vanish, Refused, ToHost}
-use Rattle.domain.specs.declared.reception.Reception.{Reception}
-use Rattle.domain.specs.declared.reception.Reception.TheVariants.{Ends, Arrives}
+use Rattle.domain.specs.declared.receive.Reception.{Reception}
+use Rattle.domain.specs.declared.receive.Reception.TheVariants.{Ends, Arrives}
 use Rattle.request_handling.specs.declared.taker.Taker.{Taker}
 use Rattle.request_handling.specs.declared.taker.Taker.TheVariants.{Host, Function, Port, Upstream}
 use Rattle.request_handling.specs.Requests.{at_port, or_discarded}
-use Rattle.domain.specs.Aliens.{alien, is_excluded, received, received_if, reception_by, reception_unless}
+use Rattle.domain.specs.Aliens.{alien, is_excluded, received_if, reception_by, reception_unless}
+use Rattle.domain.specs.Receptions.{received}
 use Rattle.request_handling.specs.Carries.{refusal_by}
 use Rattle.request_handling.specs.Fates.{fate_at}
 use Rattle.request_handling.specs.Emissions.{Emission}
-use Rattle.domain.specs.State.{Alone, Change}
+use Rattle.domain_parts.specs.State.{Alone, Change}
 use Rattle.request_handling.specs.Takers.{is_at_port, is_port, taker_of}
 
 some_is : {A : Type 0} (x y : A) → Some x ≡ Some y → x ≡ y

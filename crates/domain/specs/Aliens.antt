@@ -18,16 +18,16 @@ use Rattle.tlp_view.specs.Kinds.{is_completion}
 use Rattle.tlp_view.specs.Malformed.{malformed}
 use Rattle.tlp_view.specs.Packet.{Packet}
 use Rattle.tlp_view.specs.View.{address_type_in}
-use Rattle.domain.specs.declared.reception.Reception.{Reception}
-use Rattle.domain.specs.declared.reception.Reception.TheVariants.{Ends, Arrives}
+use Rattle.domain.specs.declared.receive.Reception.{Reception}
+use Rattle.domain.specs.declared.receive.Reception.TheVariants.{Ends, Arrives}
 use Rattle.request_handling.specs.declared.taker.Taker.{Taker}
 use Rattle.request_handling.specs.declared.taker.Taker.TheVariants.{Host, Function, Port, Upstream}
 use Rattle.request_handling.specs.Carries.{discarded}
 use Rattle.request_handling.specs.Requests.{at_port, request_at_function, request_at_host}
-use Rattle.domain.specs.Deliveries.{arrival_at, arrived}
-use Rattle.domain.specs.Ends.{does}
+use Rattle.domain.specs.Deliveries.{arrival_at}
 use Rattle.request_handling.specs.Heads.{target_for}
-use Rattle.domain.specs.State.{Alone, Change, emits_nothing}
+use Rattle.domain.specs.Receptions.{received}
+use Rattle.domain_parts.specs.State.{Alone, Change}
 use Rattle.request_handling.specs.Takers.{taker_of}
 
 -- ---- completions
@@ -78,11 +78,6 @@ is_excluded share bytes = is_guarded share || nat_lt 272 (length bytes)
 abbrev pub reception_of : Share → Alone → Place → Parties → List ℕ → Option Reception
 reception_of share s place sender bytes =
     if is_excluded share bytes then None else reception_by share s bytes sender (taker_of share place)
-
--- The packet's number stays in flight at its home: nothing leaves flight here
-abbrev pub received : Alone → List ℕ → Reception → Change
-received s bytes (Ends handling) = does s bytes handling
-received s bytes (Arrives arrival) = emits_nothing (arrived s arrival)
 
 abbrev pub received_if : Alone → List ℕ → Option Reception → Option Change
 received_if s bytes None = None

@@ -1,26 +1,21 @@
 -- What becomes of a completion at the function or host that it goes to (PCIe 4.0, 2.3.2).
-use Rattle.std.specs.Prelude.{ℕ, ◌+◌, ◌==◌, Bool, true, false, ◌&&◌, ◌||◌, not, List, [], ◌∷◌, ◌++◌, filter, Option, Some, None, option_map, unwrap_or, if◌then◌else◌}
-use Rattle.std.specs.List.{find}
+use Rattle.std.specs.Prelude.{ℕ, ◌+◌, ◌==◌, Bool, true, false, ◌&&◌, ◌||◌, List, [], ◌∷◌, ◌++◌, Option, Some, None, unwrap_or, if◌then◌else◌}
 use Rattle.fab_types.specs.declared.head.Answerer.{Answerer}
 use Rattle.fab_types.specs.declared.head.Answerer.TheVariants as by
 use Rattle.fab_types.specs.declared.head.Parties.{Parties}
 use Rattle.fab_types.specs.declared.head.Parties.TheVariants.{Upward, Downward, Answer}
 use Rattle.fab_types.specs.declared.origin.Origin.{Origin}
-use Rattle.fab_types.specs.declared.origin.Origin.TheVariants.{Function, Host}
 use Rattle.fab_types.specs.declared.status.Status.{Status}
 use Rattle.fab_types.specs.declared.status.Status.TheVariants.{SC}
 use Rattle.tlp_view.specs.Bytes.{packet_of}
 use Rattle.tlp_view.specs.Packet.{Packet, status_in}
 use Rattle.domain.specs.declared.deliver.Arrival.{Arrival}
 use Rattle.function.specs.declared.tags.OpenTag.{OpenTag}
-use Rattle.function.specs.declared.tags.TagUse.{TagUse}
-use Rattle.function.specs.declared.tags.TagUse.TheVariants.{Raw}
-use Rattle.function.specs.Closings.{closed_by}
 use Rattle.fab_types.specs.Origins.{origin_id}
-use Rattle.domain.specs.RegisterPages.{changed}
+use Rattle.domain_parts.specs.Closings.{closed, completed, use_of}
 use Rattle.request_handling.specs.Emissions.{Emission}
-use Rattle.domain.specs.State.{Alone, Delivery}
-use Rattle.domain.specs.Tags.{is_open, same_origin}
+use Rattle.domain_parts.specs.State.{Alone, Delivery}
+use Rattle.domain_parts.specs.Tags.{is_open}
 
 abbrev pub is_port : Answerer → Bool
 is_port by.Port = true
@@ -52,19 +47,6 @@ arrival_of tags bytes (Answer answerer addressee) = arrival_for tags bytes answe
 abbrev pub arrival : List OpenTag → Option Emission → Option Arrival
 arrival tags None = None
 arrival tags (Some e) = arrival_of tags e.bytes e.parties
-
--- the open Tags without this one
-abbrev pub closed : List OpenTag → Origin → ℕ → List OpenTag
-closed tags owner tag = filter (λ open_tag. not (same_origin open_tag.owner owner && (open_tag.tag == tag))) tags
-
--- what an open Tag was opened for
-abbrev pub use_of : List OpenTag → Origin → ℕ → TagUse
-use_of tags owner tag = unwrap_or (option_map (λ open_tag. open_tag.usage) (find (λ open_tag. same_origin open_tag.owner owner && (open_tag.tag == tag)) tags)) Raw
-
--- the register pages when a completion has closed a Tag of this use
-abbrev pub completed : List (ℕ × List ℕ) → TagUse → Origin → Status → List ℕ → List (ℕ × List ℕ)
-completed pages usage (Function f) status payload = changed pages f (λ page. closed_by page usage status payload)
-completed pages usage (Host d) status payload = pages
 
 -- the Tag is closed, its data go where they were asked for, and the completion is recorded
 abbrev pub recorded : Alone → Delivery → Alone

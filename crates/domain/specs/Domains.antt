@@ -11,9 +11,9 @@ use Rattle.domain.specs.declared.entry.Entry.{Entry}
 use Rattle.domain.specs.declared.deliver.Arrival.{Arrival}
 use Rattle.request_handling.specs.declared.handling.Handling.{Handling}
 use Rattle.domain.specs.Deliveries.{arrival, record_of_arrival}
-use Rattle.domain.specs.Ends.{EffectFits, conclude}
+use Rattle.domain_parts.specs.Ends.{EffectFits, conclude}
 use Rattle.request_handling.specs.Emissions.{Emission}
-use Rattle.domain.specs.State.{Alone, Change, Delivery, item_at}
+use Rattle.domain_parts.specs.State.{Alone, Change, Delivery, item_at}
 use Rattle.request_handling.specs.Heads.{descriptor_of}
 use Rattle.domain.specs.Machine.{change, with_alien}
 

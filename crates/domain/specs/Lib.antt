@@ -1,16 +1,10 @@
-pub mod State
-pub mod Flights
-pub mod Tags
 pub mod States
 pub mod Submits
-pub mod RegisterPages
-pub mod Ends
 pub mod Deliveries
 pub mod Ticks
-pub mod HostAccesses
 pub mod Records
-pub mod Aliens
 pub mod Receptions
+pub mod Aliens
 pub mod Machine
 pub mod Consumed
 pub mod Sent

@@ -1,15 +1,15 @@
 -- What a clause sees of a domain's state.
 use Rattle.std.specs.Prelude.{◌+◌, ◌≤◌, length, vec_capacity}
 use Rattle.domain.specs.declared.state.State.TheInside.{Inside}
-use Rattle.domain.specs.State.{Alone}
+use Rattle.domain_parts.specs.State.{Alone}
 
 abbrev pub alone_of : Inside → Alone
 alone_of s = record {
-  frames = s.memory;
-  registers = s.registers.items;
+  frames = s.contents.memory;
+  registers = s.contents.registers.items;
   open_tags = s.open_tags.items;
   deliveries = s.records.items;
-  counts = s.counts;
+  counts = s.contents.counts;
   flight = s.flight;
 }
 

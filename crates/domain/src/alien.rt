@@ -12,7 +12,7 @@ ghost use Rattle.request_handling.specs.Takers.{takes};
 use crate::consume::EndFault;
 use crate::domain::Domain;
 use crate::entry::Entry;
-use crate::reception::Reception;
+use crate::receive::Reception;
 use fab_types::{NoMemory, PacketBytes, Parties, Place};
 use frame_log::{Frame, FrameFault};
 use std::sync::Wait;

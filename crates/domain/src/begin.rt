@@ -8,13 +8,12 @@ ghost use Rattle.tlp_view.specs.Requests.{packet_bytes};
 ghost use Rattle.request_handling.specs.declared.handling.Made.TheVariants as made;
 ghost use Rattle.request_handling.specs.Answers.{IsReply};
 ghost use Rattle.request_handling.specs.Heads.{descriptor_of};
-ghost use Rattle.domain.specs.State.{begun, with_emission};
+ghost use Rattle.domain_parts.specs.State.{begun, with_emission};
 ghost use Rattle.domain.specs.Submits.{submitted};
 ghost use Rattle.domain.specs.Ticks.{sent_by, ticks_by};
 
-use crate::registers::perform;
 use crate::state::State;
-use crate::tags::tag_to_open;
+use domain_parts::{perform, tag_to_open};
 use fab_types::{Bdf, DomainId, NoMemory, Origin, Parties};
 use frame_log::Frame;
 use function::{OpenTag, Plan, TagUse};
@@ -49,7 +48,7 @@ impl State {
                 usage: TagUse::Raw,
             });
         }
-        self.counts.begins += 1;
+        self.contents.counts.begins += 1;
         Ok(frame)
     }
 
@@ -75,7 +74,7 @@ impl State {
         if let Some(OpenTag { owner, tag, usage }) = opened {
             self.open_tags.push_reserved(OpenTag { owner, tag, usage });
         }
-        self.counts.begins += 1;
+        self.contents.counts.begins += 1;
         Ok(frame)
     }
 
@@ -99,11 +98,11 @@ impl State {
                 Some(self.request(rt, domain, parties, packet, *opened)?)
             }
             Plan::Nothing | Plan::Halt | Plan::Fault | Plan::Pass => {
-                self.counts.begins += 1;
+                self.contents.counts.begins += 1;
                 None
             }
         };
-        perform(&mut self.registers, function, plan);
+        perform(&mut self.contents.registers, function, plan);
         Ok(sent)
     }
 }

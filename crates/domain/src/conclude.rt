@@ -1,38 +1,24 @@
 //! The end of a packet: what it changes in a domain's state.
 
 ghost use Rattle.std.specs.Prelude.{◌≡◌, ◌+◌, ◌<◌, ◌≤◌, ◌^◌, IfOk, IsSome, OnErr, length, option_map, vec_capacity, true, None, Some, ◌++◌, ◌∷◌, []};
-ghost use Rattle.fab_types.specs.declared.head.Parties.TheVariants.{Downward};
 ghost use Rattle.tlp_view.specs.Bytes.{packet_of};
-ghost use Rattle.tlp_view.specs.Malformed.{malformed};
-ghost use Rattle.tlp_view.specs.Runs.{runs};
-ghost use Rattle.domain.specs.Deliveries.{arrived, closed, completed, use_of};
-ghost use Rattle.domain.specs.Ends.{EffectFits, blocked, conclude, done, replied, stored, with_access, with_stored};
+ghost use Rattle.domain.specs.Deliveries.{arrived, record_of_arrival};
+ghost use Rattle.domain_parts.specs.Closings.{closed, completed, use_of};
+ghost use Rattle.domain_parts.specs.Ends.{EffectFits, conclude, done, replied};
 ghost use Rattle.request_handling.specs.Heads.{descriptor_of};
 ghost use Rattle.request_handling.specs.Emissions.{Emission};
-ghost use Rattle.domain.specs.State.{item_at, without};
-ghost use Rattle.domain.specs.Tags.{is_open};
+ghost use Rattle.domain_parts.specs.State.{item_at, without};
+ghost use Rattle.domain_parts.specs.Tags.{is_open};
 
 use crate::deliver::{Arrival, Record};
-use crate::registers::{access, complete};
 use crate::state::State;
-use crate::tags::{close, use_of};
-use fab_types::{Bdf, DomainId, NoMemory, Parties};
+use domain_parts::{close, complete, use_of};
+use fab_types::{DomainId, NoMemory};
 use frame_log::Frame;
 use function::{Function, OpenTag};
-use host_memory::HostMemory;
 use request_handling::{Effect, Handling, Reply};
 use std::sync::Wait;
 use tlp_view::TlpView;
-
-/// Writes the enabled bytes of a packet to a frame, `first` being the byte that its address names.
-pub(crate) fn write_runs(memory: &mut HostMemory, frame: u16, first: usize, view: &TlpView)
-    requires { first + length (view.now).payload ≤ 4096 }
-    ensures { memory.new ≡ stored memory.old frame first (runs view.now) }
-{
-    for (offset, part) in view.runs() {
-        memory.write(frame, first + offset, part);
-    }
-}
 
 /// Closes the Tag that the completion names, and keeps the record of it.
 fn record(tags: &mut Vec<OpenTag>, records: &mut Vec<Record>, delivery: Record)
@@ -87,59 +73,14 @@ impl State {
         }
     }
 
-    /// Counts a request without a mapping.
-    pub(crate) fn block(&mut self)
-        requires { self.old.counts.blocked + 1 < 2 ^ 64 }
-        ensures { self.new ≡ blocked self.old }
-    {
-        self.counts.blocked += 1;
-    }
-
-    /// Writes the enabled bytes of the packet of this number, a well-formed one, to a frame from byte
-    /// `first` on.
-    fn store(&mut self, number: u64, frame: u16, first: usize)
-        requires { (e : Emission) → item_at self.old.flight number ≡ Some e → first + length (packet_of e.bytes).payload ≤ 4096 }
-        ensures { (e : Emission) → item_at self.old.flight number ≡ Some e → malformed e.bytes ≡ None →
-            self.new ≡ with_stored self.old frame first (runs (packet_of e.bytes)) }
-    {
-        let Some((_, bytes)) = self.flight.item(number) else {
-            return;
-        };
-        if let Ok(view) = TlpView::read(bytes) {
-            write_runs(&mut self.memory, frame, first, &view);
-        }
-    }
-
-    /// Does what the packet of this number, a request to this function, asks of its register page.
-    fn access(&mut self, number: u64, function: Bdf)
-        ensures { (e : Emission) → item_at self.old.flight number ≡ Some e → e.parties ≡ Downward function →
-            self.new ≡ with_access self.old function (packet_of e.bytes) }
-    {
-        let Some((parties, bytes)) = self.flight.item(number) else {
-            return;
-        };
-        match parties {
-            Parties::Downward(_) => {
-                if let Ok(view) = TlpView::read(bytes) {
-                    access(&mut self.registers, function, &view);
-                }
-            }
-            Parties::Upward(_) => {}
-            Parties::Answer(..) => {}
-        }
-    }
-
     /// Does what the end of the packet of this number does.
     fn perform(&mut self, number: u64, effect: Effect)
         requires blocks { self.old.counts.blocked + 1 < 2 ^ 64 }
         requires fits { (e : Emission) → item_at self.old.flight number ≡ Some e → EffectFits e effect }
         ensures { (e : Emission) → item_at self.old.flight number ≡ Some e → self.new ≡ done self.old e.bytes effect }
     {
-        match effect {
-            Effect::Leave => {}
-            Effect::Block => self.block(),
-            Effect::Store(frame, first) => self.store(number, frame, first),
-            Effect::Access(function) => self.access(number, function),
+        if let Some((_, bytes)) = self.flight.item(number) {
+            self.contents.perform(bytes, effect);
         }
     }
 
@@ -177,20 +118,24 @@ impl State {
             is_awaited,
         } = arrival;
         if is_awaited {
-            complete_line(&mut self.registers, &self.open_tags, &delivery);
+            complete_line(&mut self.contents.registers, &self.open_tags, &delivery);
             record(&mut self.open_tags, &mut self.records, delivery);
         } else {
-            self.counts.unexpected += 1;
+            self.contents.counts.unexpected += 1;
         }
     }
 
-    /// Ends the packet of this number, a completion that is delivered so.
-    pub(crate) fn deliver(&mut self, number: u64, arrival: Arrival)
+    /// Ends the packet of this number, a completion that is delivered so. It answers the record that was made, if
+    /// its addressee waited for it.
+    pub(crate) fn deliver(&mut self, number: u64, arrival: Arrival) -> Option<Record>
         requires counts { self.old.counts.unexpected + 1 < 2 ^ 64 }
         requires is_open { arrival.is_awaited ≡ true → is_open self.old.open_tags (arrival.delivery).owner (arrival.delivery).tag ≡ true }
-        ensures { self.new ≡ arrived (without self.old number) arrival }
+        ensures state { self.new ≡ arrived (without self.old number) arrival }
+        ensures record { result ≡ record_of_arrival arrival }
     {
+        let record = arrival.record();
         self.flight.end(number);
         self.arrive(arrival);
+        record
     }
 }

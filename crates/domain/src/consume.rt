@@ -1,16 +1,14 @@
 //! The end of a packet: at its sender's first port, at its completer, or at the one that it answers.
 
 ghost use Rattle.std.specs.Prelude.{◌≡◌, Some, None, IfOk, IfErr, OnErr, option_map};
-ghost use Rattle.domain.specs.Ends.{conclude};
+ghost use Rattle.domain_parts.specs.Ends.{conclude};
 
 use crate::deliver::Record;
 use crate::domain::Domain;
 use crate::entry::Entry;
 use fab_types::{Parties, PortId};
 use frame_log::{Frame, FrameFault};
-use request_handling::{
-    Fate, Handling, carriage_to_function, carriage_to_host, first_port_fate, refusal_of,
-};
+use request_handling::{Handling, carriage_to_function, carriage_to_host, refusal_of};
 use std::sync::Wait;
 
 /// Why a number was not consumed.
@@ -28,23 +26,7 @@ impl Domain {
     ghost use Rattle.request_handling.specs.Carries.{carriage_end, refusal_end};
     ghost use Rattle.domain.specs.Deliveries.{arrival};
     ghost use Rattle.domain.specs.Domains.{Delivers, EndsBy, IsEndFault, IsRefused, IsStray, Makes};
-    ghost use Rattle.request_handling.specs.Fates.{upward_fate};
-    ghost use Rattle.domain.specs.State.{item_at};
-
-    /// What the first port of its sender does with a packet in flight that a function sent; none where
-    /// no such packet is in flight under this number.
-    pub fn fate(&self, number: u64) -> Option<Fate>
-        ensures { result ≡ upward_fate self.now.share (item_at self.now.state.flight number) }
-    {
-        let Some((parties, bytes)) = self.state.item(number) else {
-            return None;
-        };
-        match parties {
-            Parties::Upward(function) => Some(first_port_fate(&self.start, function, bytes)),
-            Parties::Downward(_) => None,
-            Parties::Answer(..) => None,
-        }
-    }
+    ghost use Rattle.domain_parts.specs.State.{item_at};
 
     /// How a packet in flight ends at its sender's first port, if it ends there.
     fn refusal_end(&self, number: u64) -> Option<Handling>
@@ -143,8 +125,7 @@ impl Domain {
         let Some(arrival) = self.state.arrival(number) else {
             return Err(EndFault::Illegal);
         };
-        let record = arrival.record();
-        self.state.deliver(number, arrival);
+        let record = self.state.deliver(number, arrival);
         self.journal.push_reserved(Entry::Deliver(number));
         Ok(record)
     }

@@ -21,7 +21,7 @@ pub struct Record {
 }
 
 impl Model for Record {
-    ghost use Rattle.domain.specs.State.{Delivery};
+    ghost use Rattle.domain_parts.specs.State.{Delivery};
 
     ghost Value = { Delivery };
 

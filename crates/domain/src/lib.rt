@@ -5,27 +5,23 @@ mod alien;
 mod begin;
 mod conclude;
 mod consume;
-mod counts;
 mod deliver;
 mod domain;
 mod entry;
-mod flight;
 mod laws;
 mod mmio;
 mod receive;
 mod reception;
-mod registers;
 mod replay;
 mod same;
 mod state;
 mod submit;
-mod tags;
 mod taker;
 mod tick;
 
-pub use counts::Counts;
 pub use deliver::Record;
 pub use domain::Domain;
+pub use domain_parts::Counts;
 pub use entry::Entry;
 pub use function::{OpenTag, TagUse};
 pub use laws::{
@@ -34,4 +30,3 @@ pub use laws::{
     packets_in_order_left_one_outbox, ports_answer_by_completions,
     sent_packets_are_those_in_flight,
 };
-pub use request_handling::Fate;

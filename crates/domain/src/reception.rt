@@ -8,20 +8,14 @@ ghost use Rattle.tlp_view.specs.Malformed.{malformed};
 ghost use Rattle.request_handling.specs.Requests.{at_port};
 ghost use Rattle.domain.specs.Aliens.{answerer_of, at_function, at_host, completion_at_host, reception_at, reception_unless};
 
-use crate::deliver::{Arrival, arrival_at};
+use crate::deliver::arrival_at;
 use crate::domain::Domain;
+use crate::receive::Reception;
 use fab_types::{Answerer, Bdf, Origin, Parties, Place};
 use request_handling::{
-    Handling, Taker, at_port, discarded, request_at_function, request_at_host, taker_of, target_for,
+    Taker, at_port, discarded, request_at_function, request_at_host, taker_of, target_for,
 };
 use tlp_view::TlpView;
-
-/// What becomes of an alien packet: it ends like one of the domain's own, or arrives as a completion.
-#[derive(Drop)]
-pub(crate) enum Reception {
-    Ends(Handling),
-    Arrives(Arrival),
-}
 
 fn answerer_of(sender: Parties) -> Answerer
     ensures { result ≡ answerer_of sender }

@@ -3,44 +3,7 @@
 ghost use Rattle.std.specs.Prelude.{◌≡◌, ◌↔◌, IsTrue};
 
 use crate::entry::Entry;
-use fab_types::{HostAccess, Operation, PacketBytes, Parties, Place};
-
-/// Are the bytes the same?
-fn same_bytes(one: &PacketBytes, other: &PacketBytes) -> bool
-    ensures { IsTrue result ↔ (one.now ≡ other.now) }
-{
-    one == other
-}
-
-fn same_place(one: Place, other: Place) -> bool
-    ensures { IsTrue result ↔ (one ≡ other) }
-{
-    one == other
-}
-
-fn same_parties(one: Parties, other: Parties) -> bool
-    ensures { IsTrue result ↔ (one ≡ other) }
-{
-    one == other
-}
-
-fn same_operation(one: &Operation, other: &Operation) -> bool
-    ensures { IsTrue result ↔ (one.now ≡ other.now) }
-{
-    match (one, other) {
-        (Operation::Read(one), Operation::Read(other)) => *one == *other,
-        (Operation::Write(one), Operation::Write(other)) => same_bytes(one, other),
-        _ => false,
-    }
-}
-
-fn same_access(one: &HostAccess, other: &HostAccess) -> bool
-    ensures { IsTrue result ↔ (one.now ≡ other.now) }
-{
-    one.function == other.function
-        && one.offset == other.offset
-        && same_operation(&one.operation, &other.operation)
-}
+use domain_parts::{same_access, same_bytes, same_parties, same_place};
 
 /// Are the entries the same?
 fn same_entry(one: &Entry, other: &Entry) -> bool

@@ -5,13 +5,11 @@ ghost use Rattle.std.specs.Option.{option_copied};
 ghost use Rattle.function.specs.Plans.{PlanFits, plan_of};
 ghost use Rattle.host_memory.specs.Pages.{page_of};
 ghost use Rattle.domain.specs.Deliveries.{arrival};
-ghost use Rattle.domain.specs.State.{item_at, start_state};
+ghost use Rattle.domain_parts.specs.State.{item_at, start_state};
 ghost use Rattle.request_handling.specs.WellMade.{IsWellMade};
 
-use crate::counts::Counts;
 use crate::deliver::{Arrival, Record, arrival_for};
-use crate::flight::Flight;
-use crate::registers::{first_registers, planned, register_page};
+use domain_parts::{Contents, Counts, Flight, first_registers, planned, register_page};
 use fab_types::{Bdf, NoMemory, Parties};
 use frame_log::Log;
 use function::{Function, OpenTag, Plan};
@@ -24,16 +22,14 @@ use std::sync::Arc;
 /// A domain's memory, registers, open Tags, counts and packets in flight.
 #[derive(Drop)]
 pub(crate) struct State {
-    pub(crate) memory: HostMemory,
-    pub(crate) registers: Vec<Function>,
+    pub(crate) contents: Contents,
     pub(crate) open_tags: Vec<OpenTag>,
     pub(crate) records: Vec<Record>,
-    pub(crate) counts: Counts,
     pub(crate) flight: Flight,
 }
 
 impl Model for State {
-    ghost use Rattle.domain.specs.State.{Alone};
+    ghost use Rattle.domain_parts.specs.State.{Alone};
 
     ghost Value = { Alone };
 
@@ -52,15 +48,17 @@ impl State {
     {
         let room = start.budget() as usize * 3;
         Ok(State {
-            memory: HostMemory::new(alloc, start)?,
-            registers: first_registers(alloc, start)?,
+            contents: Contents {
+                memory: HostMemory::new(alloc, start)?,
+                registers: first_registers(alloc, start)?,
+                counts: Counts {
+                    begins: 0,
+                    blocked: 0,
+                    unexpected: 0,
+                },
+            },
             open_tags: Vec::new(alloc),
             records: Vec::with_capacity(alloc, start.budget() as usize)?,
-            counts: Counts {
-                begins: 0,
-                blocked: 0,
-                unexpected: 0,
-            },
             flight: Flight::new(alloc, room, log)?,
         })
     }
@@ -75,7 +73,7 @@ impl State {
     pub(crate) fn counts(&self) -> Counts
         ensures { result ≡ self.now.counts }
     {
-        self.counts
+        self.contents.counts
     }
 
     pub(crate) fn open_tags(&self) -> &[OpenTag]
@@ -121,7 +119,7 @@ impl State {
     pub(crate) fn functions(&self) -> &[Function]
         ensures { result.now ≡ self.now.registers }
     {
-        &self.registers
+        &self.contents.registers
     }
 
     /// What the next tick of this function does.
@@ -129,26 +127,26 @@ impl State {
         ensures value { result ≡ option_map (λ page. plan_of function page self.now.open_tags) (page_of self.now.registers function) }
         ensures fits { IfSome result (λ plan. (page : List ℕ) → page_of self.now.registers function ≡ Some page → PlanFits plan page) }
     {
-        planned(&self.registers, function, &self.open_tags)
+        planned(&self.contents.registers, function, &self.open_tags)
     }
 
     pub(crate) fn memory(&self) -> &HostMemory
         ensures { result.now ≡ self.now.frames }
     {
-        &self.memory
+        &self.contents.memory
     }
 
     /// The register page of this function, if it is of the domain.
     pub(crate) fn register_page(&self, function: Bdf) -> Option<&[u8]>
         ensures { option_copied result ≡ page_of self.now.registers function }
     {
-        register_page(&self.registers, function)
+        register_page(&self.contents.registers, function)
     }
 
     /// The bytes of this frame of memory, if it is of the domain.
     pub(crate) fn frame(&self, number: u16) -> Option<&[u8]>
         ensures { option_copied result ≡ page_of self.now.frames number }
     {
-        self.memory.page(number)
+        self.contents.memory.page(number)
     }
 }

@@ -21,9 +21,9 @@ use Rattle.domain.specs.declared.entry.Entry.{Entry}
 use Rattle.domain.specs.Deliveries.{arrival, record_of_arrival}
 use Rattle.domain.specs.Domains.{DomainView}
 use Rattle.request_handling.specs.Heads.{descriptor_of}
-use Rattle.domain.specs.HostAccesses.{mmio_fault}
+use Rattle.domain_parts.specs.HostAccesses.{mmio_fault}
 use Rattle.domain.specs.Machine.{change}
-use Rattle.domain.specs.State.{Change, Delivery, item_at, start_state}
+use Rattle.domain_parts.specs.State.{Change, Delivery, item_at, start_state}
 use Rattle.domain.specs.Submits.{submit_fault}
 use Rattle.domain.specs.Ticks.{tick_fault}
 

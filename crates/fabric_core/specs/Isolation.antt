@@ -8,7 +8,7 @@ use Rattle.fab_types.specs.declared.outcome.Outcome.{Outcome}
 use Rattle.frame_log.specs.Descriptor.{Descriptor}
 use Rattle.domain.specs.declared.entry.Entry.{Entry}
 use Rattle.domain.specs.Domains.{DomainView}
-use Rattle.domain.specs.HostAccesses.{mmio_fault}
+use Rattle.domain_parts.specs.HostAccesses.{mmio_fault}
 use Rattle.domain.specs.Machine.{step}
 use Rattle.domain.specs.Submits.{submit_fault}
 use Rattle.domain.specs.Ticks.{tick_fault}

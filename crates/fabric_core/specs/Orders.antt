@@ -7,7 +7,7 @@ use Rattle.domain.specs.Consumed.{is_in_order}
 use Rattle.domain.specs.Domains.{DomainView}
 use Rattle.domain.specs.Orders.{IsPosted, IsTo, KeepOrder}
 use Rattle.domain.specs.Sent.{Sent, sent}
-use Rattle.domain.specs.State.{item_at}
+use Rattle.domain_parts.specs.State.{item_at}
 use Rattle.guarded_routes.specs.Guarded.{IsFunctionOf}
 use Rattle.guarded_routes.specs.Links.{IsWay}
 use Rattle.fabric_core.specs.Places.{is_numbered}

@@ -6,7 +6,7 @@ use Rattle.domain.specs.Domains.{DomainView}
 use Rattle.request_handling.specs.Heads.{descriptor_of}
 use Rattle.domain.specs.Consumed.{AreConsumedOnce, times_waiting}
 use Rattle.request_handling.specs.Emissions.{Emission}
-use Rattle.domain.specs.State.{item_at}
+use Rattle.domain_parts.specs.State.{item_at}
 use Rattle.agents.specs.Agents.{Outbox}
 use Rattle.link.specs.Channels.{Channel}
 use Rattle.port.specs.Turns.{PortView}

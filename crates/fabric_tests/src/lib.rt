@@ -4,4 +4,6 @@
 #[cfg(test)]
 mod domains;
 #[cfg(test)]
+mod fakes;
+#[cfg(test)]
 mod turns;

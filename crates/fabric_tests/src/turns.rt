@@ -1,144 +1,17 @@
 //! Turns of ports over queues in memory, with one domain at the desk.
 
-ghost use Rattle.std.specs.Prelude.{⊤, ℕ, true, false};
-ghost use Rattle.domain.specs.Domains.{DomainView};
-ghost use Rattle.lane.specs.Queues.{frames_of};
-
 use crate::domains::domain_of;
+use crate::fakes::{Giving, OneDomain, Place};
 use bridge::Bridge;
-use domain::Domain;
 use fab_types::Class::{Completion, NonPosted, Posted};
-use fab_types::{Bdf, Class, NoMemory, Outcome, PortId, Violation};
-use frame_log::{Frame, FrameFault};
+use fab_types::{Bdf, Class, Outcome, PortId};
+use frame_log::Frame;
 use lane::{FrameQueue, LaneIn, LaneOut};
 use layout::Layout;
-use port::{Desk, Port, Reporter, Reports, TurnParts};
+use layout_tests::EXAMPLE;
+use port::{Port, Reports, TurnParts};
 use std::alloc::Global;
 use std::sync::Wait;
-
-/// Two domains below two switches.
-const PLATFORM: &str = "pciefab 1
-frames 4
-switch 01:00.0 root
-port 02:00.0 03 03 90000000 900fffff 1f 1
-port 02:01.0 04 07 90100000 902fffff 1f 2
-port 02:02.0 08 09 90300000 903fffff 1f 1
-switch 04:00.0 02:01.0
-port 05:00.0 06 06 90100000 901fffff 1f 2
-port 05:01.0 07 07 90200000 902fffff 1f 2
-function 03:00.0 90000000
-function 06:00.0 90100000
-function 07:00.0 90200000
-function 08:00.0 90300000
-map 03:00.0 1 frame 0 rw
-map 03:00.0 2 peer 08:00.0 rw
-";
-
-/// A desk with one domain.
-#[derive(Drop)]
-struct OneDomain {
-    domain: Domain,
-}
-
-impl Desk for OneDomain {
-    ghost Known = { DomainView };
-
-    ghost known = { λ d. d.domain };
-
-    ghost refuses = { λ known frame port answer after. ⊤ };
-
-    ghost unknown = { λ known frame port. ⊤ };
-
-    ghost wants = { λ known frame port. ⊤ };
-
-    fn refuse<W: Wait>(
-        &mut self,
-        rt: &W,
-        frame: Frame,
-        port: PortId,
-    ) -> Result<Option<Frame>, FrameFault> {
-        self.domain.refuse(rt, frame, port)
-    }
-}
-
-/// A lane that takes this many packets, and gives all others back without having said that it is full.
-#[derive(Drop)]
-struct Giving {
-    queue: FrameQueue<16>,
-    left: u64,
-    refused: u64,
-}
-
-impl LaneOut for Giving {
-    ghost Lane = { ℕ };
-
-    ghost lane = { λ _. 0 };
-
-    ghost sent = { λ l. frames_of l.queue.queue.waiting };
-
-    ghost refusals = { λ l. l.refused };
-
-    ghost may_refuse = { λ lane class. true };
-
-    ghost is_sure = { false };
-
-    fn is_full(&mut self, _class: Class) -> bool {
-        false
-    }
-
-    fn push(&mut self, frame: Frame) -> Result<(), Frame> {
-        if self.left == 0 {
-            self.refused = self.refused.wrapping_add(1);
-            return Err(frame);
-        }
-        match self.queue.push(frame) {
-            Ok(()) => {
-                self.left -= 1;
-                Ok(())
-            }
-            Err(frame) => {
-                self.refused = self.refused.wrapping_add(1);
-                Err(frame)
-            }
-        }
-    }
-}
-
-/// A reporter that has a place, or has none.
-#[derive(Drop)]
-struct Place {
-    reports: Reports,
-    is_free: bool,
-    refused: u64,
-}
-
-impl Reporter for Place {
-    ghost reported = { λ p. p.reports.violations };
-
-    ghost refusals = { λ p. p.refused };
-
-    ghost has_room = { λ place. false };
-
-    ghost is_sure = { false };
-
-    fn prepare_report(&mut self) -> Result<(), NoMemory> {
-        self.reports.prepare_report()
-    }
-
-    fn report(&mut self, violation: Violation) -> Result<(), Violation> {
-        if !self.is_free {
-            self.refused = self.refused.wrapping_add(1);
-            return Err(violation);
-        }
-        match self.reports.report(violation) {
-            Ok(()) => Ok(()),
-            Err(violation) => {
-                self.refused = self.refused.wrapping_add(1);
-                Err(violation)
-            }
-        }
-    }
-}
 
 fn port_id(id: u16) -> PortId {
     PortId::new(Bdf::from_bits(id))
@@ -172,7 +45,7 @@ fn lanes_of(alloc: Global, port: &Port, left: u64) -> Option<Vec<Giving>> {
 
 /// The port of this ID, whose lanes each take this many packets, with the domain of this number.
 fn port_with(alloc: Global, id: u16, number: u8, left: u64) -> Option<Scene> {
-    let layout = Layout::read(alloc, PLATFORM).ok()?;
+    let layout = Layout::read(alloc, EXAMPLE).ok()?;
     let bridge = Bridge::new(alloc, &layout).ok()?;
     let port = Port::new(alloc, &layout, port_id(id)).ok()??;
     let outs = lanes_of(alloc, &port, left)?;

@@ -29,12 +29,12 @@ use Rattle.request_handling.specs.declared.fate.Fate.TheVariants.{ToHost}
 use Rattle.request_handling.specs.Answers.{address_of, bar_of}
 use Rattle.request_handling.specs.Carries.{carriage_by, carriage_of, forward, is_carried, is_owner, read_from, refused_by_host, serve, serve_read, write_to}
 use Rattle.domain.specs.Deliveries.{arrival_of}
-use Rattle.domain.specs.Ends.{conclude}
+use Rattle.domain_parts.specs.Ends.{conclude}
 use Rattle.request_handling.specs.Fates as fates
 use Rattle.request_handling.specs.Heads.{head_of}
 use Rattle.domain.specs.Machine.{carry, deliver}
 use Rattle.request_handling.specs.Emissions.{Emission}
-use Rattle.domain.specs.State.{Alone}
+use Rattle.domain_parts.specs.State.{Alone}
 use Rattle.guarded_routes.specs.Ends.{Flies, IsFor, IsLegal, IsOwnRequest}
 use Rattle.guarded_routes.specs.Guarded.{IsFunctionOf, IsGuarded, has_id, top_id}
 use Rattle.guarded_routes.specs.Sound.{Falling, IsCleared, Reaches, Replying, Rising, is_reply}

@@ -35,11 +35,11 @@ use Rattle.tlp_view.specs.Runs.{is_write}
 use Rattle.tlp_view.proofs.Again.{body_memory}
 use Rattle.request_handling.specs.Answers.{address_of, answered_by, bar_of, forwarded, function_answer, host_data, host_refusal, page_at, port_answer, shown}
 use Rattle.request_handling.specs.Carries.{access_of, carriage_of, forward, port_id, read_from, refusal_by, refusal_of, refused_by_host, serve, serve_read, write_to}
-use Rattle.domain.specs.Ends.{conclude}
+use Rattle.domain_parts.specs.Ends.{conclude}
 use Rattle.request_handling.specs.Heads.{descriptor_of, header_unless}
 use Rattle.domain.specs.Machine.{carry, change, refuse}
 use Rattle.request_handling.specs.Emissions.{Emission}
-use Rattle.domain.specs.State.{Alone, Change, emits_nothing, item_at, without}
+use Rattle.domain_parts.specs.State.{Alone, Change, emits_nothing, item_at, without}
 use Rattle.request_handling.specs.WellMade.{IsWellMade}
 use Rattle.domain.specs.declared.entry.Entry.TheVariants.{Carry, Deliver, Refuse}
 use Rattle.request_handling.specs.declared.fate.Fate.{Fate}

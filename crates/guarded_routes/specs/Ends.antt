@@ -15,7 +15,7 @@ use Rattle.domain.specs.declared.entry.Entry.{Entry}
 use Rattle.request_handling.specs.Heads.{head_of}
 use Rattle.domain.specs.Machine.{change}
 use Rattle.request_handling.specs.Emissions.{Emission}
-use Rattle.domain.specs.State.{Alone, item_at}
+use Rattle.domain_parts.specs.State.{Alone, item_at}
 use Rattle.guarded_routes.specs.Guarded.{IsFunctionOf}
 
 -- the packet of an emission that is in flight

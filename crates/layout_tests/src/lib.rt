@@ -3,8 +3,10 @@
 
 #[cfg(test)]
 mod access_control;
-#[cfg(test)]
 mod example;
+
+pub use example::EXAMPLE;
+
 #[cfg(test)]
 mod layouts;
 #[cfg(test)]

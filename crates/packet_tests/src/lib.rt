@@ -9,3 +9,5 @@ mod ordering_rules;
 mod packets;
 #[cfg(test)]
 mod queues;
+#[cfg(test)]
+mod written_packets;

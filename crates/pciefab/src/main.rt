@@ -1,5 +1,5 @@
 //! The program `pciefab`: runs a fabric of PCI Express switches, and prints what the memory of its
-//! domains (the domains) then holds.
+//! domains (the tenants) then holds.
 #![tactic(auto)]
 
 mod host;

@@ -12,6 +12,6 @@ pub use parts::{
     Mapping, Rights, Switch,
 };
 pub use tree::{
-    domain_of, has_root, id_below, internal_bus, is_on_bus, is_switch, is_taken, is_third_level,
-    port_above, port_at, port_leading_to, switch_on,
+    domain_of, find_port, has_root, id_below, internal_bus, is_on_bus, is_switch, is_taken,
+    is_third_level, port_above, port_at, port_leading_to, switch_on,
 };

@@ -9,7 +9,8 @@ use crate::owners::{is_function, port_with_secondary};
 use crate::parts::{DownstreamPort, EndpointFunction, Switch};
 use fab_types::{Bdf, PortId};
 
-fn find_port(ports: &[DownstreamPort], id: PortId) -> Option<&DownstreamPort>
+/// The downstream port of this ID, lent.
+pub fn find_port(ports: &[DownstreamPort], id: PortId) -> Option<&DownstreamPort>
     ensures { option_copied result ≡ port_at ports.now id }
 {
     ports.iter().find(|port| port.id == id)

@@ -66,13 +66,3 @@ fate_below (Some port) bytes = fate_at port bytes
 -- by the first port of the function that sends the bytes; each function has one
 abbrev pub fate : List DownstreamPort → ℕ → List ℕ → Fate
 fate ports function bytes = fate_below (first_port ports function) bytes
-
-abbrev pub fate_of_parties : Share → List ℕ → Parties → Option Fate
-fate_of_parties share bytes (Upward function) = Some (fate share.ports function bytes)
-fate_of_parties share bytes (Downward function) = None
-fate_of_parties share bytes (Answer answerer addressee) = None
-
--- what the first port of its sender does with what a function sent
-abbrev pub upward_fate : Share → Option Emission → Option Fate
-upward_fate share None = None
-upward_fate share (Some e) = fate_of_parties share e.bytes e.parties

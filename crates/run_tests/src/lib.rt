@@ -12,6 +12,10 @@ mod order;
 #[cfg(test)]
 mod random_lists;
 #[cfg(test)]
+mod random_scenes;
+#[cfg(test)]
 mod taken_out;
 #[cfg(test)]
 mod walks;
+#[cfg(test)]
+mod worked_packets;

@@ -1,11 +1,12 @@
 //! Lists of single events: what each answers, and what the domains have of them.
 
-use crate::machine::{Move, PLATFORM, direction};
+use crate::machine::{Move, direction};
 use domain::Entry;
 use fab_types::Class::{Completion, NonPosted, Posted};
 use fab_types::{Bdf, Direction, DomainId, Outcome, PacketBytes, Way};
 use fabric_core::{Event, Fabric};
 use layout::Layout;
+use layout_tests::EXAMPLE;
 use std::alloc::Global;
 use std::sync::Wait;
 use std::test::Fail;
@@ -31,7 +32,7 @@ struct Scene {
 
 impl Scene {
     fn new(alloc: Global) -> Result<Scene, Fail> {
-        let layout = Layout::read(alloc, PLATFORM).map_err(|_| "a layout")?;
+        let layout = Layout::read(alloc, EXAMPLE).map_err(|_| "a layout")?;
         Ok(Scene {
             fabric: Fabric::new(alloc, &layout)?,
         })

@@ -1,10 +1,11 @@
 //! Runs without the events of other domains: what a domain has of them, beside what it has of the whole run.
 
-use crate::machine::{PLATFORM, sweep_of};
+use crate::machine::sweep_of;
 use fab_types::Class::Posted;
 use fab_types::{Bdf, CompareFault, Direction, DomainId, Origin, PacketBytes, PortId, Way};
 use fabric_core::{Comparison, Event, Fabric, compare_runs, purge_run};
 use layout::Layout;
+use layout_tests::EXAMPLE;
 use std::alloc::Global;
 use std::sync::Wait;
 use std::test::Fail;
@@ -73,7 +74,7 @@ impl Script {
     fn new(alloc: Global) -> Option<Script> {
         Some(Script {
             alloc,
-            layout: Layout::read(alloc, PLATFORM).ok()?,
+            layout: Layout::read(alloc, EXAMPLE).ok()?,
             events: Vec::new(alloc),
         })
     }

@@ -2,12 +2,14 @@
 //! was consumed once; and once nothing moves any more, all of it was consumed.
 
 use crate::dice::Dice;
-use crate::machine::{PLATFORM, sweep_of};
+use crate::machine::sweep_of;
 use crate::order::{Packet, are_in_order, has_pairs, is_host};
-use domain::{Domain, Entry, Fate};
+use domain::{Domain, Entry};
 use fab_types::{Bdf, Class, DomainId, Outcome, PacketBytes};
 use fabric_core::{Event, Fabric};
 use layout::Layout;
+use layout_tests::EXAMPLE;
+use request_handling::{Fate, first_port_fate};
 use std::alloc::Global;
 use std::sync::Wait;
 use std::test::Fail;
@@ -64,8 +66,14 @@ impl Notes {
         let Some(bytes) = domain.bytes(number) else {
             return None;
         };
-        let goes_to_host = matches!(domain.fate(number), Some(Fate::ToHost));
-        Some(seen(self.source(domain.journal()), bytes, goes_to_host))
+        let journal = domain.journal();
+        let goes_to_host = match journal.last() {
+            Some(Entry::Submit(function, _)) | Some(Entry::Tick(function)) => {
+                matches!(first_port_fate(domain.start(), *function, bytes), Fate::ToHost)
+            }
+            _ => false,
+        };
+        Some(seen(self.source(journal), bytes, goes_to_host))
     }
 }
 
@@ -139,7 +147,7 @@ fn is_conserved(domain: &Domain, made: usize, consumed: &[usize]) -> bool {
 
 /// A fabric, and what its two domains made.
 #[derive(Drop)]
-struct Walk {
+pub struct Walk {
     fabric: Fabric,
     notes: Vec<Notes>,
     /// The events of a sweep.
@@ -147,8 +155,8 @@ struct Walk {
 }
 
 impl Walk {
-    fn new(alloc: Global) -> Result<Walk, Fail> {
-        let layout = Layout::read(alloc, PLATFORM).map_err(|_| "a layout")?;
+    pub fn new(alloc: Global) -> Result<Walk, Fail> {
+        let layout = Layout::read(alloc, EXAMPLE).map_err(|_| "a layout")?;
         let mut notes = Vec::new(alloc);
         for number in [1, 2] {
             let Some(domain) = DomainId::new(number) else {
@@ -164,7 +172,7 @@ impl Walk {
     }
 
     /// Makes an event, whatever comes of it.
-    fn make<R: Wait>(&mut self, rt: &R, event: &Event) -> Result<(), Fail> {
+    pub fn make<R: Wait>(&mut self, rt: &R, event: &Event) -> Result<(), Fail> {
         let _ = self.fabric.step(rt, event);
         note(&mut self.notes, &self.fabric)
     }
@@ -185,7 +193,7 @@ impl Walk {
     }
 
     /// Makes so many events that begin nothing.
-    fn wander<R: Wait>(&mut self, rt: &R, dice: &mut Dice, events: u32) -> Result<(), Fail> {
+    pub fn wander<R: Wait>(&mut self, rt: &R, dice: &mut Dice, events: u32) -> Result<(), Fail> {
         for _ in 0..events {
             let event = dice.next_move()?.event();
             self.make(rt, &event)?;
@@ -194,7 +202,7 @@ impl Walk {
     }
 
     /// Sweeps until nothing moves.
-    fn drain<R: Wait>(&mut self, rt: &R) -> Result<(), Fail> {
+    pub fn drain<R: Wait>(&mut self, rt: &R) -> Result<(), Fail> {
         for _ in 0..10_000 {
             if !self.sweeps(rt)? {
                 return Ok(());
@@ -214,7 +222,7 @@ impl Walk {
     }
 
     /// Do the order law and the law of places hold of each domain?
-    fn is_lawful(&self, alloc: Global) -> Result<bool, Fail> {
+    pub fn is_lawful(&self, alloc: Global) -> Result<bool, Fail> {
         for notes in &self.notes {
             let Some(domain) = self.fabric.domain(notes.domain) else {
                 return Ok(false);
@@ -229,7 +237,7 @@ impl Walk {
     }
 
     /// Has each domain consumed all that it made?
-    fn is_drained(&self, alloc: Global) -> Result<bool, Fail> {
+    pub fn is_drained(&self, alloc: Global) -> Result<bool, Fail> {
         for notes in &self.notes {
             let Some(domain) = self.fabric.domain(notes.domain) else {
                 return Ok(false);
@@ -270,90 +278,6 @@ fn walks_leave_packets_in_order_and_lose_none(rt: HostRuntime) -> Result<(), Fai
             walk.is_lawful(rt.alloc())? && walk.is_drained(rt.alloc())?,
             "{seed}"
         );
-    }
-    Ok(())
-}
-
-/// A write of page 1, and reads of it: of four bytes, of two, of none, and of more than a completion holds.
-const WRITE: &[u8] = &[
-    0x40, 0, 0, 1, 3, 0, 0, 0x0f, 0, 0, 0x10, 0, 0x11, 0x22, 0x33, 0x44,
-];
-
-const READ: &[u8] = &[0, 0, 0, 1, 3, 0, 0x20, 0x0f, 0, 0, 0x10, 0];
-
-const SHORT_READ: &[u8] = &[0, 0, 0, 1, 3, 0, 0x21, 0x06, 0, 0, 0x10, 0];
-
-const EMPTY_READ: &[u8] = &[0, 0, 0, 1, 3, 0, 0x22, 0, 0, 0, 0x10, 0];
-
-const LONG_READ: &[u8] = &[0, 0, 0, 0, 3, 0, 0x23, 0xff, 0, 0, 0x10, 0];
-
-/// A write that crosses a page is malformed, and so are three bytes.
-const CROSSING: &[u8] = &[
-    0x40, 0, 0, 2, 3, 0, 0, 0xff, 0, 0, 0x1f, 0xfc, 1, 2, 3, 4, 5, 6, 7, 8,
-];
-
-const SHORT: &[u8] = &[0x40, 0, 0];
-
-/// Reads of a peer, one of them with Relaxed Ordering.
-const PEER_READ: &[u8] = &[0, 0, 0, 1, 3, 0, 0x24, 0x0f, 0, 0, 0x20, 0];
-
-const RELAXED_READ: &[u8] = &[0, 0, 0x20, 1, 3, 0, 0x25, 0x0f, 0, 0, 0x20, 0];
-
-/// A read of I/O space, which a first port answers.
-const IO_READ: &[u8] = &[2, 0, 0, 1, 3, 0, 0x40, 0x0f, 0, 0, 0x10, 0];
-
-/// In the name of 03:00.0, of another domain: a write and a read.
-const SPOOFED_WRITE: &[u8] = &[
-    0x40, 0, 0, 1, 3, 0, 0, 0x0f, 0, 0, 0x10, 0, 0xde, 0xad, 0xbe, 0xef,
-];
-
-const SPOOFED_READ: &[u8] = READ;
-
-/// A write whose address claims to be translated, one of a register page of another domain, and a read of one beside it.
-const TRANSLATED: &[u8] = &[
-    0x40, 0, 8, 1, 6, 0, 0, 0x0f, 0, 0, 0x10, 0, 0xde, 0xad, 0xbe, 0xef,
-];
-
-const ACROSS: &[u8] = &[0x40, 0, 0, 1, 6, 0, 0, 0x0f, 0x90, 0, 0, 0, 0, 0, 0, 1];
-
-const BESIDE: &[u8] = &[0, 0, 0, 1, 6, 0, 0x31, 0x0f, 0x90, 0x20, 0, 0];
-
-/// A read by the ID of a bus below the port on which nobody stands.
-const NOBODYS_READ: &[u8] = &[0, 0, 0, 1, 9, 0, 0x30, 0x0f, 0, 0, 0x10, 0];
-
-/// Who submits what.
-const PACKETS: [(u16, &[u8]); 16] = [
-    (0x0300, WRITE),
-    (0x0300, READ),
-    (0x0300, SHORT_READ),
-    (0x0300, EMPTY_READ),
-    (0x0300, LONG_READ),
-    (0x0300, CROSSING),
-    (0x0600, SPOOFED_WRITE),
-    (0x0600, SPOOFED_READ),
-    (0x0600, TRANSLATED),
-    (0x0600, ACROSS),
-    (0x0300, PEER_READ),
-    (0x0300, RELAXED_READ),
-    (0x0600, BESIDE),
-    (0x0800, NOBODYS_READ),
-    (0x0300, IO_READ),
-    (0x0300, SHORT),
-];
-
-#[test]
-fn worked_packets_are_in_order_and_none_is_lost(rt: HostRuntime) -> Result<(), Fail> {
-    for between in [0, 40, 400] {
-        let mut walk = Walk::new(rt.alloc())?;
-        let mut dice = Dice::new(u64::from(between));
-        for (function, bytes) in PACKETS {
-            let packet = PacketBytes::copy_of(rt.alloc(), bytes)?;
-            walk.make(&rt, &Event::Submit(Bdf::from_bits(function), packet))?;
-            walk.wander(&rt, &mut dice, between)?;
-            assert!(rt; walk.is_lawful(rt.alloc())?, "{between}");
-        }
-        walk.drain(&rt)?;
-        assert!(rt; walk.is_drained(rt.alloc())?, "{between}");
     }
     Ok(())
 }

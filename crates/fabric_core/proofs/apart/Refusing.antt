@@ -15,9 +15,9 @@ use Rattle.fab_types.specs.declared.host_access.HostAccess.{HostAccess}
 use Rattle.domain.specs.declared.entry.Entry.{Entry}
 use Rattle.domain.specs.declared.entry.Entry.TheVariants as entry
 use Rattle.domain.specs.Domains.{DomainView}
-use Rattle.domain.specs.HostAccesses.{mmio_fault, mmio_unless}
+use Rattle.domain_parts.specs.HostAccesses.{mmio_fault, mmio_unless}
 use Rattle.domain.specs.Machine.{change}
-use Rattle.domain.specs.State.{Alone}
+use Rattle.domain_parts.specs.State.{Alone}
 use Rattle.domain.specs.Submits.{submit_fault, submit_unless}
 use Rattle.domain.specs.Ticks.{tick_fault, tick_unless}
 use Rattle.domain.proofs.PageIds.{own_page}

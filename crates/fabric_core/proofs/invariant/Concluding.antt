@@ -11,7 +11,7 @@ use Rattle.domain.specs.declared.entry.Entry.TheVariants.{Carry, Deliver}
 use Rattle.domain.specs.Domains.{DomainView}
 use Rattle.request_handling.specs.Heads.{descriptor_of}
 use Rattle.domain.specs.Machine.{change}
-use Rattle.domain.specs.State.{Change}
+use Rattle.domain_parts.specs.State.{Change}
 use Rattle.agents.specs.Agents.{AgentsView, carried_by_function, carried_by_host, delivered, emitted_if, is_function_of, is_of_domain, joined, outbox_place}
 use Rattle.link.specs.Channels.{is_full}
 use Rattle.lane.specs.Lanes.{Class}

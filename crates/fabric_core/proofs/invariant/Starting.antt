@@ -20,7 +20,7 @@ use Rattle.port.specs.declared.config.Exit.{Exit}
 use Rattle.port.specs.Turns.{PortView}
 use Rattle.domain.specs.Domains.{DomainView}
 use Rattle.request_handling.specs.Emissions.{Emission}
-use Rattle.domain.specs.State.{item_at}
+use Rattle.domain_parts.specs.State.{item_at}
 use Rattle.outboxes.specs.Outboxes.{BoxView, boxes_of}
 use Rattle.domains.specs.Domains.{domain_at, fresh, place_of, starting_domains_among, starting_domains}
 use Rattle.topology.specs.Nodes.{ports_on}

@@ -19,7 +19,7 @@ use Rattle.domain.specs.Domains.{DomainView}
 use Rattle.domain.specs.Orders.{DownFromHost, IsTo, KeepOrder, UpFromFunction}
 use Rattle.domain.specs.Sent.{Sent, sent}
 use Rattle.request_handling.specs.Emissions.{Emission}
-use Rattle.domain.specs.State.{item_at}
+use Rattle.domain_parts.specs.State.{item_at}
 use Rattle.domain.specs.declared.entry.Entry.{Entry}
 use Rattle.domain.proofs.Consuming.{consumed_once}
 use Rattle.domain.proofs.ConsumedInOrder.{in_order_after}

@@ -6,7 +6,7 @@ use Rattle.platform.specs.Share.{Share}
 use Rattle.domain.specs.declared.entry.Entry.{Entry}
 use Rattle.domain.specs.Domains.{DomainView}
 use Rattle.domain.specs.Machine.{replay}
-use Rattle.domain.specs.State.{Alone}
+use Rattle.domain_parts.specs.State.{Alone}
 use Rattle.agents.specs.Agents.{AreReplayed}
 use Rattle.agents.proofs.Lists.{get_map, position_map}
 use Rattle.domains.specs.Domains.{domain_at, place_of}

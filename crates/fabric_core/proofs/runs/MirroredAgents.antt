@@ -14,7 +14,7 @@ use Rattle.domain.specs.Domains.{DomainView}
 use Rattle.request_handling.specs.Heads.{descriptor_of}
 use Rattle.domain.specs.Machine.{change}
 use Rattle.request_handling.specs.Emissions.{Emission}
-use Rattle.domain.specs.State.{Change}
+use Rattle.domain_parts.specs.State.{Change}
 use Rattle.agents.specs.Agents.{AgentsView, Outbox, emitted, is_function_of, is_of_domain, joined, outbox_place, taken_from, waiting_at, waiting_in, waiting_of, with_waiting, with_waiting_at, with_waiting_in}
 use Rattle.domains.specs.Domains.{Made, after, domain_at, made_at, made_by, made_of, place_of, place_of_function}
 use Rattle.fabric_core.specs.Isolation.{is_number, number_of, own}

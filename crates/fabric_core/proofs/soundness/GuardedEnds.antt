@@ -14,7 +14,7 @@ use Rattle.domain.specs.Domains.{DomainView}
 use Rattle.request_handling.specs.Heads.{descriptor_of}
 use Rattle.domain.specs.Machine.{change}
 use Rattle.request_handling.specs.Emissions.{Emission}
-use Rattle.domain.specs.State.{Alone, Change}
+use Rattle.domain_parts.specs.State.{Alone, Change}
 use Rattle.request_handling.specs.WellMade.{IsWellMade}
 use Rattle.agents.specs.Agents.{Outbox, delivered, emitted_if, joined}
 use Rattle.link.specs.Channels.{Channel}

@@ -48,14 +48,15 @@ use Rattle.request_handling.specs.declared.fate.Fate.{Fate}
 use Rattle.request_handling.specs.declared.fate.Fate.TheVariants.{Vanish, Refused, ToHost}
 use Rattle.request_handling.specs.Answers.{address_of, answered_by, bar_of, forwarded, function_answer, host_data, host_refusal, page_at, port_answer, shown}
 use Rattle.request_handling.specs.Carries.{access_of, carriage_by, carriage_of, forward, is_carried, port_id, read_from, refusal_by, refusal_of, refused_by_host, serve, serve_read, write_to}
-use Rattle.domain.specs.Deliveries.{arrival_of, arrived, completed, delivery_of, is_awaited, recorded, unexpected, use_of}
+use Rattle.domain.specs.Deliveries.{arrival_of, arrived, delivery_of, is_awaited, recorded, unexpected}
+use Rattle.domain_parts.specs.Closings.{completed, use_of}
 use Rattle.domain.specs.Domains.{DomainView}
-use Rattle.domain.specs.Ends.{conclude, replied, with_access}
+use Rattle.domain_parts.specs.Ends.{conclude, replied, with_access}
 use Rattle.request_handling.specs.Fates.{fate, fate_below, fate_unless, stopped}
-use Rattle.domain.specs.HostAccesses.{host_emission, is_in_page, mmio_fault, mmio_unless, mmio_with, size_of, tag_for}
+use Rattle.domain_parts.specs.HostAccesses.{host_emission, is_in_page, mmio_fault, mmio_unless, mmio_with, size_of, tag_for}
 use Rattle.domain.specs.Machine.{carry, change, deliver, refuse}
 use Rattle.request_handling.specs.Emissions.{Emission}
-use Rattle.domain.specs.State.{Alone, Change, Delivery, emits_nothing, item_at, without}
+use Rattle.domain_parts.specs.State.{Alone, Change, Delivery, emits_nothing, item_at, without}
 use Rattle.domain.specs.Submits.{submit_fault, submit_unless}
 use Rattle.domain.specs.Ticks.{sent_by, tick_fault, tick_unless, ticked, ticks}
 use Rattle.request_handling.specs.WellMade.{IsWellMade}

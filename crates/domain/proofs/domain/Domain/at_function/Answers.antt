@@ -1,7 +1,7 @@
 use Rattle.std.proofs.Common.{◌≡◌, false, sym, ap, ◌∙◌, subst, List, ℕ}
 use Rattle.fab_types.specs.declared.origin.Origin.TheVariants.{Function}
 use Rattle.tlp_view.specs.Kinds.{is_completion}
-use Rattle.domain.specs.declared.reception.Reception.TheVariants.{Ends, Arrives}
+use Rattle.domain.specs.declared.receive.Reception.TheVariants.{Ends, Arrives}
 use Rattle.request_handling.specs.Requests.{request_at_function}
 use Rattle.domain.specs.Aliens.{answerer_of, at_function}
 use Rattle.domain.specs.Deliveries.{arrival_at}

@@ -1,5 +1,5 @@
 use Rattle.std.proofs.Common.{ap, ◌∙◌}
-use Rattle.domain.specs.State.{Alone, without}
+use Rattle.domain_parts.specs.State.{Alone, without}
 use Rattle.domain.specs.States.{alone_of}
 use Rattle.domain.proofs.ConcludeLemmas.{concludes, fits_after, with_flight}
 use Rattle.domain.proofs.state.State.conclude.Goals as goal

@@ -1,0 +1,45 @@
+-- Slots of packets in flight, and what is seen of them.
+use Rattle.std.proofs.Common.{◌≡◌, ℕ, zero, suc, ◌<◌, ◌≤◌, List, length, [], ◌∷◌, ◌++◌, Option, Some, None, refl, sym, ap, ◌∙◌, subst, arith, slice_set, slice_index_or, option_map}
+use Rattle.std.specs.Option.{IsSome}
+use Rattle.std.specs.List.{All}
+use Rattle.std.proofs.lemmas.List.Elements.{All-append}
+use Rattle.frame_log.specs.declared.entry.TlpEntry.{TlpEntry}
+use Rattle.frame_log.specs.declared.log.Log.{Log}
+use Rattle.frame_log.specs.Words.{Shown, entry_of}
+use Rattle.request_handling.specs.WellMade.{IsWellMade}
+use Rattle.std.proofs.lemmas.List.{map-set}
+use Rattle.domain_parts.specs.declared.flight.InFlight.{InFlight}
+use Rattle.request_handling.specs.Emissions.{Emission}
+use Rattle.domain_parts.specs.State.{item_at}
+use Rattle.domain_parts.specs.Flights.{IsSlot, emission, emissions}
+
+-- a slot that was emptied is one packet less
+pub emissions-clear : (old now new : List (Option InFlight)) (es : List (Option Emission)) (n : ℕ) → new ≡ slice_set now n None → now ≡ old → emissions old ≡ es → emissions new ≡ slice_set es n None
+emissions-clear old now new es n cleared is seen =
+    ap emissions (cleared ∙ ap (λ (xs : List (Option InFlight)). slice_set xs n None) is)
+    ∙ map-set (option_map emission) old n None ∙ ap (λ (xs : List (Option Emission)). slice_set xs n None) seen
+
+one_at : {X : Type 0} (P : X → Type 0) (x d : X) (k : ℕ) → P x → k < 1 → P (slice_index_or (x ∷ []) k d)
+one_at P x d zero p lt = p
+one_at P x d (suc k) p lt = absurd (omega (arith, lt))
+
+-- a slot more, whose token the log shows and whose packet is well made
+pub slots_push : (log : Log) (old now new : List (Option InFlight)) (x : InFlight) (e : TlpEntry) (bytes : List ℕ) → All (IsSlot log) old → now ≡ old → new ≡ now ++ Some x ∷ []
+    → Shown log x.token → entry_of x.token ≡ e → e.bytes ≡ bytes → IsWellMade x.parties bytes → length bytes ≤ 272 → All (IsSlot log) new
+slots_push log old now new x e bytes kept same grown shown entry are made small =
+    let well : IsWellMade x.parties (entry_of x.token).bytes = subst (IsWellMade x.parties) (sym (ap (λ (t : TlpEntry). t.bytes) entry ∙ are)) made in
+    let short : length (entry_of x.token).bytes ≤ 272 = subst (λ (b : List ℕ). length b ≤ 272) (sym (ap (λ (t : TlpEntry). t.bytes) entry ∙ are)) small in
+    subst (All (IsSlot log)) (sym (grown ∙ ap (λ (xs : List (Option InFlight)). xs ++ Some x ∷ []) same))
+    (All-append (IsSlot log) old (Some x ∷ []) kept (λ k d lt. one_at (IsSlot log) (Some x) d k (shown, well, short) lt))
+
+-- ---- a packet in flight, when one more is put into flight
+
+pub item_push : (xs : List (Option Emission)) (x : Option Emission) (n : ℕ) → IsSome (item_at xs n) → item_at (xs ++ x ∷ []) n ≡ item_at xs n
+item_push [] x n h = absurd cc
+item_push (y ∷ ys) x zero h = refl
+item_push (y ∷ ys) x (suc n) h = item_push ys x n h
+
+pub clear_push : (xs : List (Option Emission)) (x : Option Emission) (n : ℕ) → IsSome (item_at xs n) → slice_set (xs ++ x ∷ []) n None ≡ slice_set xs n None ++ x ∷ []
+clear_push [] x n h = absurd cc
+clear_push (y ∷ ys) x zero h = refl
+clear_push (y ∷ ys) x (suc n) h = ap (λ (zs : List (Option Emission)). y ∷ zs) (clear_push ys x n h)

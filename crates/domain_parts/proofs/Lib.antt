@@ -1,0 +1,2 @@
+pub mod PageFits
+pub mod FlightLemmas

@@ -1,0 +1,53 @@
+//! Tags that wait for completions.
+
+ghost use Rattle.std.specs.Prelude.{◌≡◌, if◌then◌else◌, Some, None};
+ghost use Rattle.tlp_view.specs.Bytes.{packet_of};
+ghost use Rattle.domain_parts.specs.Tags.{completes, opens_tag, same_origin};
+ghost use Rattle.domain_parts.specs.Closings.{closed, use_of};
+
+use fab_types::{Class, Origin, same_origin};
+use function::{OpenTag, TagUse};
+use tlp_view::TlpView;
+
+/// Closes this Tag of this owner.
+pub fn close(tags: &mut Vec<OpenTag>, owner: Origin, tag: u8)
+    ensures { tags.new.items ≡ closed tags.old.items owner tag }
+{
+    tags.retain(|open| !(same_origin(open.owner, owner) && open.tag == tag));
+}
+
+/// What this Tag of this owner was opened for.
+pub fn use_of(tags: &[OpenTag], owner: Origin, tag: u8) -> TagUse
+    ensures { result ≡ use_of tags.now owner tag }
+{
+    match tags
+        .iter()
+        .find(|open| same_origin(open.owner, owner) && open.tag == tag)
+    {
+        Some(open) => open.usage,
+        None => TagUse::Raw,
+    }
+}
+
+/// The Tag that the bytes open: that of a well-formed non-posted request.
+pub fn tag_to_open(bytes: &[u8]) -> Option<u8>
+    ensures { result ≡ (if opens_tag bytes.now then Some (packet_of bytes.now).tag else None) }
+{
+    match TlpView::read(bytes) {
+        Ok(view) => match view.class() {
+            Class::NonPosted => Some(view.tag()),
+            Class::Posted | Class::Completion => None,
+        },
+        Err(_) => None,
+    }
+}
+
+/// Are the bytes a well-formed completion?
+pub fn completes(bytes: &[u8]) -> bool
+    ensures { result ≡ completes bytes.now }
+{
+    match TlpView::read(bytes) {
+        Ok(view) => view.kind().is_completion(),
+        Err(_) => false,
+    }
+}

@@ -1,0 +1,118 @@
+//! A desk, a lane and a reporter that refuse where a test wants them to.
+
+ghost use Rattle.std.specs.Prelude.{⊤, ℕ, true, false};
+ghost use Rattle.domain.specs.Domains.{DomainView};
+ghost use Rattle.lane.specs.Queues.{frames_of};
+
+use domain::Domain;
+use fab_types::{Class, NoMemory, PortId, Violation};
+use frame_log::{Frame, FrameFault};
+use lane::{FrameQueue, LaneOut};
+use port::{Desk, Reporter, Reports};
+use std::sync::Wait;
+
+/// A desk with one domain.
+#[derive(Drop)]
+pub struct OneDomain {
+    pub domain: Domain,
+}
+
+impl Desk for OneDomain {
+    ghost Known = { DomainView };
+
+    ghost known = { λ d. d.domain };
+
+    ghost refuses = { λ known frame port answer after. ⊤ };
+
+    ghost unknown = { λ known frame port. ⊤ };
+
+    ghost wants = { λ known frame port. ⊤ };
+
+    fn refuse<W: Wait>(
+        &mut self,
+        rt: &W,
+        frame: Frame,
+        port: PortId,
+    ) -> Result<Option<Frame>, FrameFault> {
+        self.domain.refuse(rt, frame, port)
+    }
+}
+
+/// A lane that takes this many packets, and gives all others back without having said that it is full.
+#[derive(Drop)]
+pub struct Giving {
+    pub queue: FrameQueue<16>,
+    pub left: u64,
+    pub refused: u64,
+}
+
+impl LaneOut for Giving {
+    ghost Lane = { ℕ };
+
+    ghost lane = { λ _. 0 };
+
+    ghost sent = { λ l. frames_of l.queue.queue.waiting };
+
+    ghost refusals = { λ l. l.refused };
+
+    ghost may_refuse = { λ lane class. true };
+
+    ghost is_sure = { false };
+
+    fn is_full(&mut self, _class: Class) -> bool {
+        false
+    }
+
+    fn push(&mut self, frame: Frame) -> Result<(), Frame> {
+        if self.left == 0 {
+            self.refused = self.refused.wrapping_add(1);
+            return Err(frame);
+        }
+        match self.queue.push(frame) {
+            Ok(()) => {
+                self.left -= 1;
+                Ok(())
+            }
+            Err(frame) => {
+                self.refused = self.refused.wrapping_add(1);
+                Err(frame)
+            }
+        }
+    }
+}
+
+/// A reporter that has a place, or has none.
+#[derive(Drop)]
+pub struct Place {
+    pub reports: Reports,
+    pub is_free: bool,
+    pub refused: u64,
+}
+
+impl Reporter for Place {
+    ghost reported = { λ p. p.reports.violations };
+
+    ghost refusals = { λ p. p.refused };
+
+    ghost has_room = { λ place. false };
+
+    ghost is_sure = { false };
+
+    fn prepare_report(&mut self) -> Result<(), NoMemory> {
+        self.reports.prepare_report()
+    }
+
+    fn report(&mut self, violation: Violation) -> Result<(), Violation> {
+        if !self.is_free {
+            self.refused = self.refused.wrapping_add(1);
+            return Err(violation);
+        }
+        match self.reports.report(violation) {
+            Ok(()) => Ok(()),
+            Err(violation) => {
+                self.refused = self.refused.wrapping_add(1);
+                Err(violation)
+            }
+        }
+    }
+}
