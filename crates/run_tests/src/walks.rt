@@ -69,7 +69,10 @@ impl Notes {
         let journal = domain.journal();
         let goes_to_host = match journal.last() {
             Some(Entry::Submit(function, _)) | Some(Entry::Tick(function)) => {
-                matches!(first_port_fate(domain.start(), *function, bytes), Fate::ToHost)
+                matches!(
+                    first_port_fate(domain.start(), *function, bytes),
+                    Fate::ToHost
+                )
             }
             _ => false,
         };
