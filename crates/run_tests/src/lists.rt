@@ -38,11 +38,16 @@ impl Scene {
         })
     }
 
+    /// What comes of an event. It has no contract, so that a proof about many events knows none of what a step promises.
+    fn outcome<R: Wait>(&mut self, rt: &R, event: &Event) -> Outcome {
+        self.fabric.step(rt, event)
+    }
+
     fn submits<R: Wait>(&mut self, rt: &R, alloc: Global, id: u16, bytes: &[u8]) -> bool {
         match PacketBytes::copy_of(alloc, bytes) {
             Ok(bytes) => {
                 let submit = Event::Submit(Bdf::from_bits(id), bytes);
-                matches!(self.fabric.step(rt, &submit), Outcome::Moved)
+                matches!(self.outcome(rt, &submit), Outcome::Moved)
             }
             Err(_) => false,
         }
@@ -51,7 +56,7 @@ impl Scene {
     /// Does each of these move something, one after another?
     fn moves<R: Wait>(&mut self, rt: &R, moves: &[Move]) -> bool {
         for one in moves {
-            if !matches!(self.fabric.step(rt, &one.event()), Outcome::Moved) {
+            if !matches!(self.outcome(rt, &one.event()), Outcome::Moved) {
                 return false;
             }
         }
@@ -61,7 +66,7 @@ impl Scene {
     /// Is each of these idle?
     fn rests<R: Wait>(&mut self, rt: &R, moves: &[Move]) -> bool {
         for one in moves {
-            if !matches!(self.fabric.step(rt, &one.event()), Outcome::Idle) {
+            if !matches!(self.outcome(rt, &one.event()), Outcome::Idle) {
                 return false;
             }
         }
