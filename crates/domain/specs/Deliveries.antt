@@ -5,7 +5,6 @@ use Rattle.fab_types.specs.declared.head.Answerer.TheVariants as by
 use Rattle.fab_types.specs.declared.head.Parties.{Parties}
 use Rattle.fab_types.specs.declared.head.Parties.TheVariants.{Upward, Downward, Answer}
 use Rattle.fab_types.specs.declared.origin.Origin.{Origin}
-use Rattle.fab_types.specs.declared.status.Status.{Status}
 use Rattle.fab_types.specs.declared.status.Status.TheVariants.{SC}
 use Rattle.tlp_view.specs.Bytes.{packet_of}
 use Rattle.tlp_view.specs.Packet.{Packet, status_in}
