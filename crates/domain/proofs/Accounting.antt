@@ -66,6 +66,7 @@ use Rattle.request_handling.specs.Fates.{fate, fate_at}
 use Rattle.request_handling.specs.Heads.{target_for}
 use Rattle.domain.specs.Machine.{aliens_from, aliens_in, carry, change, deliver, refuse, replay, replay_from, with_alien}
 use Rattle.request_handling.specs.Emissions.{Emission}
+use Rattle.request_handling.proofs.Discarding.{answer_discarded}
 use Rattle.domain_parts.specs.State.{Alone, Change, Delivery, begun, emits_nothing, item_at, start_state, with_emission, without}
 use Rattle.domain_parts.specs.HostAccesses.{host_emission, is_in_page, mmio_fault, mmio_unless, mmio_with, opened_for, size_of, tag_for}
 use Rattle.domain.specs.Ticks.{sent_by, tick_fault, tick_unless, ticked, ticks}
@@ -301,7 +302,7 @@ refusal_by_owes port f b ToHost a h = absurd cc
 refusal_owes : (share : Share) (b : List ℕ) (p : Parties) (a : Handling) → refusal_of share b p ≡ Some a → Owes (owed_by p) a
 refusal_owes share b (Upward f) a h = refusal_by_owes (port_id (first_port share.ports f)) f b (fate share.ports f b) a h
 refusal_owes share b (Downward g) a h = absurd cc
-refusal_owes share b (Answer by x) a h = absurd cc
+refusal_owes share b (Answer by x) a h = subst (Owes (owed_by (Answer by x))) (sym (answer_discarded share (malformed b) by (packet_of b) a h)) (omega arith)
 
 forward_owes : (g : ℕ) (t : Packet) (bar : Option ℕ) (a : Handling) → forward g t bar ≡ Some a → Owes 2 a
 forward_owes g t None a h = absurd cc
@@ -338,7 +339,7 @@ carriage_by_owes share frames b (Refused status) a h = absurd cc
 carriage_by_owes share frames b ToHost a h = serve_owes share frames (packet_of b) a (taken (is_carried share (packet_of b)) (serve share frames (packet_of b)) a h)
 
 answer_owes : (share : Share) (g : ℕ) (page : List ℕ) (t : Packet) (o : Option Packet)
-    → one (option_map (answered_by share t) o) + owed_in (option_map (answered_by share t) o) ≤ 1
+    → one (option_map (answered_by share g t) o) + owed_in (option_map (answered_by share g t) o) ≤ 1
 answer_owes share g page t None = omega arith
 answer_owes share g page t (Some c) = omega arith
 

@@ -29,6 +29,7 @@ use Rattle.domain_parts.specs.Ends.{EffectFits, conclude}
 use Rattle.request_handling.specs.Fates.{fate, fate_below, fate_unless}
 use Rattle.domain.specs.Machine.{carry, change, ended, refuse}
 use Rattle.request_handling.specs.Emissions.{Emission}
+use Rattle.request_handling.proofs.Discarding.{answer_discarded}
 use Rattle.domain_parts.specs.State.{Alone, Change, emits_nothing, item_at, without}
 use Rattle.domain.specs.declared.deliver.Arrival.{Arrival}
 use Rattle.function.specs.declared.tags.OpenTag.{OpenTag}
@@ -64,7 +65,7 @@ refusal_by_fits x port f ToHost a e = absurd cc
 refusal_fits : (share : Share) (x : Emission) (p : Parties) (a : Handling) → refusal_of share x.bytes p ≡ Some a → Fits x a
 refusal_fits share x (Upward f) a e = refusal_by_fits x (port_id (first_port share.ports f)) f (fate share.ports f x.bytes) a e
 refusal_fits share x (Downward g) a e = absurd cc
-refusal_fits share x (Answer by y) a e = absurd cc
+refusal_fits share x (Answer by y) a e = subst (Fits x) (sym (answer_discarded share (malformed x.bytes) by (packet_of x.bytes) a e)) tt
 
 forward_fits : (x : Emission) (g : ℕ) (t : Packet) (bar : Option ℕ) (a : Handling) → forward g t bar ≡ Some a → Fits x a
 forward_fits x g t None a e = absurd cc

@@ -33,7 +33,7 @@ use Rattle.request_handling.specs.Takers.{taker_of}
 -- ---- completions
 
 abbrev pub answerer_of : Parties → Answerer
-answerer_of (Upward function) = by.Function
+answerer_of (Upward function) = by.Function function
 answerer_of (Downward function) = by.Host
 answerer_of (Answer answerer addressee) = answerer
 

@@ -19,7 +19,7 @@ use Rattle.domain_parts.specs.Tags.{is_open}
 abbrev pub is_port : Answerer → Bool
 is_port by.Port = true
 is_port by.Host = false
-is_port by.Function = false
+is_port (by.Function function) = false
 
 abbrev pub delivery_of : Origin → Packet → List ℕ → Delivery
 delivery_of owner t bytes = record { owner = owner; tag = t.tag; status = unwrap_or (status_in t.body) SC; bytes = bytes }

@@ -8,7 +8,9 @@ use crate::domain::Domain;
 use crate::entry::Entry;
 use fab_types::{Parties, PortId};
 use frame_log::{Frame, FrameFault};
-use request_handling::{Handling, carriage_to_function, carriage_to_host, refusal_of};
+use request_handling::{
+    Handling, carriage_to_function, carriage_to_host, refusal_of, refusal_of_completion,
+};
 use std::sync::Wait;
 
 /// Why a number was not consumed.
@@ -38,7 +40,7 @@ impl Domain {
         match parties {
             Parties::Upward(function) => refusal_of(&self.start, function, bytes),
             Parties::Downward(_) => None,
-            Parties::Answer(..) => None,
+            Parties::Answer(answerer, _) => refusal_of_completion(&self.start, answerer, bytes),
         }
     }
 

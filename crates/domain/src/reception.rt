@@ -21,7 +21,7 @@ fn answerer_of(sender: Parties) -> Answerer
     ensures { result ≡ answerer_of sender }
 {
     match sender {
-        Parties::Upward(_) => Answerer::Function,
+        Parties::Upward(function) => Answerer::Function(function),
         Parties::Downward(_) => Answerer::Host,
         Parties::Answer(answerer, _) => answerer,
     }

@@ -16,9 +16,11 @@ pub enum AddressType {
 /// Who made a completion.
 #[derive(Clone, Copy, Debug, PartialEq, Eq)]
 pub enum Answerer {
+    /// The first port above the requester, of a request that it stops.
     Port,
     Host,
-    Function,
+    /// The function that the request was for.
+    Function(Bdf),
 }
 
 /// Who made a packet, and for whom.

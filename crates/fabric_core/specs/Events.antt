@@ -1,5 +1,5 @@
 -- What each event does to a fabric.
-use Rattle.std.specs.Prelude.{◌≡◌, List, Option, Some, None, IsSome, option_map, if◌then◌else◌}
+use Rattle.std.specs.Prelude.{◌≡◌, Bool, true, false, List, Option, Some, None, IsSome, option_map, if◌then◌else◌}
 use Rattle.std.specs.Option.{option_and_then}
 use Rattle.fab_types.specs.declared.class.Class.{Class}
 use Rattle.fab_types.specs.declared.faults.begin.BeginFault.{BeginFault}
@@ -57,6 +57,13 @@ effect w (Take direction) = option_map (with_channels w) (on_channel w.channels 
 effect w (Credit direction) = option_map (with_channels w) (on_channel w.channels (sender_of w.tree.links direction) update_fc)
 effect w (Root class) = root w class
 effect w (Arrive function class) = arrive w function class
+
+-- does it begin something, as a function or a host asks?
+abbrev pub is_begin : Event → Bool
+is_begin (Submit function bytes) = true
+is_begin (Tick function) = true
+is_begin (Mmio domain access) = true
+is_begin event = false
 
 -- the refusal of a begin, if it is refused, memory aside
 abbrev pub refusal : World → Event → Option BeginFault

@@ -1,6 +1,6 @@
 //! Begins: what functions and hosts ask for.
 
-ghost use Rattle.std.specs.Prelude.{List};
+ghost use Rattle.std.specs.Prelude.{◌≢◌, List};
 ghost use Rattle.fab_types.specs.declared.violation.Violation.{Violation};
 ghost use Rattle.frame_log.specs.Descriptor.{Descriptor};
 ghost use Rattle.interconnect.specs.Views.{InterconnectView};
@@ -20,7 +20,8 @@ pub(crate) fn submit<R: Wait>(
     function: Bdf,
     bytes: &PacketBytes,
 ) -> Outcome
-    ensures { (h : InterconnectView) (violations : List Violation) (strays : List Descriptor) → StepsTo (world_over h agents.old violations strays) (Submit function bytes.now) result (world_over h agents.new violations strays) }
+    ensures steps { (h : InterconnectView) (violations : List Violation) (strays : List Descriptor) → StepsTo (world_over h agents.old violations strays) (Submit function bytes.now) result (world_over h agents.new violations strays) }
+    ensures begun { result ≢ Outcome.Idle }
 {
     match agents.submit(rt, function, bytes.as_slice()) {
         Ok(()) => Outcome::Moved,
@@ -30,7 +31,8 @@ pub(crate) fn submit<R: Wait>(
 }
 
 pub(crate) fn tick<R: Wait>(rt: &R, agents: &mut Agents, function: Bdf) -> Outcome
-    ensures { (h : InterconnectView) (violations : List Violation) (strays : List Descriptor) → StepsTo (world_over h agents.old violations strays) (Tick function) result (world_over h agents.new violations strays) }
+    ensures steps { (h : InterconnectView) (violations : List Violation) (strays : List Descriptor) → StepsTo (world_over h agents.old violations strays) (Tick function) result (world_over h agents.new violations strays) }
+    ensures begun { result ≢ Outcome.Idle }
 {
     match agents.tick(rt, function) {
         Ok(()) => Outcome::Moved,
@@ -45,7 +47,8 @@ pub(crate) fn mmio<R: Wait>(
     domain: DomainId,
     access: &HostAccess,
 ) -> Outcome
-    ensures { (h : InterconnectView) (violations : List Violation) (strays : List Descriptor) → StepsTo (world_over h agents.old violations strays) (Mmio domain access.now) result (world_over h agents.new violations strays) }
+    ensures steps { (h : InterconnectView) (violations : List Violation) (strays : List Descriptor) → StepsTo (world_over h agents.old violations strays) (Mmio domain access.now) result (world_over h agents.new violations strays) }
+    ensures begun { result ≢ Outcome.Idle }
 {
     match agents.mmio(rt, domain, access) {
         Ok(()) => Outcome::Moved,

@@ -1,6 +1,6 @@
 //! The fabric: what each event does, and runs over lists of events.
 
-ghost use Rattle.std.specs.Prelude.{◌≡◌, All, IfOk, OnErr, option_map, true};
+ghost use Rattle.std.specs.Prelude.{◌≡◌, ◌≢◌, All, IfOk, OnErr, option_map, true};
 ghost use Rattle.std.specs.List.{list_all};
 ghost use Rattle.std.specs.Option.{option_copied};
 ghost use Rattle.agents.specs.Agents.{AreReplayed};
@@ -8,7 +8,7 @@ ghost use Rattle.fab_types.specs.declared.outcome.Outcome.TheVariants.{Idle};
 ghost use Rattle.platform.specs.Share.{is_guarded_port};
 ghost use Rattle.domains.specs.Domains.{domain_at, place_of};
 ghost use Rattle.fabric_core.specs.Credits.{HasCredits, channel_of};
-ghost use Rattle.fabric_core.specs.Events.{StepsTo};
+ghost use Rattle.fabric_core.specs.Events.{StepsTo, is_begin};
 ghost use Rattle.fabric_core.specs.Isolation.{AreApart, IsApart, home};
 ghost use Rattle.fabric_core.specs.Orderly.{IsOrderly};
 ghost use Rattle.fabric_core.specs.Orders.{AreInOrder};
@@ -141,7 +141,7 @@ impl Fabric {
     /// nothing to take, or no place or no credits for it, or the layout has no such port, link, outbox or
     /// function. `Refused`: the domain refused the begin. `NoMemory`: memory was refused to an event that emits a
     /// packet, reports a violation, or makes an entry of an alien packet or keeps a stray one. All but `Moved` change
-    /// nothing.
+    /// nothing. A begin is never `Idle`, in any layout.
     ///
     /// In a guarded fabric, whatever the event is, no packet is ever taken where nobody has a case for it, and each
     /// packet that a domain made stands in exactly one place, or was consumed by exactly one entry of its journal. There
@@ -152,6 +152,7 @@ impl Fabric {
     /// only after the posted one.
     pub fn step<R: Wait>(&mut self, rt: &R, event: &Event) -> Outcome
         ensures steps { StepsTo self.old event.now result self.new }
+        ensures begun { is_begin event.now ≡ true → result ≢ Idle }
         ensures controls { is_guarded self.new ≡ is_guarded self.old }
         ensures guarded { is_guarded self.new ≡ true → IsOrderly self.new }
         ensures apart { is_guarded self.old ≡ true → IsApart self.old event.now self.new }

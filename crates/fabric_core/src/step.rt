@@ -1,6 +1,7 @@
 //! What each event does, over the parts of a fabric.
 
-ghost use Rattle.fabric_core.specs.Events.{StepsTo};
+ghost use Rattle.std.specs.Prelude.{◌≡◌, ◌≢◌, true};
+ghost use Rattle.fabric_core.specs.Events.{StepsTo, is_begin};
 ghost use Rattle.fabric_core.specs.Invariant.{IsConsistent};
 ghost use Rattle.fabric_core.specs.World.{world_over};
 
@@ -25,7 +26,8 @@ pub(crate) fn step<R: Wait>(
     event: &Event,
 ) -> Outcome
     requires { IsConsistent (world_over interconnect.old agents.old reports.old.violations strays.old.items) }
-    ensures { StepsTo (world_over interconnect.old agents.old reports.old.violations strays.old.items) event.now result (world_over interconnect.new agents.new reports.new.violations strays.new.items) }
+    ensures steps { StepsTo (world_over interconnect.old agents.old reports.old.violations strays.old.items) event.now result (world_over interconnect.new agents.new reports.new.violations strays.new.items) }
+    ensures begun { is_begin event.now ≡ true → result ≢ Outcome.Idle }
 {
     match event {
         Event::Submit(function, bytes) => submit(rt, agents, *function, bytes),

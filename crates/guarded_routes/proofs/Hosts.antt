@@ -175,8 +175,8 @@ module _ (platform : Platform) (g : IsGuarded platform) where
   pub for_host : (frame : Descriptor) (r : Replying platform top_id frame) → bus_of r.target ≡ 0 → (r.target ≡ host_of frame.domain) × IsFor (Host frame.domain) frame.head.parties
   for_host frame r zero = go r.addressee r.reaches r.parties
     where
-      go : (x : Option Origin) → Reaches platform frame.domain r.target x → frame.head.parties ≡ Answer by.Function x → (r.target ≡ host_of frame.domain) × IsFor (Host frame.domain) frame.head.parties
-      go x (Reaches.ByHost same) parties = (same, (by.Function, parties))
+      go : (x : Option Origin) → Reaches platform frame.domain r.target x → frame.head.parties ≡ Answer (by.Function r.function) x → (r.target ≡ host_of frame.domain) × IsFor (Host frame.domain) frame.head.parties
+      go x (Reaches.ByHost same) parties = (same, (by.Function r.function, parties))
       go x (Reaches.ByBus f own held) parties =
           let first = first_port_of platform g frame.domain f own in
           let more = not_first platform g.laws first.port first.listed in
@@ -187,13 +187,13 @@ module _ (platform : Platform) (g : IsGuarded platform) where
   pub relays : (frame : Descriptor) (r : Replying platform top_id frame) → bus_of r.target ≢ 0 → Falling platform top_id frame
   relays frame r other = go r.addressee r.reaches r.parties
     where
-      go : (x : Option Origin) → Reaches platform frame.domain r.target x → frame.head.parties ≡ Answer by.Function x → Falling platform top_id frame
+      go : (x : Option Origin) → Reaches platform frame.domain r.target x → frame.head.parties ≡ Answer (by.Function r.function) x → Falling platform top_id frame
       go x (Reaches.ByHost same) parties =
           let few = small platform g frame.domain r.function (first_port_of platform g frame.domain r.function r.own) in
           absurd (other (omega (arith, same, few)))
       go x (Reaches.ByBus f own held) parties =
           let first = first_port_of platform g frame.domain f own in
-          reply_falls platform g frame r.target r.relaxed_ordering f top_id by.Function r.reply own held parties (below platform g frame.domain f top_id None first (At.Top refl) (under_root platform g.laws first.port first.listed))
+          reply_falls platform g frame r.target r.relaxed_ordering f top_id (by.Function r.function) r.reply own held parties (below platform g frame.domain f top_id None first (At.Top refl) (under_root platform g.laws first.port first.listed))
 
   -- what then happens to either
   pub record AtHost (frame : Descriptor) : Type 0 where

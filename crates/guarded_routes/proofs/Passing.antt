@@ -91,7 +91,7 @@ module _ (platform : Platform) (g : IsGuarded platform) where
     pub falling : Falling platform (id_below q) frame
 
   pub turned : (frame : Descriptor) (target : ℕ) (relaxed_ordering : Bool) (bus : ℕ) (q : DownstreamPort) (g' : ℕ) (x : Option Origin) → IsFunctionOf platform frame.domain g' → frame.head.header ≡ header.Completion target relaxed_ordering
-      → holder_on platform.ports bus (Some (Bus (bus_of target))) ≡ Some q → frame.head.parties ≡ Answer by.Function x → Reaches platform frame.domain target x → Turned frame bus q
+      → holder_on platform.ports bus (Some (Bus (bus_of target))) ≡ Some q → frame.head.parties ≡ Answer (by.Function g') x → Reaches platform frame.domain target x → Turned frame bus q
   turned frame target relaxed_ordering bus q g' x own reply found parties (Reaches.ByHost same) =
       let listed = is_port platform g.laws (is_holder bus (Some (Bus (bus_of target)))) q found in
       let passes = and_parts (bus_of q.id == bus) (holds_bus q (bus_of target)) (find_passes (is_holder bus (Some (Bus (bus_of target)))) platform.ports q found) in
@@ -109,7 +109,7 @@ module _ (platform : Platform) (g : IsGuarded platform) where
         listed = listed;
         on = eqb-true (bus_of q.id) bus passes.0;
         taken = leads_on platform g.laws first.port (Some q) q u refl leads;
-        falling = reply_falls frame target relaxed_ordering f (id_below q) by.Function reply other held parties (below frame.domain f (id_below q) (Some q) first (At.Over q listed refl) u);
+        falling = reply_falls frame target relaxed_ordering f (id_below q) (by.Function g') reply other held parties (below frame.domain f (id_below q) (Some q) first (At.Over q listed refl) u);
       }
 
   -- ---- up through a port

@@ -175,26 +175,26 @@ module _ (platform : Platform) (g : IsGuarded platform) where
 
   -- ---- at a function
 
-  page_reply : (share : Share) (f : ℕ) (t : Packet) (page : List ℕ) (e : Emission) → function_answer share f page t ≡ Some e → (bytes : List ℕ) × (e ≡ answered_by share t (read_completion f t bytes))
+  page_reply : (share : Share) (f : ℕ) (t : Packet) (page : List ℕ) (e : Emission) → function_answer share f page t ≡ Some e → (bytes : List ℕ) × (e ≡ answered_by share f t (read_completion f t bytes))
   page_reply share f t page e is = go (is_write t.kind) is
     where
-      go : (b : Bool) → option_map (answered_by share t) (cond b None (Some (read_completion f t (read_data page t)))) ≡ Some e → (bytes : List ℕ) × (e ≡ answered_by share t (read_completion f t bytes))
+      go : (b : Bool) → option_map (answered_by share f t) (cond b None (Some (read_completion f t (read_data page t)))) ≡ Some e → (bytes : List ℕ) × (e ≡ answered_by share f t (read_completion f t bytes))
       go true is = absurd cc
       go false is = (read_data page t, sym (some_is _ e is))
 
-  access_reply : (share : Share) (registers : List (ℕ × List ℕ)) (f : ℕ) (t : Packet) (e : Emission) → option_and_then (λ a. a.reply) (access_of share registers f t) ≡ Some e → (bytes : List ℕ) × (e ≡ answered_by share t (read_completion f t bytes))
+  access_reply : (share : Share) (registers : List (ℕ × List ℕ)) (f : ℕ) (t : Packet) (e : Emission) → option_and_then (λ a. a.reply) (access_of share registers f t) ≡ Some e → (bytes : List ℕ) × (e ≡ answered_by share f t (read_completion f t bytes))
   access_reply share registers f t e is = go (page_of registers f) (λ page made. page_reply share f t page e made) (sym (then_map _ (λ a. a.reply) (page_of registers f)) ∙ is)
     where
-      go : (o : Option (List ℕ)) → ((page : List ℕ) → function_answer share f page t ≡ Some e → (bytes : List ℕ) × (e ≡ answered_by share t (read_completion f t bytes)))
-          → option_and_then (λ page. function_answer share f page t) o ≡ Some e → (bytes : List ℕ) × (e ≡ answered_by share t (read_completion f t bytes))
+      go : (o : Option (List ℕ)) → ((page : List ℕ) → function_answer share f page t ≡ Some e → (bytes : List ℕ) × (e ≡ answered_by share f t (read_completion f t bytes)))
+          → option_and_then (λ page. function_answer share f page t) o ≡ Some e → (bytes : List ℕ) × (e ≡ answered_by share f t (read_completion f t bytes))
       go None each is = absurd cc
       go (Some page) each is = each page is
 
   -- a function's answer to a request whose requester completions reach
-  function_reply : (d number f : ℕ) (t : Packet) (x : Option Origin) (bytes : List ℕ) (e : Emission) → IsFunctionOf platform d f → Reaches platform d t.requester x → e ≡ answered_by (share_of_domain platform d) t (read_completion f t bytes) → IsWellMade e.parties e.bytes
+  function_reply : (d number f : ℕ) (t : Packet) (x : Option Origin) (bytes : List ℕ) (e : Emission) → IsFunctionOf platform d f → Reaches platform d t.requester x → e ≡ answered_by (share_of_domain platform d) f t (read_completion f t bytes) → IsWellMade e.parties e.bytes
       → Replying platform f (descriptor_of d number e)
   function_reply d number f t x bytes e own reaches is well =
-      let made = answered_by (share_of_domain platform d) t (read_completion f t bytes) in
+      let made = answered_by (share_of_domain platform d) f t (read_completion f t bytes) in
       let well' : IsWellMade made.parties made.bytes = subst (λ (e : Emission). IsWellMade e.parties e.bytes) is well in
       let read = completion_read made.parties f t bytes well'.0 in
       let reached = reach_is platform g d f t.requester x own reaches in
@@ -206,7 +206,7 @@ module _ (platform : Platform) (g : IsGuarded platform) where
         relaxed_ordering = read.0;
         reply = read.1;
         addressee = x;
-        parties = ap (λ (x : Option Origin). Answer by.Function x) reached;
+        parties = ap (λ (x : Option Origin). Answer (by.Function f) x) reached;
         reaches = reaches;
       })
 
@@ -268,10 +268,10 @@ module _ (platform : Platform) (g : IsGuarded platform) where
     where
       same : (f h : ℕ) → Upward f ≡ Upward h → f ≡ h
       same f h e = cc
-  answers_below frame number f state c e (inr r) parties fl made sent well = absurd (other f r.addressee (sym parties ∙ r.parties))
+  answers_below frame number f state c e (inr r) parties fl made sent well = absurd (other f r.function r.addressee (sym parties ∙ r.parties))
     where
-      other : (f : ℕ) (x : Option Origin) → Upward f ≡ Answer by.Function x → ⊥
-      other f x e = cc
+      other : (f h : ℕ) (x : Option Origin) → Upward f ≡ Answer (by.Function h) x → ⊥
+      other f h x e = cc
 
   -- ---- at each
 

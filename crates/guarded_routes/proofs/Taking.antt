@@ -167,7 +167,7 @@ module _ (platform : Platform) (g : IsGuarded platform) where
     where
       go : Rising platform (id_below line) frame ⊎ Replying platform (id_below line) frame → frame.head.parties ≡ Upward (id_below line) → IsLegal platform state frame (Refuse frame.number)
       go (inl r) parties = refuses_request up line frame state stop listed r parties stopped fl
-      go (inr r) parties = absurd (other (id_below line) r.addressee (sym parties ∙ r.parties))
+      go (inr r) parties = absurd (other (id_below line) r.function r.addressee (sym parties ∙ r.parties))
         where
-          other : (f : ℕ) (x : Option Origin) → Upward f ≡ Answer by.Function x → ⊥
-          other f x e = cc
+          other : (f h : ℕ) (x : Option Origin) → Upward f ≡ Answer (by.Function h) x → ⊥
+          other f h x e = cc

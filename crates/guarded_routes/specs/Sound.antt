@@ -56,7 +56,7 @@ pub record Replying (platform : Platform) (lower : ℕ) (frame : Descriptor) : T
   pub relaxed_ordering : Bool
   pub reply : frame.head.header ≡ header.Completion target relaxed_ordering
   pub addressee : Option Origin
-  pub parties : frame.head.parties ≡ Answer by.Function addressee
+  pub parties : frame.head.parties ≡ Answer (by.Function function) addressee
   pub reaches : Reaches platform frame.domain target addressee
 
 -- what a function is to take: a memory request to it, whose requester completions reach in the domain, or a completion for it

@@ -3,6 +3,8 @@
 use Rattle.std.specs.Prelude.{ℕ, ◌≤◌, ◌==◌, ⊤, Bool, true, false, List, Option, Some, None, option_map, if◌then◌else◌}
 use Rattle.fab_types.specs.declared.class.Class.{Class}
 use Rattle.fab_types.specs.declared.class.Class.TheVariants.{Posted, NonPosted, Completion}
+use Rattle.fab_types.specs.declared.head.Answerer.{Answerer}
+use Rattle.fab_types.specs.declared.head.Answerer.TheVariants as by
 use Rattle.fab_types.specs.declared.head.Head.{Head}
 use Rattle.fab_types.specs.declared.head.Parties.{Parties}
 use Rattle.fab_types.specs.declared.head.Parties.TheVariants.{Upward, Downward, Answer}
@@ -65,11 +67,26 @@ stopped_from line head check (Answer answerer addressee) = NoCase
 abbrev pub stopped : DownstreamPort → Head → Option Check → Forwarding
 stopped line head check = stopped_from line head check head.parties
 
+-- a completion is stopped by the first port above the function that made it
+abbrev pub stopped_answer : DownstreamPort → Answerer → Forwarding
+stopped_answer line by.Port = NoCase
+stopped_answer line by.Host = NoCase
+stopped_answer line (by.Function function) = if function == id_below line then Stop None else NoCase
+
+-- what came up and would have to go down again the same way: with Upstream Forwarding clear the port stops it
+abbrev pub returned_from : DownstreamPort → Head → Parties → Forwarding
+returned_from line head (Upward function) = stopped_from line head None (Upward function)
+returned_from line head (Downward function) = NoCase
+returned_from line head (Answer answerer addressee) = stopped_answer line answerer
+
+abbrev pub returned : DownstreamPort → Head → Forwarding
+returned line head = returned_from line head head.parties
+
 -- from a downstream port: up, to another port of the switch, or stopped before its own egress
 abbrev pub up_by : Config → DownstreamPort → Head → Route → Forwarding
 up_by config line head Up = To 0
 up_by config line head (Port other) = down_lane (lane_to config.exits other)
-up_by config line head OwnEgress = stopped line head None
+up_by config line head OwnEgress = returned line head
 up_by config line head Nobody = NoCase
 
 -- a packet without a target is malformed, or a request of a kind that no port takes: it is stopped

@@ -3,13 +3,13 @@
 ghost use Rattle.std.specs.Prelude.{◌≡◌, ◌≤◌, ℕ, None, IfSome, length};
 ghost use Rattle.bridge.specs.Routes.{target_of, route_of};
 ghost use Rattle.acs.specs.Vetting.{verdict_of};
-ghost use Rattle.port.specs.Courses.{failed_report, is_posted, report_elsewhere, report_of, reported_by, reported_from, stopped, up_by, down_by, down_lane, routed, tested, course_of, IsWithin};
+ghost use Rattle.port.specs.Courses.{failed_report, is_posted, report_elsewhere, report_of, reported_by, reported_from, returned, stopped, stopped_answer, up_by, down_by, down_lane, routed, tested, course_of, IsWithin};
 
 use crate::config::lane_to;
 use crate::port::Port;
 use acs::{Verdict, redirect, requester_of, vet};
 use bridge::{Bridge, Route, Target};
-use fab_types::{Bdf, Check, Class, Head, Parties, Violation};
+use fab_types::{Answerer, Bdf, Check, Class, Head, Parties, Violation};
 use platform::{DownstreamPort, id_below};
 
 /// What becomes of a packet that came into a port.
@@ -70,6 +70,36 @@ fn stopped(line: &DownstreamPort, head: &Head, check: Option<Check>) -> Forwardi
     }
 }
 
+/// The completion is stopped, if this is the first port above the function that made it.
+fn stopped_answer(line: &DownstreamPort, answerer: Answerer) -> Forwarding
+    ensures value { result ≡ stopped_answer line.now answerer }
+    ensures lane { (most : ℕ) → IsWithin most result }
+{
+    match answerer {
+        Answerer::Function(maker) => {
+            if maker == id_below(line) {
+                Forwarding::Stop(None)
+            } else {
+                Forwarding::NoCase
+            }
+        }
+        Answerer::Port => Forwarding::NoCase,
+        Answerer::Host => Forwarding::NoCase,
+    }
+}
+
+/// What came up and would have to go down again the same way is stopped.
+fn returned(line: &DownstreamPort, head: &Head) -> Forwarding
+    ensures value { result ≡ returned line.now head.now }
+    ensures lane { (most : ℕ) → IsWithin most result }
+{
+    match head.parties {
+        Parties::Upward(_) => stopped(line, head, None),
+        Parties::Downward(_) => Forwarding::NoCase,
+        Parties::Answer(answerer, _) => stopped_answer(line, answerer),
+    }
+}
+
 fn reported_from(line: &DownstreamPort, head: &Head, check: Check) -> Option<Violation>
     ensures { result ≡ reported_from line.now head.now check head.now.parties }
 {
@@ -107,7 +137,7 @@ impl Port {
         match route {
             Route::Up => Forwarding::To(0),
             Route::Port(other) => down_lane(lane_to(&self.exits, other)),
-            Route::OwnEgress => stopped(line, head, None),
+            Route::OwnEgress => returned(line, head),
             Route::Nobody => Forwarding::NoCase,
         }
     }

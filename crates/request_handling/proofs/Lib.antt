@@ -2,3 +2,4 @@ pub mod Places
 pub mod Choices
 pub mod WellMadeLemmas
 pub mod PastPort
+pub mod Discarding

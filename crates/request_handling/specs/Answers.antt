@@ -82,15 +82,15 @@ shown frames k t =
 -- ---- a request to the register page of a function
 
 -- a function answers a read of its page, by the Requester ID
-abbrev pub answered_by : Share → Packet → Packet → Emission
-answered_by share t completion = answer by.Function (reach share t.requester) completion
+abbrev pub answered_by : Share → ℕ → Packet → Packet → Emission
+answered_by share function t completion = answer (by.Function function) (reach share t.requester) completion
 
 -- a function's refusal of a request
 abbrev pub function_refusal : Share → ℕ → Packet → Emission
-function_refusal share function t = answered_by share t (refusal function UR t)
+function_refusal share function t = answered_by share function t (refusal function UR t)
 
 abbrev pub function_answer : Share → ℕ → List ℕ → Packet → Option Emission
-function_answer share function page t = option_map (answered_by share t) (page_answer function page t)
+function_answer share function page t = option_map (answered_by share function t) (page_answer function page t)
 
 -- the address at which a function's register page begins; every BAR is the address of a page
 abbrev pub page_at : ℕ → ℕ

@@ -8,11 +8,15 @@ use Rattle.platform.specs.declared.parts.DownstreamPort.{DownstreamPort}
 use Rattle.platform.specs.Share.{Share}
 use Rattle.platform.specs.Owners.{first_port, owner_of}
 use Rattle.layout.specs.Tables.{target_of}
+use Rattle.fab_types.specs.declared.head.Answerer.{Answerer}
+use Rattle.fab_types.specs.declared.head.Answerer.TheVariants as by
 use Rattle.fab_types.specs.declared.head.Parties.{Parties}
 use Rattle.fab_types.specs.declared.head.Parties.TheVariants.{Upward, Downward, Answer}
 use Rattle.tlp_view.specs.Packet.{Packet, dw_count}
 use Rattle.tlp_view.specs.Runs.{is_write}
 use Rattle.tlp_view.specs.Bytes.{packet_of}
+use Rattle.tlp_view.specs.Malformed.{malformed}
+use Rattle.fab_types.specs.declared.faults.malformed.Malformed.{Malformed}
 use Rattle.request_handling.specs.declared.handling.Effect.TheVariants.{Leave, Block, Store, Access}
 use Rattle.request_handling.specs.declared.handling.Handling.{Handling}
 use Rattle.request_handling.specs.Emissions.{Emission}
@@ -20,7 +24,7 @@ use Rattle.host_memory.specs.Pages.{page_of}
 use Rattle.request_handling.specs.Answers.{address_of, bar_of, forwarded, function_answer, host_data, host_refusal, port_answer, shown}
 use Rattle.request_handling.specs.declared.fate.Fate.{Fate}
 use Rattle.request_handling.specs.declared.fate.Fate.TheVariants.{Vanish, Refused, ToHost}
-use Rattle.request_handling.specs.Fates.{fate, is_untranslated}
+use Rattle.request_handling.specs.Fates.{fate, is_untranslated, returns_completion}
 
 -- nothing happens, and nothing answers
 abbrev pub discarded : Handling
@@ -38,10 +42,25 @@ refusal_by port function bytes Vanish = Some discarded
 refusal_by port function bytes (Refused status) = Some (record { effect = Leave; reply = Some (port_answer port function status (packet_of bytes)) })
 refusal_by port function bytes ToHost = None
 
+abbrev pub returned_by : Option DownstreamPort → Packet → Bool
+returned_by None t = false
+returned_by (Some port) t = returns_completion port t
+
+-- of completions a function's own alone come to its first port from below
+abbrev pub is_returned : Share → Answerer → Packet → Bool
+is_returned share by.Port t = false
+is_returned share by.Host t = false
+is_returned share (by.Function function) t = returned_by (first_port share.ports function) t
+
+-- a completion that its first port would have to send back is discarded there
+abbrev pub answer_refusal : Share → Option Malformed → Answerer → Packet → Option Handling
+answer_refusal share None answerer t = if is_returned share answerer t then Some discarded else None
+answer_refusal share (Some cause) answerer t = None
+
 abbrev pub refusal_of : Share → List ℕ → Parties → Option Handling
 refusal_of share bytes (Upward function) = refusal_by (port_id (first_port share.ports function)) function bytes (fate share.ports function bytes)
 refusal_of share bytes (Downward function) = None
-refusal_of share bytes (Answer answerer addressee) = None
+refusal_of share bytes (Answer answerer addressee) = answer_refusal share (malformed bytes) answerer (packet_of bytes)
 
 -- how a packet in flight ends at its sender's first port, if it ends there
 abbrev pub refusal_end : Share → Option Emission → Option Handling

@@ -1,4 +1,4 @@
--- What the first port of a function does with a request (PCIe 4.0, 6.12.1). That translation blocking tests
+-- What the first port of a function does with what the function sends (PCIe 4.0, 6.12.1). That translation blocking tests
 -- no kinds but memory reads and writes is this project's own.
 use Rattle.std.specs.Prelude.{ℕ, Bool, true, false, ◌&&◌, ◌||◌, not, List, Option, Some, None, unwrap_or, if◌then◌else◌}
 use Rattle.fab_types.specs.Id.{bus_of}
@@ -14,11 +14,7 @@ use Rattle.platform.specs.declared.parts.DownstreamPort.{DownstreamPort}
 use Rattle.platform.specs.Owners.{holds_bus, holds_address, first_port}
 use Rattle.request_handling.specs.declared.fate.Fate.{Fate}
 use Rattle.request_handling.specs.declared.fate.Fate.TheVariants.{Vanish, Refused, ToHost}
-use Rattle.fab_types.specs.declared.head.Parties.{Parties}
-use Rattle.fab_types.specs.declared.head.Parties.TheVariants.{Upward, Downward, Answer}
-use Rattle.platform.specs.Share.{Share}
 use Rattle.tlp_view.specs.Packet.{Packet, address_in}
-use Rattle.request_handling.specs.Emissions.{Emission}
 use Rattle.tlp_view.specs.Kinds.{class_of_kind, is_memory}
 use Rattle.tlp_view.specs.Bytes.{packet_of}
 use Rattle.tlp_view.specs.Malformed.{malformed}
@@ -38,6 +34,10 @@ fails_translation port t = blocks_translated port.controls && is_memory t.kind &
 -- without Upstream Forwarding a port doesn't send back what is for its own window
 abbrev pub returns_to_sender : DownstreamPort → Packet → Bool
 returns_to_sender port t = not (forwards_upstream port.controls) && holds_address port (unwrap_or (address_in t.body) 0)
+
+-- nor a completion for a bus below it
+abbrev pub returns_completion : DownstreamPort → Packet → Bool
+returns_completion port t = not (forwards_upstream port.controls) && holds_bus port (bus_of t.requester)
 
 -- requests that nobody answers are discarded
 abbrev pub stopped : Status → Class → Fate

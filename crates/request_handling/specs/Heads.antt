@@ -25,7 +25,7 @@ target_for (Downward g) requester = requester
 target_for (Answer Port None) requester = requester
 target_for (Answer Port (Some x)) requester = origin_id x
 target_for (Answer Host x) requester = requester
-target_for (Answer Function x) requester = requester
+target_for (Answer (Function f) x) requester = requester
 
 abbrev pub packet_header : Parties → Packet → Header
 packet_header parties t =

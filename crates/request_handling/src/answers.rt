@@ -47,7 +47,7 @@ pub(crate) fn function_refusal(start: &Start, function: Bdf, view: &TlpView) -> 
 {
     let head = CompletionHead::of_refusal(function, Status::UR, view);
     let asker = start.reach(view.requester());
-    Reply::answer(Answerer::Function, asker, CplBuf::new(head, 0))
+    Reply::answer(Answerer::Function(function), asker, CplBuf::new(head, 0))
 }
 
 /// The host answers a read of a frame of memory.
@@ -102,7 +102,7 @@ pub(crate) fn function_answer(start: &Start, function: &Function, view: &TlpView
 {
     match function.answer(view) {
         Some(packet) => Some(Reply::answer(
-            Answerer::Function,
+            Answerer::Function(function.id()),
             start.reach(view.requester()),
             packet,
         )),

@@ -1,8 +1,8 @@
-//! What the first port of a function does with a request.
+//! What the first port of a function does with what the function sends.
 
 ghost use Rattle.std.specs.Prelude.{◌≡◌, true};
 ghost use Rattle.tlp_view.specs.Kinds.{is_memory};
-ghost use Rattle.request_handling.specs.Fates.{fails_source, fails_translation, fate, fate_at, is_untranslated, packet_fate, returns_to_sender, stopped};
+ghost use Rattle.request_handling.specs.Fates.{fails_source, fails_translation, fate, fate_at, is_untranslated, packet_fate, returns_completion, returns_to_sender, stopped};
 
 use fab_types::{AddressType, Bdf, Class, Status};
 use layout::Start;
@@ -56,6 +56,12 @@ fn returns_to_sender(port: &DownstreamPort, view: &TlpView) -> bool
     ensures { result ≡ returns_to_sender port.now view.now }
 {
     !port.controls.forwards_upstream() && port.holds_address(view.address().unwrap_or(0))
+}
+
+pub(crate) fn returns_completion(port: &DownstreamPort, view: &TlpView) -> bool
+    ensures { result ≡ returns_completion port.now view.now }
+{
+    !port.controls.forwards_upstream() && port.holds_bus(view.requester().bus())
 }
 
 pub(crate) fn packet_fate(port: &DownstreamPort, view: &TlpView) -> Fate

@@ -17,6 +17,6 @@ pub use fate::{Fate, first_port_fate};
 pub use handling::{Effect, Handling, Made, Reply};
 pub use heads::{head_of, target_for};
 pub use page::place;
-pub use refusal::{discarded, refusal_of};
+pub use refusal::{discarded, refusal_of, refusal_of_completion};
 pub use requests::{at_port, request_at_function, request_at_host};
 pub use taker::{Taker, taker_of};

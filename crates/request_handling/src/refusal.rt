@@ -1,15 +1,17 @@
 //! What the first port of its sender does with a packet that it stops.
 
-ghost use Rattle.std.specs.Prelude.{◌≡◌, Some};
+ghost use Rattle.std.specs.Prelude.{◌≡◌};
 ghost use Rattle.fab_types.specs.declared.head.Parties.TheVariants.{Upward};
+ghost use Rattle.tlp_view.specs.Bytes.{packet_of};
+ghost use Rattle.tlp_view.specs.Malformed.{malformed};
 ghost use Rattle.platform.specs.Owners.{first_port};
-ghost use Rattle.request_handling.specs.Carries.{discarded, refusal_by, refusal_of};
+ghost use Rattle.request_handling.specs.Carries.{answer_refusal, discarded, is_returned, refusal_by, refusal_of};
 ghost use Rattle.request_handling.specs.Fates.{fate_at};
 
 use crate::answers::port_answer;
-use crate::fate::{Fate, packet_fate};
+use crate::fate::{Fate, packet_fate, returns_completion};
 use crate::handling::{Effect, Handling};
-use fab_types::Bdf;
+use fab_types::{Answerer, Bdf};
 use layout::Start;
 use platform::DownstreamPort;
 use tlp_view::TlpView;
@@ -48,5 +50,34 @@ pub fn refusal_of(start: &Start, function: Bdf, bytes: &[u8]) -> Option<Handling
     match start.first_port(function) {
         Some(port) => refusal_at(&port, function, bytes),
         None => Some(discarded()),
+    }
+}
+
+/// Would the first port of the function that made this completion send it back?
+fn is_returned(start: &Start, answerer: Answerer, view: &TlpView) -> bool
+    ensures { result ≡ is_returned start.now answerer view.now }
+{
+    let Answerer::Function(function) = answerer else {
+        return false;
+    };
+    match start.first_port(function) {
+        Some(port) => returns_completion(&port, view),
+        None => false,
+    }
+}
+
+/// How a completion ends at the first port of the function that made it, if it ends there: with Upstream
+/// Forwarding clear the port discards what is for a bus below it (PCIe 4.0, 6.12.1.1). Completions of
+/// ports and of the host come to no such port.
+pub fn refusal_of_completion(start: &Start, answerer: Answerer, bytes: &[u8]) -> Option<Handling>
+    ensures { result ≡ answer_refusal start.now (malformed bytes.now) answerer (packet_of bytes.now) }
+{
+    let Ok(view) = TlpView::read(bytes) else {
+        return None;
+    };
+    if is_returned(start, answerer, &view) {
+        Some(discarded())
+    } else {
+        None
     }
 }

@@ -20,8 +20,10 @@ use Rattle.tlp_view.specs.Packet.{Packet}
 use Rattle.domain.specs.declared.entry.Entry.TheVariants.{Refuse}
 use Rattle.request_handling.specs.declared.fate.Fate.{Fate}
 use Rattle.request_handling.specs.declared.fate.Fate.TheVariants.{Vanish, Refused, ToHost}
+use Rattle.request_handling.specs.declared.handling.Handling.{Handling}
 use Rattle.request_handling.specs.Answers.{port_answer}
-use Rattle.request_handling.specs.Carries.{port_id, refusal_by, refusal_of}
+use Rattle.request_handling.specs.Carries.{answer_refusal, discarded, port_id, refusal_by, refusal_of}
+use Rattle.request_handling.proofs.Discarding.{answer_discarded}
 use Rattle.domain.specs.Domains.{DomainView}
 use Rattle.domain_parts.specs.Ends.{conclude}
 use Rattle.request_handling.specs.Fates.{fate, fate_below, fate_unless, packet_fate, stopped}
@@ -77,12 +79,20 @@ refused_by s n port function bytes (Refused status) c reply h e is =
     (h status refl, ap (λ (x : Emission). (cost_of x.bytes).class) (sym same) ∙ answer_class port status (packet_of bytes))
 refused_by s n port function bytes ToHost c reply h e is = absurd cc
 
+discarded_of : (s : Alone) (n : ℕ) (bytes : List ℕ) (o : Option Handling) (c : Change) (reply : Emission) → ((a : Handling) → o ≡ Some a → a ≡ discarded) → option_map (conclude s n bytes) o ≡ Some c → c.emission ≡ Some reply → AreClasses bytes reply
+discarded_of s n bytes None c reply h e is = absurd cc
+discarded_of s n bytes (Some a) c reply h e is =
+    let same : option_map (conclude s n bytes) (Some discarded) ≡ Some c = ap (λ (a : Handling). option_map (conclude s n bytes) (Some a)) (sym (h a refl)) ∙ e in
+    let none : None ≡ c.emission = ap (λ (x : Change). x.emission) (some_is _ c same) in
+    absurd cc
+
 refused_of : (share : Share) (s : Alone) (n : ℕ) (bytes : List ℕ) (parties : Parties) (c : Change) (reply : Emission) → option_map (conclude s n bytes) (refusal_of share bytes parties) ≡ Some c → c.emission ≡ Some reply → AreClasses bytes reply
 refused_of share s n bytes (Upward function) c reply e is =
     let port = first_port share.ports function in
     refused_by s n (port_id port) function bytes (fate share.ports function bytes) c reply (λ status f. refused_below port bytes status f) e is
 refused_of share s n bytes (Downward function) c reply e is = absurd cc
-refused_of share s n bytes (Answer answerer addressee) c reply e is = absurd cc
+refused_of share s n bytes (Answer answerer addressee) c reply e is =
+    discarded_of s n bytes (answer_refusal share (malformed bytes) answerer (packet_of bytes)) c reply (λ a h. answer_discarded share (malformed bytes) answerer (packet_of bytes) a h) e is
 
 refuse_answers : (share : Share) (s : Alone) (n : ℕ) (e : Emission) (item : Option Emission) (c : Change) (reply : Emission) → item ≡ Some e → refuse share s n item ≡ Some c → c.emission ≡ Some reply → AreClasses e.bytes reply
 refuse_answers share s n e None c reply flown made is = absurd cc

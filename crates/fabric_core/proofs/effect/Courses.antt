@@ -1,13 +1,16 @@
 -- A course names an output of the port's switch.
-use Rattle.std.proofs.Common.{◌≡◌, ℕ, suc, Bool, true, false, cond, List, [], ◌∷◌, length, Option, Some, None, refl, sym, arith}
+use Rattle.std.proofs.Common.{◌≡◌, ℕ, suc, ◌==◌, Bool, true, false, cond, List, [], ◌∷◌, length, Option, Some, None, refl, sym, arith}
 use Rattle.std.specs.List.{position}
 use Rattle.std.specs.Option.{option_map}
 use Rattle.std.proofs.lemmas.List.Quantifiers.{position-Some}
+use Rattle.fab_types.specs.declared.head.Answerer.{Answerer}
+use Rattle.fab_types.specs.declared.head.Answerer.TheVariants as by
 use Rattle.fab_types.specs.declared.head.Head.{Head}
 use Rattle.fab_types.specs.declared.head.Parties.{Parties}
 use Rattle.fab_types.specs.declared.head.Parties.TheVariants.{Upward, Downward, Answer}
 use Rattle.fab_types.specs.declared.violation.Check.{Check}
 use Rattle.platform.specs.declared.parts.DownstreamPort.{DownstreamPort}
+use Rattle.platform.specs.Tree.{id_below}
 use Rattle.acs.specs.declared.vetting.Verdict.{Verdict}
 use Rattle.acs.specs.declared.vetting.Verdict.TheVariants as verdict
 use Rattle.acs.specs.Redirection.{redirected}
@@ -21,7 +24,7 @@ use Rattle.port.specs.declared.config.Exit.{Exit}
 use Rattle.port.specs.declared.course.Forwarding.{Forwarding}
 use Rattle.port.specs.declared.course.Forwarding.TheVariants.{Stop, NoCase}
 use Rattle.port.specs.Configs.{Config, lane_to, leads_to}
-use Rattle.port.specs.Courses.{IsWithin, course_at, course_of, down_by, down_lane, reported_by, routed, stopped_from, tested, up_by}
+use Rattle.port.specs.Courses.{IsWithin, course_at, course_of, down_by, down_lane, reported_by, returned_from, routed, stopped_answer, stopped_from, tested, up_by}
 
 output_by : (exits : List Exit) (p : Exit → Bool) (o : Option ℕ) → o ≡ position p exits → IsWithin (length exits) (down_lane (option_map suc o))
 output_by exits p None is = tt
@@ -46,10 +49,20 @@ stopped_within most line head check (Upward function) = stop_within most _ (Stop
 stopped_within most line head check (Downward function) = tt
 stopped_within most line head check (Answer answerer addressee) = tt
 
+answer_within : (most : ℕ) (line : DownstreamPort) (answerer : Answerer) → IsWithin most (stopped_answer line answerer)
+answer_within most line by.Port = tt
+answer_within most line by.Host = tt
+answer_within most line (by.Function function) = stop_within most (function == id_below line) (Stop None) tt
+
+returned_within : (most : ℕ) (line : DownstreamPort) (head : Head) (parties : Parties) → IsWithin most (returned_from line head parties)
+returned_within most line head (Upward function) = stopped_within most line head None (Upward function)
+returned_within most line head (Downward function) = tt
+returned_within most line head (Answer answerer addressee) = answer_within most line answerer
+
 up_within : (config : Config) (line : DownstreamPort) (head : Head) (r : Route) → IsWithin (length config.exits) (up_by config line head r)
 up_within config line head Up = omega arith
 up_within config line head (Port other) = output_within config.exits other
-up_within config line head OwnEgress = stopped_within (length config.exits) line head None head.parties
+up_within config line head OwnEgress = returned_within (length config.exits) line head head.parties
 up_within config line head Nobody = tt
 
 routed_within : (tree : Routes) (config : Config) (line : DownstreamPort) (head : Head) (target : Option Target) → IsWithin (length config.exits) (routed tree config line head target)

@@ -246,7 +246,7 @@ module _ (w : World) (g : IsGuardedFabric w) (domain function : ℕ) (links : Li
 
     stopped : (line : DownstreamPort) (report : Option Violation) → IsPort g.platform line → direction ≡ up (id_below line) → y.head.parties ≡ Upward (id_below line) → course_of (of_platform g.platform) (downstream_config g.platform line) y.head ≡ Stop report
         → IsSound g.platform (up (id_below line)) y → ⊥
-    stopped line report listed e parties course (inr r) = let clash : Upward (id_below line) ≡ Answer by.Function r.addressee = sym parties ∙ r.parties in absurd cc
+    stopped line report listed e parties course (inr r) = let clash : Upward (id_below line) ≡ Answer (by.Function r.function) r.addressee = sym parties ∙ r.parties in absurd cc
     stopped line report listed e parties course (inl r) =
         ⊎_elim (λ replies. false≢true (sym r.request ∙ stood f f' (Ingress direction) y l (λ (x : Descriptor). q x ≡ true → is_reply x.head.header ≡ true) (replies (Ingress direction)) is_q))
         (λ other. ⊎_elim

@@ -5,11 +5,14 @@ use Rattle.std.specs.Option.{option_and_then}
 use Rattle.std.proofs.lemmas.List.Quantifiers.{position-Some}
 use Rattle.std.proofs.lemmas.Option.{same_Some}
 use Rattle.fab_types.specs.declared.class.Class.{Class}
+use Rattle.fab_types.specs.declared.head.Answerer.{Answerer}
+use Rattle.fab_types.specs.declared.head.Answerer.TheVariants as by
 use Rattle.fab_types.specs.declared.head.Head.{Head}
 use Rattle.fab_types.specs.declared.head.Header.{Header}
 use Rattle.fab_types.specs.declared.head.Header.TheVariants as header
 use Rattle.fab_types.specs.declared.head.Parties.{Parties}
 use Rattle.fab_types.specs.declared.head.Parties.TheVariants.{Answer, Downward, Upward}
+use Rattle.fab_types.specs.declared.origin.Origin.{Origin}
 use Rattle.fab_types.specs.declared.place.Direction.{Direction}
 use Rattle.fab_types.specs.declared.place.Way.{Way}
 use Rattle.fab_types.specs.declared.place.Way.TheVariants.{Down, Up}
@@ -30,7 +33,7 @@ use Rattle.acs.specs.declared.vetting.Verdict.TheVariants as verdict
 use Rattle.acs.specs.Redirection.{redirected}
 use Rattle.acs.specs.Vetting.{requester_of, verdict_of}
 use Rattle.port.specs.Configs.{Config, lane_to}
-use Rattle.port.specs.Courses.{course_at, course_of, down_by, down_lane, report_of, reported_by, routed, stopped_from, tested, up_by}
+use Rattle.port.specs.Courses.{course_at, course_of, down_by, down_lane, report_of, reported_by, returned_from, routed, stopped_answer, stopped_from, tested, up_by}
 use Rattle.port.specs.declared.config.Exit.{Exit}
 use Rattle.port.specs.declared.course.Forwarding.{Forwarding}
 use Rattle.port.specs.declared.course.Forwarding.TheVariants.{To, Stop, NoCase}
@@ -84,6 +87,16 @@ stopped_named line head o (Upward function) = if_first (function == id_below lin
 stopped_named line head o (Downward function) = tt
 stopped_named line head o (Answer answerer addressee) = tt
 
+answer_named : (line : DownstreamPort) (answerer : Answerer) (x : Option Origin) → NamesSender (Answer answerer x) (stopped_answer line answerer)
+answer_named line by.Port x = tt
+answer_named line by.Host x = tt
+answer_named line (by.Function function) x = if_first (function == id_below line) (Answer (by.Function function) x) (Stop None) tt
+
+returned_named : (line : DownstreamPort) (head : Head) (parties : Parties) → NamesSender parties (returned_from line head parties)
+returned_named line head (Upward function) = stopped_named line head None (Upward function)
+returned_named line head (Downward function) = tt
+returned_named line head (Answer answerer addressee) = answer_named line answerer addressee
+
 output_named : (parties : Parties) (o : Option ℕ) → NamesSender parties (down_lane o)
 output_named parties None = tt
 output_named parties (Some output) = tt
@@ -91,7 +104,7 @@ output_named parties (Some output) = tt
 up_named : (config : Config) (line : DownstreamPort) (head : Head) (way : Route) → NamesSender head.parties (up_by config line head way)
 up_named config line head route.Up = tt
 up_named config line head (route.Port other) = output_named head.parties (lane_to config.exits other)
-up_named config line head route.OwnEgress = stopped_named line head None head.parties
+up_named config line head route.OwnEgress = returned_named line head head.parties
 up_named config line head route.Nobody = tt
 
 routed_named : (tree : Routes) (config : Config) (line : DownstreamPort) (head : Head) (o : Option Target) → NamesSender head.parties (routed tree config line head o)

@@ -1,5 +1,5 @@
 -- What the machine of a domain makes is well made, and its pages keep their size.
-use Rattle.std.proofs.Common.{◌≡◌, ℕ, zero, suc, ◌+◌, ◌/◌, ◌%◌, ◌≤◌, ◌||◌, Bool, true, false, not, cond, nat_le, nat_lt, List, [], ◌∷◌, length, Option, Some, None, refl, subst, arith}
+use Rattle.std.proofs.Common.{◌≡◌, ℕ, zero, suc, ◌+◌, ◌/◌, ◌%◌, ◌≤◌, ◌||◌, Bool, true, false, not, cond, nat_le, nat_lt, List, [], ◌∷◌, length, Option, Some, None, refl, sym, ap, ◌∙◌, subst, arith}
 use Rattle.std.specs.Prelude.{All, is_none, option_map}
 use Rattle.std.proofs.lemmas.Bool.{ltb-false}
 use Rattle.std.proofs.lemmas.List.Elements.{All-head, All-tail}
@@ -46,8 +46,9 @@ use Rattle.domain.specs.declared.entry.Entry.{Entry}
 use Rattle.domain.specs.declared.entry.Entry.TheVariants.{Alien, Carry, Deliver, Mmio, Refuse, Submit, Tick}
 use Rattle.request_handling.specs.declared.fate.Fate.{Fate}
 use Rattle.request_handling.specs.declared.fate.Fate.TheVariants.{Vanish, Refused, ToHost}
+use Rattle.request_handling.specs.declared.handling.Handling.{Handling}
 use Rattle.request_handling.specs.Answers.{address_of, answered_by, bar_of, forwarded, function_answer, host_data, host_refusal, page_at, port_answer, shown}
-use Rattle.request_handling.specs.Carries.{access_of, carriage_by, carriage_of, forward, is_carried, port_id, read_from, refusal_by, refusal_of, refused_by_host, serve, serve_read, write_to}
+use Rattle.request_handling.specs.Carries.{access_of, answer_refusal, carriage_by, carriage_of, discarded, forward, is_carried, port_id, read_from, refusal_by, refusal_of, refused_by_host, serve, serve_read, write_to}
 use Rattle.domain.specs.Deliveries.{arrival_of, arrived, delivery_of, is_awaited, recorded, unexpected}
 use Rattle.domain_parts.specs.Closings.{completed, use_of}
 use Rattle.domain.specs.Domains.{DomainView}
@@ -60,6 +61,7 @@ use Rattle.domain_parts.specs.State.{Alone, Change, Delivery, emits_nothing, ite
 use Rattle.domain.specs.Submits.{submit_fault, submit_unless}
 use Rattle.domain.specs.Ticks.{sent_by, tick_fault, tick_unless, ticked, ticks}
 use Rattle.request_handling.specs.WellMade.{IsWellMade}
+use Rattle.request_handling.proofs.Discarding.{answer_discarded}
 use Rattle.request_handling.proofs.WellMadeLemmas.{is_an_access, write_access}
 use Rattle.guarded_routes.specs.Guarded.{IsFunctionOf, IsGuarded}
 use Rattle.guarded_routes.proofs.Begins.{low_at}
@@ -165,10 +167,17 @@ module _ (platform : Platform) (g : IsGuarded platform) (domain : ℕ) where
       })
   fine_refused_by s n port f bytes ToHost c long e = absurd cc
 
+  fine_discarded : (s : Alone) (n : ℕ) (bytes : List ℕ) (o : Option Handling) (c : Change) → AreLong s → ((a : Handling) → o ≡ Some a → a ≡ discarded) → option_map (conclude s n bytes) o ≡ Some c → IsFine c
+  fine_discarded s n bytes None c long is e = absurd cc
+  fine_discarded s n bytes (Some a) c long is e =
+      let same : option_map (conclude s n bytes) (Some discarded) ≡ Some c = ap (λ (a : Handling). option_map (conclude s n bytes) (Some a)) (sym (is a refl)) ∙ e in
+      is_fine _ c same (record { frames = long.frames; registers = long.registers; well = made_nothing })
+
   fine_refused : (s : Alone) (n : ℕ) (bytes : List ℕ) (parties : Parties) (c : Change) → AreLong s → option_map (conclude s n bytes) (refusal_of share bytes parties) ≡ Some c → IsFine c
   fine_refused s n bytes (Upward f) c long e = fine_refused_by s n (port_id (first_port share.ports f)) f bytes (fate share.ports f bytes) c long e
   fine_refused s n bytes (Downward f) c long e = absurd cc
-  fine_refused s n bytes (Answer answerer addressee) c long e = absurd cc
+  fine_refused s n bytes (Answer answerer addressee) c long e =
+      fine_discarded s n bytes (answer_refusal share (malformed bytes) answerer (packet_of bytes)) c long (λ a is. answer_discarded share (malformed bytes) answerer (packet_of bytes) a is) e
 
   fine_refuse : (s : Alone) (n : ℕ) (item : Option Emission) (c : Change) → AreLong s → refuse share s n item ≡ Some c → IsFine c
   fine_refuse s n None c long e = absurd cc
@@ -252,12 +261,12 @@ module _ (platform : Platform) (g : IsGuarded platform) (domain : ℕ) where
   -- ---- at a function
 
   made_answer : (h : ℕ) (bytes page : List ℕ) (writes : Bool) → malformed bytes ≡ None → IsAccess (packet_of bytes) → length page ≡ 4096 → is_write (packet_of bytes).kind ≡ writes
-      → IsMade (option_map (answered_by share (packet_of bytes)) (cond writes None (Some (read_completion h (packet_of bytes) (read_data page (packet_of bytes))))))
+      → IsMade (option_map (answered_by share h (packet_of bytes)) (cond writes None (Some (read_completion h (packet_of bytes) (read_data page (packet_of bytes))))))
   made_answer h bytes page true well access long is = made_nothing
   made_answer h bytes page false well access long is =
       let t = packet_of bytes in
       let few = read_few t.kind (dw_count t.length) is access in
-      made_so _ (data_made by.Function (reach share t.requester) h t (read_data page t) few (read_long bytes page well few long))
+      made_so _ (data_made (by.Function h) (reach share t.requester) h t (read_data page t) few (read_long bytes page well few long))
 
   fine_accessed : (s : Alone) (n h : ℕ) (bytes : List ℕ) (c : Change) → AreLong s → IsWellMade (Downward h) bytes → option_map (conclude s n bytes) (access_of share s.registers h (packet_of bytes)) ≡ Some c → IsFine c
   fine_accessed s n h bytes c long well e =

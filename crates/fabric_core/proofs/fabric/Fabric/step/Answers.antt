@@ -10,29 +10,29 @@ use Rattle.fabric_core.proofs.fabric.Fabric.step.Goals as goal
 
 pub invariant_of-self : goal.invariant_of-self
 invariant_of-self g c =
-    fabric_step c.every_event_keeps_a_fabric.ensures (world_in c.self.inside) (world_over c.step.new.interconnect c.step.new.agents c.step.new.reports.violations c.step.new.strays.items) c.args.event.now c.step.result c.self.invariant c.step.ensures
+    fabric_step c.every_event_keeps_a_fabric.ensures (world_in c.self.inside) (world_over c.step.new.interconnect c.step.new.agents c.step.new.reports.violations c.step.new.strays.items) c.args.event.now c.step.result c.self.invariant c.step.ensures.steps
 
 pub returns-clause-controls : goal.returns-clause-controls
 returns-clause-controls g c =
-    step_controls (world_in c.self.inside) (world_over c.step.new.interconnect c.step.new.agents c.step.new.reports.violations c.step.new.strays.items) c.args.event.now c.step.result c.step.ensures ∙ ap is_guarded c.self.view_is
+    step_controls (world_in c.self.inside) (world_over c.step.new.interconnect c.step.new.agents c.step.new.reports.violations c.step.new.strays.items) c.args.event.now c.step.result c.step.ensures.steps ∙ ap is_guarded c.self.view_is
 
 pub returns-clause-guarded : goal.returns-clause-guarded
 returns-clause-guarded g c =
     let new = world_over c.step.new.interconnect c.step.new.agents c.step.new.reports.violations c.step.new.strays.items in
-    orderly new (fabric_step c.every_event_keeps_a_fabric.ensures (world_in c.self.inside) new c.args.event.now c.step.result c.self.invariant c.step.ensures)
+    orderly new (fabric_step c.every_event_keeps_a_fabric.ensures (world_in c.self.inside) new c.args.event.now c.step.result c.self.invariant c.step.ensures.steps)
 
 pub returns-clause-apart : goal.returns-clause-apart
 returns-clause-apart g c guarded =
     let new = world_over c.step.new.interconnect c.step.new.agents c.step.new.reports.violations c.step.new.strays.items in
     subst (λ (old : World). IsApart old c.args.event.now new) c.self.view_is
-    (apart_step (world_in c.self.inside) new c.args.event.now c.step.result c.self.invariant c.step.ensures (ap is_guarded c.self.view_is ∙ guarded))
+    (apart_step (world_in c.self.inside) new c.args.event.now c.step.result c.self.invariant c.step.ensures.steps (ap is_guarded c.self.view_is ∙ guarded))
 
 pub returns-clause-placed : goal.returns-clause-placed
 returns-clause-placed g c =
     let new = world_over c.step.new.interconnect c.step.new.agents c.step.new.reports.violations c.step.new.strays.items in
-    one_place new (fabric_step c.every_event_keeps_a_fabric.ensures (world_in c.self.inside) new c.args.event.now c.step.result c.self.invariant c.step.ensures)
+    one_place new (fabric_step c.every_event_keeps_a_fabric.ensures (world_in c.self.inside) new c.args.event.now c.step.result c.self.invariant c.step.ensures.steps)
 
 pub returns-clause-ordered : goal.returns-clause-ordered
 returns-clause-ordered g c =
     let new = world_over c.step.new.interconnect c.step.new.agents c.step.new.reports.violations c.step.new.strays.items in
-    in_order new (fabric_step c.every_event_keeps_a_fabric.ensures (world_in c.self.inside) new c.args.event.now c.step.result c.self.invariant c.step.ensures)
+    in_order new (fabric_step c.every_event_keeps_a_fabric.ensures (world_in c.self.inside) new c.args.event.now c.step.result c.self.invariant c.step.ensures.steps)
