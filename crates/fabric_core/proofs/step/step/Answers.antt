@@ -1,0 +1,5 @@
+use Rattle.std.proofs.Common.{rules}
+use Rattle.fabric_core.proofs.step.step.Goals as goal
+
+pub returns-in-Credit-clause-steps : goal.returns-in-Credit-clause-steps
+returns-in-Credit-clause-steps g c = search rules
