@@ -1,9 +1,11 @@
-//! Tests of ports and of domains by their public calls: what no text of a run shows.
+//! Tests of ports, of domains and of the lines of their journals by public calls: what no text of a run shows.
 #![tactic(auto)]
 
 #[cfg(test)]
 mod domains;
 #[cfg(test)]
 mod fakes;
+#[cfg(test)]
+mod journals;
 #[cfg(test)]
 mod turns;

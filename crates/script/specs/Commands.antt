@@ -20,12 +20,16 @@ decimal_within least most field = do
 abbrev pub domain_text : List ℕ → Option ℕ
 domain_text field = decimal_within 1 31 field
 
--- `submit ID HEX`
-abbrev pub submit_text : List ℕ → Option Command
-submit_text rest = do
+-- `ID HEX`: a function and the bytes that it submits
+abbrev pub submission_of : List ℕ → Option (ℕ × List ℕ)
+submission_of rest = do
   function ← at_blank rest
   id ← id_at function.0
-  option_map (Submit id) (packet_bytes function.1)
+  option_map (λ bytes. (id, bytes)) (packet_bytes function.1)
+
+-- `submit ID HEX`
+abbrev pub submit_text : List ℕ → Option Command
+submit_text rest = option_map (λ s. Submit s.0 s.1) (submission_of rest)
 
 -- `tick ID`
 abbrev pub tick_text : List ℕ → Option Command
@@ -43,15 +47,20 @@ access_text word id_field offset_field operand = do
   offset ← hexadecimal 3 3 offset_field
   option_map (λ operation. record { function = function; offset = offset; operation = operation }) (operation_text word operand)
 
+-- `read ID OFF DWS`, or `write ID OFF HEX`
+abbrev pub access_of : List ℕ → Option HostAccess
+access_of rest = do
+  word ← at_blank rest
+  function ← at_blank word.1
+  offset ← at_blank function.1
+  access_text word.0 function.0 offset.0 offset.1
+
 -- `mmio D read ID OFF DWS`, or `mmio D write ID OFF HEX`
 abbrev pub mmio_text : List ℕ → Option Command
 mmio_text rest = do
   domain ← at_blank rest
-  word ← at_blank domain.1
-  function ← at_blank word.1
-  offset ← at_blank function.1
   number ← domain_text domain.0
-  option_map (Mmio number) (access_text word.0 function.0 offset.0 offset.1)
+  option_map (Mmio number) (access_of domain.1)
 
 -- `sweep N`, 1 to 1,000,000 turns
 abbrev pub sweep_text : List ℕ → Option Command

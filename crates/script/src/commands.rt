@@ -3,11 +3,11 @@
 ghost use Rattle.std.specs.Prelude.{◌≡◌, ◌≤◌, IfSome};
 ghost use Rattle.text.specs.Text.{hexadecimal};
 ghost use Rattle.script.specs.Answers.{IsRead};
-ghost use Rattle.script.specs.Commands.{decimal_within, domain_text, submit_text, tick_text, operation_text, access_text, mmio_text, sweep_text, command_of_word, command_of};
+ghost use Rattle.script.specs.Commands.{decimal_within, domain_text, submission_of, submit_text, tick_text, operation_text, access_text, access_of, mmio_text, sweep_text, command_of_word, command_of};
 
 use crate::lines::Command;
 use crate::packet_word::packet_bytes;
-use fab_types::{DomainId, HostAccess, Operation, ScriptCause};
+use fab_types::{Bdf, DomainId, HostAccess, Operation, PacketBytes, ScriptCause};
 use std::alloc::Global;
 use text::{at_blank, decimal, hexadecimal, id, is_keyword};
 
@@ -26,7 +26,8 @@ fn decimal_within(field: &[u8], least: u32, most: u32) -> Option<u32>
     }
 }
 
-fn domain_text(field: &[u8]) -> Option<DomainId>
+/// The number of a domain in decimal digits.
+pub fn domain_of(field: &[u8]) -> Option<DomainId>
     ensures { result ≡ domain_text field.now }
 {
     DomainId::new(decimal_within(field, 1, 31)? as u8)
@@ -38,12 +39,24 @@ fn offset_text(field: &[u8]) -> Option<u16>
     Some(hexadecimal(field, 3, 3)? as u16)
 }
 
-fn submit_text(alloc: Global, rest: &[u8]) -> Result<Command, ScriptCause>
-    ensures { IsRead (submit_text rest.now) result }
+/// A function and the bytes that it submits: `ID HEX`.
+///
+/// # Errors
+///
+/// `Line` where the text has another form, and `NoMemory` where memory was refused.
+pub fn submission_of(alloc: Global, rest: &[u8]) -> Result<(Bdf, PacketBytes), ScriptCause>
+    ensures { IsRead (submission_of rest.now) result }
 {
     let fields = at_blank(rest).ok_or(ScriptCause::Line)?;
     let function = id(fields.before).ok_or(ScriptCause::Line)?;
-    Ok(Command::Submit(function, packet_bytes(alloc, fields.after)?))
+    Ok((function, packet_bytes(alloc, fields.after)?))
+}
+
+fn submit_text(alloc: Global, rest: &[u8]) -> Result<Command, ScriptCause>
+    ensures { IsRead (submit_text rest.now) result }
+{
+    let (function, bytes) = submission_of(alloc, rest)?;
+    Ok(Command::Submit(function, bytes))
 }
 
 fn tick_text(rest: &[u8]) -> Result<Command, ScriptCause>
@@ -85,15 +98,18 @@ fn access_text(alloc: Global, fields: &AccessFields<'_>) -> Result<HostAccess, S
     })
 }
 
-fn mmio_text(alloc: Global, rest: &[u8]) -> Result<Command, ScriptCause>
-    ensures { IsRead (mmio_text rest.now) result }
+/// What a host asks of a register page: `read ID OFF DWS`, or `write ID OFF HEX`.
+///
+/// # Errors
+///
+/// `Line` where the text has another form, and `NoMemory` where memory was refused.
+pub fn access_of(alloc: Global, rest: &[u8]) -> Result<HostAccess, ScriptCause>
+    ensures { IsRead (access_of rest.now) result }
 {
-    let domain = at_blank(rest).ok_or(ScriptCause::Line)?;
-    let word = at_blank(domain.after).ok_or(ScriptCause::Line)?;
+    let word = at_blank(rest).ok_or(ScriptCause::Line)?;
     let function = at_blank(word.after).ok_or(ScriptCause::Line)?;
     let offset = at_blank(function.after).ok_or(ScriptCause::Line)?;
-    let number = domain_text(domain.before).ok_or(ScriptCause::Line)?;
-    let access = access_text(
+    access_text(
         alloc,
         &AccessFields {
             word: word.before,
@@ -101,8 +117,15 @@ fn mmio_text(alloc: Global, rest: &[u8]) -> Result<Command, ScriptCause>
             offset: offset.before,
             operand: offset.after,
         },
-    )?;
-    Ok(Command::Mmio(number, access))
+    )
+}
+
+fn mmio_text(alloc: Global, rest: &[u8]) -> Result<Command, ScriptCause>
+    ensures { IsRead (mmio_text rest.now) result }
+{
+    let domain = at_blank(rest).ok_or(ScriptCause::Line)?;
+    let number = domain_of(domain.before).ok_or(ScriptCause::Line)?;
+    Ok(Command::Mmio(number, access_of(alloc, domain.after)?))
 }
 
 fn sweep_text(rest: &[u8]) -> Result<Command, ScriptCause>

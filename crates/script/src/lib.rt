@@ -6,6 +6,7 @@ mod lines;
 mod packet_word;
 mod read;
 
+pub use commands::{access_of, domain_of, submission_of};
 pub use fab_types::ScriptFault;
 pub use lines::{Command, Line};
 pub use packet_word::packet_bytes;

@@ -31,11 +31,14 @@ digits-stop digit base high i text below is =
 pub digits-small : (base high d i : ℕ) → high < base ^ i → high * base + d < base ^ i * base → high * base + d < base ^ (i + 1)
 digits-small base high d i small next = rw (add-one, pow-suc base i) next
 
-pub below_ten : (high i : ℕ) → high < 10 ^ i → i ≤ 8 → high < 100000000
+pub below_ten : (high i : ℕ) → high < 10 ^ i → i ≤ 19 → high < 10 ^ 19
 below_ten high i small few = omega (arith, pow-le-pow_right {n = 10} (lit< tt) few)
 
 pub below_sixteen : (high i : ℕ) → high < 16 ^ i → i ≤ 15 → high < 1152921504606846976
 below_sixteen high i small few = omega (arith, pow-le-pow_right {n = 16} (lit< tt) few)
+
+pub grown_ten : (value n m : ℕ) → n ≤ m → value < 10 ^ n → value < 10 ^ m
+grown_ten value n m le small = omega (arith, pow-le-pow_right {n = 10} (lit< tt) le)
 
 pub small-grown : (value : Option ℕ) (n m : ℕ) → n ≤ m → IfSome value (λ v. v < 16 ^ n) → IfSome value (λ v. v < 16 ^ m)
 small-grown None n m le small = small

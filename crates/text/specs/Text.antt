@@ -1,5 +1,5 @@
 -- The lines of a text, the fields of a line, and numbers and IDs in them.
-use Rattle.std.specs.Prelude.{ℕ, ◌+◌, ◌*◌, ◌-◌, ◌==◌, Bool, true, false, ◌&&◌, nat_lt, nat_le, List, [], ◌∷◌, length, take, drop, slice_index, Option, Some, None, option_map, option_and_then, if◌then◌else◌}
+use Rattle.std.specs.Prelude.{ℕ, ◌+◌, ◌*◌, ◌-◌, ◌^◌, ◌==◌, Bool, true, false, ◌&&◌, nat_lt, nat_le, List, [], ◌∷◌, length, take, drop, slice_index, Option, Some, None, option_map, option_and_then, if◌then◌else◌}
 use Rattle.std.specs.List.{position}
 use Rattle.fab_types.specs.Id.{id_of}
 
@@ -55,6 +55,12 @@ digits digit base high (b ∷ text) = option_and_then (λ d. digits digit base (
 -- one to nine decimal digits; leading zeros are allowed
 unfoldable pub decimal : List ℕ → Option ℕ
 decimal text = if nat_le 1 (length text) && nat_le (length text) 9 then digits decimal_digit 10 0 text else None
+
+-- a number of 64 bits, in one to twenty decimal digits; leading zeros are allowed
+unfoldable pub wide_decimal : List ℕ → Option ℕ
+wide_decimal text = do
+  n ← if nat_le 1 (length text) && nat_le (length text) 20 then digits decimal_digit 10 0 text else None
+  if nat_lt n (2 ^ 64) then Some n else None
 
 -- so many hexadecimal digits in lower case
 unfoldable pub hexadecimal : ℕ → ℕ → List ℕ → Option ℕ

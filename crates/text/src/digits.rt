@@ -1,7 +1,7 @@
 //! Numbers and IDs in a text.
 
 ghost use Rattle.std.specs.Prelude.{◌≡◌, ℕ, ◌<◌, ◌≤◌, ◌^◌, length, IfSome};
-ghost use Rattle.text.specs.Text.{decimal_digit, hex_digit, digits, decimal, hexadecimal, hex_pair, id_of_known, id_of_parts, id_at};
+ghost use Rattle.text.specs.Text.{decimal_digit, hex_digit, digits, decimal, wide_decimal, hexadecimal, hex_pair, id_of_known, id_of_parts, id_at};
 
 use fab_types::Bdf;
 
@@ -30,14 +30,16 @@ fn hex_digit(byte: u8) -> Option<u8>
     None
 }
 
-fn decimal_value(text: &[u8]) -> Option<u32>
-    requires { length text.now ≤ 9 }
-    ensures { result ≡ digits decimal_digit 10 0 text.now }
+/// Twenty digits fit in 128 bits with room to spare.
+fn decimal_value(text: &[u8]) -> Option<u128>
+    requires { length text.now ≤ 20 }
+    ensures value { result ≡ digits decimal_digit 10 0 text.now }
+    ensures small { IfSome result (λ value. value < 10 ^ length text.now) }
 {
-    let mut value: u32 = 0;
+    let mut value: u128 = 0;
     for byte in text {
         match decimal_digit(*byte) {
-            Some(digit) => value = value * 10 + u32::from(digit),
+            Some(digit) => value = value * 10 + u128::from(digit),
             None => return None,
         }
     }
@@ -65,7 +67,19 @@ pub fn decimal(text: &[u8]) -> Option<u32>
     ensures { result ≡ decimal text.now }
 {
     if 1 <= text.len() && text.len() <= 9 {
-        decimal_value(text)
+        Some(decimal_value(text)? as u32)
+    } else {
+        None
+    }
+}
+
+/// A number of 64 bits, in one to twenty decimal digits. Leading zeros are allowed.
+#[tactic(auto, unfolding(crate::specs::Text::wide_decimal))]
+pub fn wide_decimal(text: &[u8]) -> Option<u64>
+    ensures { result ≡ wide_decimal text.now }
+{
+    if 1 <= text.len() && text.len() <= 20 {
+        u64::try_from(decimal_value(text)?).ok()
     } else {
         None
     }

@@ -4,5 +4,5 @@
 mod digits;
 mod fields;
 
-pub use digits::{decimal, hex_byte, hex_word, hexadecimal, id};
+pub use digits::{decimal, hex_byte, hex_word, hexadecimal, id, wide_decimal};
 pub use fields::{Parts, at_blank, cut, is_comment, is_keyword};
