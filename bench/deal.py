@@ -4,7 +4,7 @@ import random, sys
 
 from switches import text
 
-CONTROLS = [0x00, 0x01, 0x02, 0x04, 0x08, 0x10, 0x1b, 0x1d]
+CONTROLS = [0x01, 0x02, 0x04, 0x08, 0x10]
 ENABLES = [0x0f, 0x0f, 0x0c, 0x06, 0x00, 0xff, 0xff, 0x3c, 0x8f]
 
 
@@ -16,9 +16,8 @@ class Deal:
         self.switches = self.dice.randrange(1, 5)
 
     def controls(self):
-        if self.is_guarded or self.dice.random() < 0.4:
-            return 0x1f
-        return self.dice.choice(CONTROLS)
+        """All five in a guarded layout; in any other each is cleared one time in three."""
+        return sum(control for control in CONTROLS if self.is_guarded or self.dice.random() < 2 / 3)
 
     def switch(self, above, bus, base, owner, depth):
         """Adds the lines of a switch, and answers the first bus and address that are free below it."""
@@ -46,7 +45,8 @@ class Deal:
             for page in self.dice.sample([1, 2, 3, 0x90000, 0x100001], 3):
                 target = f'frame {own * 3 + self.dice.randrange(3)}'
                 if self.dice.random() < 0.3:
-                    target = f'peer {text(self.dice.choice(peers))}'
+                    # Itself among them, at times.
+                    target = f'peer {text(self.dice.choice([bdf, *peers]))}'
                 self.lines.append(f'map {text(bdf)} {page:x} {target} {self.dice.choice(["r", "w", "rw", "rw"])}')
             if self.dice.random() < 0.3:
                 limits = [self.dice.randrange(low, low + 5) for low in (1, 16) * 3]
@@ -61,7 +61,9 @@ class Deal:
             lines.append(self.command())
             if self.dice.random() < 0.3:
                 lines.append(f'sweep {self.dice.choice([1, 1, 2, 5, 30])}')
-        return self.garbled(lines + ['sweep 1000'])
+        if self.dice.random() < 0.9:
+            lines.append('sweep 1000')
+        return self.garbled(lines)
 
     def garbled(self, lines):
         """Now and then a line is lost, or stands twice, or has another character."""
@@ -102,27 +104,37 @@ class Deal:
         return self.offset(), self.dice.randbytes(self.dice.choice([1, 3, 4, 8, 40])).hex()
 
     def address(self):
-        page = self.dice.choice([1, 1, 2, 3, 0x90000, 0x100001, 5])
+        """In a page that may be mapped, in that of a frame's number, or in the register page of any function."""
+        page = self.dice.choice([1, 1, 2, 3, 0x90000, 0x100001, self.dice.randrange(12)])
         if self.functions and self.dice.random() < 0.3:
             page = self.dice.choice(self.functions)[2] >> 12
         return page << 12 | self.dice.choice([0, 0, 4, 0x100, 0x400, 0xff8, 0xffc])
+
+    def requester(self, bdf):
+        """Mostly the function itself, else another one, a host, or nobody."""
+        if self.dice.random() < 0.75:
+            return bdf
+        other = self.dice.choice(self.functions)[0] if self.functions else bdf
+        host, nobody = self.dice.randrange(5) << 3, self.dice.choice([0x0100, 0xfe00, bdf | 8])
+        return self.dice.choice([other, other, host, nobody])
 
     def packet(self, bdf):
         """Mostly a request to memory, by the function or in the name of another."""
         if self.dice.random() < 0.05:
             return self.dice.randbytes(self.dice.randrange(0, 40)).hex()
-        if self.functions and self.dice.random() < 0.15:
-            bdf = self.dice.choice(self.functions)[0]
-        kind = self.dice.choice([0, 0, 0, 0, 0, 0, 2, 4, 0x34, 0x0a, 0x0c])
-        has_data = self.dice.random() < 0.5
+        kind = self.dice.choice([0, 0, 0, 0, 0, 0, 0, 2, 4, 0x34, 0x0a, 0x0c])
+        has_data = self.dice.random() < 0.4
         count = self.dice.choice([1, 1, 1, 2, 4, 33, 64, 65])
         address = self.address()
         is_long = address >> 32 != 0 or self.dice.random() < 0.03
         enables = self.dice.choice(ENABLES) if self.dice.random() < 0.2 else 0x0f if count == 1 else 0xff
         head = (kind << 24 | has_data << 30 | is_long << 29 | self.dice.choice([0, 0, 0x2000, 0x1000, 0x40000]) | count)
-        if self.dice.random() < 0.15:
-            head |= self.dice.choice([0x400, 0x800, 0xc00, 0x4000, 0x8000, 0x100000])
-        words = [head, bdf << 16 | self.dice.randrange(4) << 8 | enables]
+        if self.dice.random() < 0.2:
+            # Address types.
+            head |= self.dice.choice([0x400, 0x800, 0x800, 0xc00])
+        if self.dice.random() < 0.05:
+            head |= self.dice.choice([0x4000, 0x8000, 0x100000])
+        words = [head, self.requester(bdf) << 16 | self.dice.randrange(8) << 8 | enables]
         words += [address >> 32, address & 0xffffffff] if is_long else [address & 0xffffffff]
         data = self.dice.randbytes(4 * count) if has_data else b''
         return b''.join(word.to_bytes(4, 'big') for word in words).hex() + data.hex()

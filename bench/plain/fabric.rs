@@ -1,9 +1,10 @@
 //! The fabric: all places of packets, and the events that move them.
 
 use crate::domain::{Fault, Tenants};
+use crate::header::{Class, Status, CLASSES};
 use crate::id::Id;
-use crate::link::{Channel, Frame, Party, Queue};
-use crate::packet::{Class, Kind, Status, CLASSES};
+use crate::journal::Place;
+use crate::link::{Channel, Queue};
 use crate::port::{Course, Switch, Test};
 use crate::script::Command;
 
@@ -15,6 +16,8 @@ pub struct Port {
     pub exit: Option<usize>,
     /// None where nothing stands below.
     pub input: Option<usize>,
+    /// Where it takes them.
+    pub place: Place,
 }
 
 /// A request that a port's test refused.
@@ -75,7 +78,7 @@ impl Fabric {
             Command::Submit(id, bytes) => self.tenants.submit(id, bytes).map(Some),
             Command::Tick(id) => self.tenants.tick(id),
             Command::Mmio { domain, function, offset, access } => {
-                let made = self.tenants.mmio(domain, function, offset, &access);
+                let made = self.tenants.mmio(domain, function, offset, access);
                 made.map(|(d, frame)| Some((self.tenants.functions.len() + d, frame)))
             }
         };
@@ -132,7 +135,7 @@ impl Fabric {
 
     /// A port takes a packet, and sends it on or ends it.
     fn pass(&mut self, port: usize, class: Class) -> bool {
-        let Port { switch, exit, input: Some(input), .. } = self.ports[port] else {
+        let Port { switch, exit, input: Some(input), place, .. } = self.ports[port] else {
             return false;
         };
         let Some(frame) = self.channels[input].arrived(class) else {
@@ -150,12 +153,15 @@ impl Fabric {
                 let down = exit.and_then(|own| switch.exits[own].down);
                 return self.stop(port, down, input, class, status, test);
             }
-            Course::Lose => drop(self.channels[input].take(class)),
+            Course::Lose => {
+                let frame = self.channels[input].take(class);
+                frame.into_iter().for_each(|frame| self.tenants.lose(place, &frame));
+            }
         }
         true
     }
 
-    /// A downstream port refuses a packet. The answer to a request leaves by the link on which that came, for the
+    /// A downstream port stops a packet. The answer to a request leaves by the link on which that came, for the
     /// function that sent it.
     fn stop(
         &mut self,
@@ -173,18 +179,16 @@ impl Fabric {
         if is_answered && self.channels[down].egress.is_full(Class::Completion) {
             return false;
         }
-        let Some(Frame { home, party: Party::Function(f), packet }) = self.channels[input].take(class) else {
-            // A completion that would go back is discarded.
-            return true;
+        let Some(frame) = self.channels[input].take(class) else {
+            return false;
         };
-        let id = self.ports[port].id;
-        let sender = self.tenants.functions[usize::from(f)].id;
-        if is_answered {
-            let party = Party::PortAnswer(sender.bus());
-            self.channels[down].egress.put(Frame { home, party, packet: packet.refusal(id, status) });
+        let Port { id, place, .. } = self.ports[port];
+        let answer = is_answered.then(|| frame.packet.refusal(id, status));
+        if let Some(answer) = self.tenants.stop(place, &frame, answer) {
+            self.channels[down].egress.put(answer);
         }
-        if let Some(test) = test {
-            let requester = packet.header.requester;
+        if let Some((test, sender)) = test.zip(self.tenants.sender(&frame)) {
+            let requester = frame.packet.header.requester;
             self.violations.push(Violation { port: id, test, sender, requester, is_posted: !is_answered });
         }
         true
@@ -195,9 +199,8 @@ impl Fabric {
         let Some(frame) = self.channels[self.root_up].arrived(class) else {
             return false;
         };
-        let header = &frame.packet.header;
-        let is_completion = header.kind == Kind::Completion;
-        let is_relayed = is_completion && header.requester.bus() != 0;
+        let is_completion = class == Class::Completion;
+        let is_relayed = is_completion && frame.packet.header.requester.bus() != 0;
         if is_relayed && self.channels[self.root_down].egress.is_full(class) {
             return false;
         }

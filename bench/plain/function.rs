@@ -1,7 +1,8 @@
 //! Functions: register pages, their programs, open Tags and tables.
 
+use crate::header::Status;
 use crate::id::Id;
-use crate::packet::{Packet, Status};
+use crate::packet::Packet;
 
 /// What a Tag was opened for: by a submitted packet, or by a read line of the program.
 #[derive(Clone, Copy, PartialEq, Eq, Debug)]

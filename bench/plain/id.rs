@@ -27,11 +27,6 @@ impl Id {
     pub fn function(self) -> u8 {
         (self.0 & 7) as u8
     }
-
-    /// The only function of the first device.
-    pub fn is_first_of_bus(self) -> bool {
-        self.0 & 0xff == 0
-    }
 }
 
 impl fmt::Display for Id {

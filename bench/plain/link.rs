@@ -1,29 +1,33 @@
 //! Queues of three classes, and the directions of links with their credits.
 
-use crate::packet::{Class, Packet, CLASSES};
+use crate::header::{Class, CLASSES};
+use crate::packet::Packet;
 use std::collections::VecDeque;
 
 /// Places of a class in an egress queue.
 const EGRESS: usize = 16;
 
-/// Who a packet is for, beside what its header says.
+/// Who made a packet, and for whom, beside what its header says. Functions stand here by their numbers.
 #[derive(Clone, Copy, Debug)]
 pub enum Party {
-    /// A function submitted it or its program sent it: the number of that function.
+    /// A function submitted it or its program sent it.
     Function(u8),
-    /// A request of the host.
-    Host,
-    /// A completion by the host or a function.
-    Answer,
+    /// A request of the host to a function.
+    Host(u8),
+    /// A completion by the host.
+    HostAnswer,
+    /// A completion by a function.
+    FunctionAnswer(u8),
     /// A completion by a port. It goes to the function on this bus, whatever Requester ID it bears.
     PortAnswer(u8),
 }
 
-/// A packet under way, with the number of the domain that made it.
+/// A packet under way, with the domain that made it and its number there.
 #[derive(Debug)]
 pub struct Frame {
     pub home: u8,
     pub party: Party,
+    pub number: u64,
     pub packet: Packet,
 }
 

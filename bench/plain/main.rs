@@ -2,15 +2,19 @@
 //! check of what it prints, written from docs/ and not from the crates. Nothing of it is proved.
 //!
 //!     rustc --edition 2021 -O -o plain bench/plain/main.rs
-//!     plain run LAYOUT SCRIPT     prints what `pciefab run` prints
-//!     plain time LAYOUT SCRIPT    prints NANOSECONDS MOVED ALL of the script's events, by processor time
+//!     plain run LAYOUT SCRIPT               prints what `pciefab run` prints
+//!     plain journal LAYOUT SCRIPT DOMAIN    prints what `pciefab journal` prints
+//!     plain time LAYOUT SCRIPT              prints NANOSECONDS MOVED ALL of the script's events, by processor time
 
 mod build;
 mod clock;
 mod domain;
+mod ends;
 mod fabric;
 mod function;
+mod header;
 mod id;
+mod journal;
 mod layout;
 mod link;
 mod packet;
@@ -49,6 +53,20 @@ fn run(layout: &str, script: &str) -> Result<String, String> {
     Ok(out)
 }
 
+/// The journal of a domain after a run.
+fn journal(layout: &str, script: &str, word: &str) -> Result<String, String> {
+    let number = words::decimal(word).ok_or("usage")?;
+    let (mut fabric, commands) = read(layout, script)?;
+    let domain = fabric.tenants.domains.iter().position(|domain| u32::from(domain.number) == number);
+    let domain = domain.ok_or_else(|| format!("domain {number}: none"))?;
+    for (_, command) in commands {
+        // A refused begin is in no journal.
+        let _ = fabric.obey(command);
+    }
+    let domain = &fabric.tenants.domains[domain];
+    Ok(domain.journal.text(domain.number))
+}
+
 fn time(layout: &str, script: &str) -> Result<String, String> {
     let (mut fabric, commands) = read(layout, script)?;
     let start = clock::processor_time();
@@ -65,6 +83,7 @@ fn main() -> ExitCode {
     let words: Vec<&str> = words.iter().map(String::as_str).collect();
     let answer = match words[..] {
         ["run", layout, script] => run(layout, script),
+        ["journal", layout, script, domain] => journal(layout, script, domain),
         ["time", layout, script] => time(layout, script),
         _ => Err("usage".to_string()),
     };

@@ -1,73 +1,7 @@
-//! Packets: reading headers, and making requests and completions.
+//! Packets: making requests and completions, and what is done with their payload.
 
+use crate::header::{Header, Kind, Status};
 use crate::id::Id;
-
-#[derive(Clone, Copy, PartialEq, Eq, Debug)]
-pub enum Class {
-    Posted,
-    NonPosted,
-    Completion,
-}
-
-pub const CLASSES: [Class; 3] = [Class::Posted, Class::NonPosted, Class::Completion];
-
-/// What ports and ends tell apart. Requests of other kinds never pass their first port.
-#[derive(Clone, Copy, PartialEq, Eq, Debug)]
-pub enum Kind {
-    Malformed,
-    Read,
-    Write,
-    Other,
-    Completion,
-}
-
-#[derive(Clone, Copy, PartialEq, Eq, Debug)]
-pub enum Status {
-    Success = 0,
-    Unsupported = 1,
-    Retry = 2,
-    Abort = 4,
-}
-
-impl Status {
-    fn of_bits(bits: u8) -> Option<Status> {
-        match bits {
-            0 => Some(Status::Success),
-            1 => Some(Status::Unsupported),
-            2 => Some(Status::Retry),
-            4 => Some(Status::Abort),
-            _ => None,
-        }
-    }
-
-    pub fn name(self) -> &'static str {
-        match self {
-            Status::Success => "SC",
-            Status::Unsupported => "UR",
-            Status::Retry => "CRS",
-            Status::Abort => "CA",
-        }
-    }
-}
-
-/// The header fields that somebody looks at. Those that a kind hasn't are 0.
-#[derive(Clone, Copy, Debug)]
-pub struct Header {
-    pub kind: Kind,
-    pub class: Class,
-    pub status: Status,
-    /// Header size in bytes.
-    pub size: u8,
-    pub relaxed: bool,
-    pub address_type: u8,
-    pub tag: u8,
-    pub first: u8,
-    pub last: u8,
-    /// Length in DW, 1 to 1,024, also where the kind has no data.
-    pub dws: u16,
-    pub requester: Id,
-    pub address: u64,
-}
 
 /// A packet with its header, read once.
 #[derive(Debug)]
@@ -76,102 +10,9 @@ pub struct Packet {
     pub bytes: Vec<u8>,
 }
 
-/// Malformed bytes travel as posted.
-const MALFORMED: Header = Header {
-    kind: Kind::Malformed,
-    class: Class::Posted,
-    status: Status::Success,
-    size: 0,
-    relaxed: false,
-    address_type: 0,
-    tag: 0,
-    first: 0,
-    last: 0,
-    dws: 0,
-    requester: Id(0),
-    address: 0,
-};
-
-/// Kind and class of a pair of Fmt and Type; and whether Length must be 1.
-fn kind_of(form: u8, code: u8) -> Option<(Kind, Class, bool)> {
-    let other = |is_one| Some((Kind::Other, Class::NonPosted, is_one));
-    match (form, code) {
-        (0 | 1, 0) => Some((Kind::Read, Class::NonPosted, false)),
-        (2 | 3, 0) => Some((Kind::Write, Class::Posted, false)),
-        (0 | 1, 1) | (2 | 3, 12..=14) => other(false),
-        (0 | 2, 2 | 4 | 5) => other(true),
-        (1 | 3, 16..=23) => Some((Kind::Other, Class::Posted, false)),
-        (0 | 2, 10 | 11) => Some((Kind::Completion, Class::Completion, false)),
-        _ => None,
-    }
-}
-
-fn word(bytes: &[u8], at: usize) -> u32 {
-    u32::from_be_bytes([bytes[at], bytes[at + 1], bytes[at + 2], bytes[at + 3]])
-}
-
-fn id_at(bytes: &[u8], at: usize) -> Id {
-    Id(u16::from_be_bytes([bytes[at], bytes[at + 1]]))
-}
-
-/// The fields of well-formed bytes. Nobody sees which of the seven causes makes bytes malformed, so their order is free.
-fn well_formed(bytes: &[u8]) -> Option<Header> {
-    let is_wide = bytes.first()? & 0x20 != 0;
-    let size = if is_wide { 16 } else { 12 };
-    if bytes.len() < size {
-        return None;
-    }
-    let (kind, class, is_one) = kind_of(bytes[0] >> 5, bytes[0] & 31)?;
-    // A field of 0 stands for 1,024.
-    let dws = ((word(bytes, 0) & 0x3ff).wrapping_sub(1) & 0x3ff) as u16 + 1;
-    let data = if bytes[0] & 0x40 != 0 { 4 * usize::from(dws) } else { 0 };
-    if bytes.len() != size + data || data > 256 || is_one && dws != 1 {
-        return None;
-    }
-    // T9, TC, T8, LN and TH of byte 1, TD and EP of byte 2.
-    if bytes[1] & 0xfb != 0 || bytes[2] & 0xc0 != 0 {
-        return None;
-    }
-    let common = Header { kind, class, size: size as u8, dws, relaxed: bytes[2] & 0x20 != 0, ..MALFORMED };
-    match kind {
-        Kind::Read | Kind::Write => memory(bytes, is_wide, common),
-        Kind::Completion => completion(bytes, common),
-        _ => Some(Header { requester: id_at(bytes, 4), tag: bytes[6], ..common }),
-    }
-}
-
-fn memory(bytes: &[u8], is_wide: bool, common: Header) -> Option<Header> {
-    let low = u64::from(word(bytes, if is_wide { 12 } else { 8 }));
-    let high = if is_wide { u64::from(word(bytes, 8)) } else { 0 };
-    let address = high << 32 | low;
-    let (first, last) = (bytes[7] & 15, bytes[7] >> 4);
-    let is_inside = address % 4096 + 4 * u64::from(common.dws) <= 4096;
-    if !are_enables(first, last, common.dws, address) || !is_inside || is_wide && high == 0 || address % 4 != 0 {
-        return None;
-    }
-    let address_type = bytes[2] >> 2 & 3;
-    Some(Header { requester: id_at(bytes, 4), tag: bytes[6], address_type, first, last, address, ..common })
-}
-
-fn are_enables(first: u8, last: u8, dws: u16, address: u64) -> bool {
-    if dws == 1 {
-        return last == 0;
-    }
-    let may_be_sparse = dws == 2 && address % 8 == 0;
-    first != 0 && last != 0 && (may_be_sparse || matches!(first, 15 | 14 | 12 | 8) && matches!(last, 15 | 7 | 3 | 1))
-}
-
-fn completion(bytes: &[u8], common: Header) -> Option<Header> {
-    if bytes[6] & 0x10 != 0 {
-        return None;
-    }
-    let status = Status::of_bits(bytes[6] >> 5)?;
-    Some(Header { requester: id_at(bytes, 8), tag: bytes[10], status, ..common })
-}
-
 impl Packet {
     pub fn read(bytes: Vec<u8>) -> Packet {
-        Packet { header: well_formed(&bytes).unwrap_or(MALFORMED), bytes }
+        Packet { header: Header::read(&bytes), bytes }
     }
 
     /// A read of so many DW: all bytes enabled, no relaxed ordering unless it is asked for.
@@ -198,12 +39,9 @@ impl Packet {
             bytes.extend((address as u32).to_be_bytes());
         }
         bytes.extend(data.unwrap_or(&[]));
-        let (kind, class) = if data.is_some() { (Kind::Write, Class::Posted) } else { (Kind::Read, Class::NonPosted) };
+        let header = Header::new(if data.is_some() { Kind::MWr } else { Kind::MRd });
         let size = if is_wide { 16 } else { 12 };
-        Packet {
-            header: Header { kind, class, size, relaxed, tag, first, last, dws, requester, address, ..MALFORMED },
-            bytes,
-        }
+        Packet { header: Header { size, relaxed, tag, first, last, dws, requester, address, ..header }, bytes }
     }
 
     /// The same memory request at an address below 4 GB, in the short form.
@@ -239,7 +77,7 @@ impl Packet {
 
     fn completion(&self, completer: Id, status: Status, count: u16, lower: u8, data: &[u8]) -> Packet {
         let Header { requester, tag, relaxed, .. } = self.header;
-        let form = if data.is_empty() { 0x0a } else { 0x4a };
+        let (form, kind) = if data.is_empty() { (0x0a, Kind::Cpl) } else { (0x4a, Kind::CplD) };
         let mut bytes = Vec::with_capacity(12 + data.len());
         bytes.extend([form, self.bytes[1] & 0x04, self.bytes[2] & 0x30, (data.len() / 4) as u8]);
         bytes.extend(completer.0.to_be_bytes());
@@ -247,8 +85,7 @@ impl Packet {
         bytes.extend(requester.0.to_be_bytes());
         bytes.extend([tag, lower]);
         bytes.extend(data);
-        let (kind, class) = (Kind::Completion, Class::Completion);
-        Packet { header: Header { kind, class, status, size: 12, relaxed, tag, requester, ..MALFORMED }, bytes }
+        Packet { header: Header { status, size: 12, relaxed, tag, requester, ..Header::new(kind) }, bytes }
     }
 
     pub fn payload(&self) -> &[u8] {
@@ -258,7 +95,7 @@ impl Packet {
     /// Data cost a credit for each 16 bytes begun; those of malformed bytes cost nothing.
     pub fn data_credits(&self) -> u32 {
         match self.header.kind {
-            Kind::Malformed => 0,
+            Kind::Malformed(_) => 0,
             _ => self.payload().len().div_ceil(16) as u32,
         }
     }

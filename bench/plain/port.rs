@@ -1,7 +1,7 @@
 //! Ports of switches: access control and routes.
 
+use crate::header::{Class, Kind, Status};
 use crate::link::{Frame, Party};
-use crate::packet::{Kind, Status};
 
 const VALIDATES_SOURCE: u8 = 1;
 const BLOCKS_TRANSLATED: u8 = 2;
@@ -64,9 +64,9 @@ impl Switch {
     /// The exit that has what the packet is routed by.
     fn holder(&self, frame: &Frame) -> Option<usize> {
         let header = &frame.packet.header;
-        let exit = match (header.kind, frame.party) {
-            (Kind::Completion, Party::PortAnswer(bus)) => self.by_bus[usize::from(bus)],
-            (Kind::Completion, _) => self.by_bus[usize::from(header.requester.bus())],
+        let exit = match (header.class, frame.party) {
+            (Class::Completion, Party::PortAnswer(bus)) => self.by_bus[usize::from(bus)],
+            (Class::Completion, _) => self.by_bus[usize::from(header.requester.bus())],
             _ => match self.by_megabyte.get((header.address >> 20) as usize) {
                 Some(exit) => *exit,
                 None => NOWHERE,
@@ -91,11 +91,11 @@ impl Switch {
     pub fn upward(&self, own: usize, frame: &Frame) -> Course {
         let exit = &self.exits[own];
         let header = &frame.packet.header;
-        let is_memory = matches!(header.kind, Kind::Read | Kind::Write);
-        if header.kind == Kind::Malformed {
+        let is_memory = header.kind.is_memory();
+        if matches!(header.kind, Kind::Malformed(_)) {
             return Course::Stop(Status::Unsupported, None);
         }
-        if header.kind != Kind::Completion {
+        if header.class != Class::Completion {
             if exit.controls & VALIDATES_SOURCE != 0 && !exit.buses.contains(&header.requester.bus()) {
                 return Course::Stop(Status::Abort, Some(Test::Source));
             }
@@ -112,8 +112,8 @@ impl Switch {
     fn redirected(&self, own: usize, frame: &Frame) -> Course {
         let controls = self.exits[own].controls;
         let header = &frame.packet.header;
-        let redirects = match header.kind {
-            Kind::Completion => controls & REDIRECTS_COMPLETIONS != 0 && !header.relaxed,
+        let redirects = match header.class {
+            Class::Completion => controls & REDIRECTS_COMPLETIONS != 0 && !header.relaxed,
             _ => controls & REDIRECTS_REQUESTS != 0,
         };
         match self.holder(frame) {

@@ -3,16 +3,8 @@
 use crate::domain::{Fault, Tenants};
 use crate::fabric::{Fabric, Violation};
 use crate::port::Test;
+use crate::words::Hex;
 use std::fmt::{Display, Write};
-
-/// Bytes in lower-case hexadecimal.
-struct Hex<'a>(&'a [u8]);
-
-impl Display for Hex<'_> {
-    fn fmt(&self, f: &mut std::fmt::Formatter) -> std::fmt::Result {
-        self.0.iter().try_for_each(|byte| write!(f, "{byte:02x}"))
-    }
-}
 
 /// Adds a line. Writing to a String doesn't fail.
 fn add(out: &mut String, line: std::fmt::Arguments) {

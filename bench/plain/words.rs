@@ -1,6 +1,7 @@
-//! The words of layouts and scripts: numbers, IDs, bytes and lines.
+//! The words of layouts, scripts and journals: numbers, IDs, bytes and lines.
 
 use crate::id::Id;
+use std::fmt;
 
 /// One to nine decimal digits; leading zeros are allowed.
 pub fn decimal(word: &str) -> Option<u32> {
@@ -55,6 +56,18 @@ pub fn bytes(word: &str) -> Option<Vec<u8>> {
         return None;
     }
     word.as_bytes().chunks(2).map(|pair| Some(digit(pair[0])? << 4 | digit(pair[1])?)).collect()
+}
+
+/// Bytes as `bytes` reads them.
+pub struct Hex<'a>(pub &'a [u8]);
+
+impl fmt::Display for Hex<'_> {
+    fn fmt(&self, f: &mut fmt::Formatter) -> fmt::Result {
+        if self.0.is_empty() {
+            return f.write_str("-");
+        }
+        self.0.iter().try_for_each(|byte| write!(f, "{byte:02x}"))
+    }
 }
 
 /// The lines of a text with their numbers from 1; of the last one, whether its line feed is missing.

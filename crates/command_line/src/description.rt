@@ -2,7 +2,7 @@
 
 ghost use Rattle.std.specs.Prelude.{◌≡◌, IfOk};
 ghost use Rattle.clap.specs.Words.{App, app_of, new_app, with_rule};
-ghost use Rattle.command_line.specs.CommandLine.{IsDefined, alone_command, commands, files_command, first_command, word_rule};
+ghost use Rattle.command_line.specs.CommandLine.{IsDefined, commands, domain_command, files_command, first_command, run_commands, word_rule};
 
 use clap::{Arg, ArgAction, Command};
 use std::alloc::{AllocError, Global};
@@ -18,6 +18,11 @@ const RUN_ABOUT: &str =
 
 const ALONE_ABOUT: &str = "Runs the same, and prints one domain as its journal alone leaves it";
 
+const JOURNAL_ABOUT: &str = "Runs the same, and prints the journal of one domain, entry by entry";
+
+const REPLAY_ABOUT: &str =
+    "Prints one domain as a journal leaves it that was printed or written before";
+
 const PACKET_HELP: &str = "The bytes of the packet in lower-case hexadecimal, or - for no bytes";
 
 const LAYOUT_HELP: &str =
@@ -25,6 +30,8 @@ const LAYOUT_HELP: &str =
 
 const SCRIPT_HELP: &str =
     "The file of the script: what functions and hosts begin, and when packets move";
+
+const JOURNAL_HELP: &str = "The file of a journal of the domain, as `journal` prints it";
 
 const DOMAIN_HELP: &str = "The number of the domain, 1 to 31";
 
@@ -34,7 +41,7 @@ Example: a posted write of the bytes 11 22 33 44 to address 0x1000, which is map
   $ pciefab first 400000010300000f0000100011223344
   frame 0 000 11223344000000000000000000000000
 
-The text of a layout is described in docs/LAYOUT.md, that of a script and what is printed in docs/FORMATS.md.
+The text of a layout is described in docs/LAYOUT.md, those of a script and a journal and what is printed in docs/FORMATS.md.
 The exit status is 0, 2 where memory is refused, or 1 for any other fault.";
 
 /// A subcommand without words.
@@ -60,13 +67,33 @@ fn with_word<'a>(
     command.arg(word)
 }
 
-/// A subcommand with the names of two files.
-fn with_files<'a>(alloc: Global, name: &'a str, about: &'a str) -> Result<Command<'a>, AllocError>
-    ensures { IfOk result (λ command. IsDefined command (files_command name.entry.now)) }
+/// A subcommand with the names of two files, of a layout and of this.
+fn with_files<'a>(
+    alloc: Global,
+    name: &'a str,
+    about: &'a str,
+    second: &'a str,
+    help: &'a str,
+) -> Result<Command<'a>, AllocError>
+    ensures { IfOk result (λ command. IsDefined command (files_command name.entry.now second.entry.now)) }
 {
     let plain = subcommand(alloc, name, about);
     let with_layout = with_word(alloc, plain, "LAYOUT", LAYOUT_HELP)?;
-    with_word(alloc, with_layout, "SCRIPT", SCRIPT_HELP)
+    with_word(alloc, with_layout, second, help)
+}
+
+/// The same, and the number of a domain.
+fn with_domain<'a>(
+    alloc: Global,
+    name: &'a str,
+    about: &'a str,
+    second: &'a str,
+    help: &'a str,
+) -> Result<Command<'a>, AllocError>
+    ensures { IfOk result (λ command. IsDefined command (domain_command name.entry.now second.entry.now)) }
+{
+    let with_files = with_files(alloc, name, about, second, help)?;
+    with_word(alloc, with_files, "DOMAIN", DOMAIN_HELP)
 }
 
 fn first_definition<'a>(alloc: Global) -> Result<Command<'a>, AllocError>
@@ -76,16 +103,9 @@ fn first_definition<'a>(alloc: Global) -> Result<Command<'a>, AllocError>
     with_word(alloc, plain, "HEX", PACKET_HELP)
 }
 
-fn alone_definition<'a>(alloc: Global) -> Result<Command<'a>, AllocError>
-    ensures { IfOk result (λ command. IsDefined command alone_command) }
-{
-    let with_files = with_files(alloc, "alone", ALONE_ABOUT)?;
-    with_word(alloc, with_files, "DOMAIN", DOMAIN_HELP)
-}
-
-/// The program with its commands.
-pub fn definition<'a>(alloc: Global) -> Result<Command<'a>, AllocError>
-    ensures { IfOk result (λ command. app_of command ≡ commands) }
+/// The program with the commands of a run.
+fn with_runs<'a>(alloc: Global) -> Result<Command<'a>, AllocError>
+    ensures { IfOk result (λ command. app_of command ≡ run_commands) }
 {
     let program = Command::new(alloc, "pciefab")
         .no_binary_name(true)
@@ -94,9 +114,19 @@ pub fn definition<'a>(alloc: Global) -> Result<Command<'a>, AllocError>
         .after_help(EXAMPLE)
         .subcommand_required(true);
     let first = first_definition(alloc)?;
-    let run = with_files(alloc, "run", RUN_ABOUT)?;
-    let alone = alone_definition(alloc)?;
+    let run = with_files(alloc, "run", RUN_ABOUT, "SCRIPT", SCRIPT_HELP)?;
+    let alone = with_domain(alloc, "alone", ALONE_ABOUT, "SCRIPT", SCRIPT_HELP)?;
     let with_first = program.subcommand(first)?;
     let with_run = with_first.subcommand(run)?;
     with_run.subcommand(alone)
+}
+
+/// The program with its commands.
+pub fn definition<'a>(alloc: Global) -> Result<Command<'a>, AllocError>
+    ensures { IfOk result (λ command. app_of command ≡ commands) }
+{
+    let journal = with_domain(alloc, "journal", JOURNAL_ABOUT, "SCRIPT", SCRIPT_HELP)?;
+    let replay = with_domain(alloc, "replay", REPLAY_ABOUT, "JOURNAL", JOURNAL_HELP)?;
+    let with_journal = with_runs(alloc)?.subcommand(journal)?;
+    with_journal.subcommand(replay)
 }

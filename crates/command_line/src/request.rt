@@ -1,10 +1,9 @@
 //! The words of the command line, and what they ask for.
 
-ghost use Rattle.std.specs.Prelude.{◌≡◌, ℕ, IsSomeAnd, MatchResult, Some, codes, map};
+ghost use Rattle.std.specs.Prelude.{◌≡◌, MatchResult, codes, map, option_map};
 ghost use Rattle.std.specs.Option.{option_and_then};
-ghost use Rattle.clap.specs.Words.{Text, first_value, found_of};
-ghost use Rattle.text.specs.Text.{decimal};
-ghost use Rattle.command_line.specs.CommandLine.{Ask, Asked, IsAsked, Says, word_in};
+ghost use Rattle.clap.specs.Words.{first_of, found_of, rows_of};
+ghost use Rattle.command_line.specs.CommandLine.{Ask, Asked, IsAsked, asked_by, asked_in, domain_in, files_in};
 
 use crate::description::definition;
 use clap::ArgMatches;
@@ -41,11 +40,29 @@ pub enum Request<'a> {
     /// To print this text.
     Help(String),
     /// To submit the packet that the word stands for.
-    First { packet: &'a str },
+    First {
+        packet: &'a str,
+    },
     /// To run the fabric of a layout by a script, and to print what it ends in.
-    Run { files: Files<'a> },
+    Run {
+        files: Files<'a>,
+    },
     /// To run the same, and to print this domain from its journal.
-    Alone { files: Files<'a>, domain: u32 },
+    Alone {
+        files: Files<'a>,
+        domain: u32,
+    },
+    /// To run the same, and to print the journal of this domain.
+    Journal {
+        files: Files<'a>,
+        domain: u32,
+    },
+    /// To print this domain of a layout from the journal in a file.
+    Replay {
+        layout: &'a str,
+        journal: &'a str,
+        domain: u32,
+    },
 }
 
 /// The names of the files of a run.
@@ -74,43 +91,61 @@ pub fn read_request<'a, S: AsStr>(alloc: Global, words: &'a [S]) -> Result<Reque
 }
 
 fn requested<'a>(matches: &ArgMatches<'a>) -> Option<Request<'a>>
-    ensures { (asked : Asked) → Says (word_in matches.now) asked → IsSomeAnd result (λ request. IsAsked request asked) }
+    ensures { option_and_then asked_by result ≡ asked_in matches.now }
 {
     match matches.subcommand()? {
-        ("first", words) => first_request(words),
-        ("run", words) => run_request(words),
-        ("alone", words) => alone_request(words),
+        ("first", words) => {
+            let packet = word_in(words, "HEX")?;
+            Some(Request::First { packet })
+        }
+        ("run", words) => {
+            let (layout, script) = files_in(words, "SCRIPT")?;
+            let files = Files { layout, script };
+            Some(Request::Run { files })
+        }
+        ("alone", words) => {
+            let (layout, script, domain) = domain_in(words, "SCRIPT")?;
+            let files = Files { layout, script };
+            Some(Request::Alone { files, domain })
+        }
+        ("journal", words) => {
+            let (layout, script, domain) = domain_in(words, "SCRIPT")?;
+            let files = Files { layout, script };
+            Some(Request::Journal { files, domain })
+        }
+        ("replay", words) => {
+            let (layout, journal, domain) = domain_in(words, "JOURNAL")?;
+            Some(Request::Replay {
+                layout,
+                journal,
+                domain,
+            })
+        }
         _ => None,
     }
 }
 
-fn first_request<'a>(words: &ArgMatches<'a>) -> Option<Request<'a>>
-    ensures { (word : Text) → first_value (found_of words.now) (codes "HEX") ≡ Some word → IsSomeAnd result (λ request. IsAsked request (Asked.First word)) }
+/// The word of this name.
+fn word_in<'a>(words: &ArgMatches<'a>, name: &str) -> Option<&'a str>
+    ensures { option_map (λ word. word.now) result ≡ first_of name.now (rows_of (found_of words.now)) }
 {
-    let packet = words.get_str("HEX")?;
-    Some(Request::First { packet })
+    words.get_str(name)
 }
 
-fn files_in<'a>(words: &ArgMatches<'a>) -> Option<Files<'a>>
-    ensures { (layout script : Text) → first_value (found_of words.now) (codes "LAYOUT") ≡ Some layout → first_value (found_of words.now) (codes "SCRIPT") ≡ Some script → IsSomeAnd result (λ files. (files.layout.now ≡ layout) × (files.script.now ≡ script)) }
+/// The names of the files of a layout and of this.
+fn files_in<'a>(words: &ArgMatches<'a>, second: &str) -> Option<(&'a str, &'a str)>
+    ensures { option_map (λ files. (files.0.now, files.1.now)) result ≡ files_in second.now (rows_of (found_of words.now)) }
 {
-    let layout = words.get_str("LAYOUT")?;
-    let script = words.get_str("SCRIPT")?;
-    Some(Files { layout, script })
+    let layout = word_in(words, "LAYOUT")?;
+    let other = word_in(words, second)?;
+    Some((layout, other))
 }
 
-fn run_request<'a>(words: &ArgMatches<'a>) -> Option<Request<'a>>
-    ensures { (layout script : Text) → first_value (found_of words.now) (codes "LAYOUT") ≡ Some layout → first_value (found_of words.now) (codes "SCRIPT") ≡ Some script → IsSomeAnd result (λ request. IsAsked request (Asked.Run layout script)) }
+/// The same, and the number of a domain. None where its word is no decimal number of one to nine digits.
+fn domain_in<'a>(words: &ArgMatches<'a>, second: &str) -> Option<(&'a str, &'a str, u32)>
+    ensures { option_map (λ files. (files.0.now, files.1.now, files.2)) result ≡ domain_in second.now (rows_of (found_of words.now)) }
 {
-    let files = files_in(words)?;
-    Some(Request::Run { files })
-}
-
-/// None where the word of the domain is no decimal number of one to nine digits.
-fn alone_request<'a>(words: &ArgMatches<'a>) -> Option<Request<'a>>
-    ensures { (layout script : Text) (number : ℕ) → first_value (found_of words.now) (codes "LAYOUT") ≡ Some layout → first_value (found_of words.now) (codes "SCRIPT") ≡ Some script → option_and_then decimal (first_value (found_of words.now) (codes "DOMAIN")) ≡ Some number → IsSomeAnd result (λ request. IsAsked request (Asked.Alone layout script number)) }
-{
-    let files = files_in(words)?;
-    let domain = decimal(words.get_str("DOMAIN")?.as_bytes())?;
-    Some(Request::Alone { files, domain })
+    let (layout, other) = files_in(words, second)?;
+    let domain = decimal(word_in(words, "DOMAIN")?.as_bytes())?;
+    Some((layout, other, domain))
 }

@@ -5,6 +5,8 @@ use Rattle.std.specs.declared.io.Error.{Error}
 use Rattle.std.specs.declared.io.ErrorKind.TheVariants as error_kinds
 use Rattle.command_line.specs.declared.request.WordsFault.{WordsFault}
 use Rattle.command_line.specs.declared.request.WordsFault.TheVariants as words
+use Rattle.journals.specs.declared.lines.LineFault.{LineFault}
+use Rattle.journals.specs.declared.lines.LineFault.TheVariants as line_fault
 use Rattle.commands.specs.declared.fault.ExitStatus.{ExitStatus}
 use Rattle.commands.specs.declared.fault.ExitStatus.TheVariants as exit_status
 use Rattle.commands.specs.declared.fault.Fault.{Fault}
@@ -14,6 +16,11 @@ use Rattle.commands.specs.declared.fault.Fault.TheVariants as fault
 abbrev pub fault_of_words : WordsFault → Fault
 fault_of_words words.Usage = fault.Usage
 fault_of_words words.NoMemory = fault.NoMemory
+
+-- what a fault of a journal's line comes to
+abbrev pub fault_of_line : LineFault → Fault
+fault_of_line (line_fault.Illegal line) = fault.IllegalEntry line
+fault_of_line line_fault.NoMemory = fault.NoMemory
 
 -- the number that the host sees
 abbrev pub exit_code : ExitStatus → ℕ

@@ -1,4 +1,4 @@
--- What the commands `run` and `alone` print.
+-- What the commands of runs and of journals print.
 use Rattle.std.specs.Prelude.{◌≡◌, ℕ, List, ◌++◌, Ok, Some}
 use Rattle.platform.specs.Platform.{Platform}
 use Rattle.layout.specs.Reading.{reading}
@@ -14,8 +14,12 @@ use Rattle.commands.specs.Driving.{IsDriven}
 use Rattle.commands.specs.Isolated.{IsIsolated}
 use Rattle.commands.specs.Report.{IsReport}
 use Rattle.reports.specs.Report.{IsPart}
-use Rattle.command_line.specs.CommandLine.{Asked, First, Run, Alone}
+use Rattle.command_line.specs.CommandLine.{Asked, First, Run, Alone, Journal, Replay}
 use Rattle.commands.specs.First.{Prints}
+use Rattle.journal_text.specs.Journals.{journal_text}
+use Rattle.journal_text.specs.Reading as journal
+use Rattle.journals.specs.Steps.{entries_of}
+use Rattle.journal_text.specs.declared.read.JournalLine.{JournalLine}
 
 -- the files of these names have the texts of a platform and of a script
 pub record AreFiles (holds : List ℕ → List ℕ → Type 0) (layout_name script_name : List ℕ) (platform : Platform) (lines : List Line) : Type 0 where
@@ -41,15 +45,19 @@ pub record RunPrints (holds : List ℕ → List ℕ → Type 0) (layout_name scr
   pub reports : IsReport world report
   pub all : text ≡ refused ++ report
 
--- a domain is the replay of its journal in such a run, from what the layout gives it; where the layout is guarded it can't
+-- the domain that has this share in the fabric of a platform that these lines drove; where the layout is guarded it can't
 -- tell that run from the one that is left without the others
-pub record IsReplayed (platform : Platform) (lines : List Line) (share : Share) (domain : DomainView) : Type 0 where
+pub record IsDrivenDomain (platform : Platform) (lines : List Line) (share : Share) (domain : DomainView) : Type 0 where
   pub world : World
   pub refused : List ℕ
   pub driven : IsDriven platform lines world refused
   pub isolated : IsIsolated platform lines world
+  pub there : domain_at world.agents.domains (place_of world.agents.domains share.domain) ≡ Some domain
+
+-- a domain is the replay of its journal in such a run, from what the layout gives it
+pub record IsReplayed (platform : Platform) (lines : List Line) (share : Share) (domain : DomainView) : Type 0 where
   pub ran : DomainView
-  pub there : domain_at world.agents.domains (place_of world.agents.domains share.domain) ≡ Some ran
+  pub run : IsDrivenDomain platform lines share ran
   pub share_is : domain.share ≡ share
   pub journal : domain.journal ≡ ran.journal
   pub replays : replay share ran.journal ≡ Some domain.state
@@ -65,8 +73,39 @@ pub record AlonePrints (holds : List ℕ → List ℕ → Type 0) (layout_name s
   pub replayed : IsReplayed platform lines share domain
   pub part : IsPart domain text
 
+-- what `journal` prints: the journal that the domain of this number has in such a run
+pub record JournalPrints (holds : List ℕ → List ℕ → Type 0) (layout_name script_name : List ℕ) (number : ℕ) (text : List ℕ) : Type 0 where
+  pub platform : Platform
+  pub lines : List Line
+  pub files : AreFiles holds layout_name script_name platform lines
+  pub share : Share
+  pub owner : share_of_owner platform number ≡ Some share
+  pub domain : DomainView
+  pub run : IsDrivenDomain platform lines share domain
+  pub journal : text ≡ journal_text domain.share domain.journal
+
+-- what `replay` prints: the part of the report that the domain of this number has, from the replay of the journal in a file
+pub record ReplayPrints (holds : List ℕ → List ℕ → Type 0) (layout_name journal_name : List ℕ) (number : ℕ) (text : List ℕ) : Type 0 where
+  pub layout_text : List ℕ
+  pub layout_file : holds layout_name layout_text
+  pub platform : Platform
+  pub layout : reading layout_text ≡ Ok platform
+  pub share : Share
+  pub owner : share_of_owner platform number ≡ Some share
+  pub journal_file_text : List ℕ
+  pub journal_file : holds journal_name journal_file_text
+  pub lines : List JournalLine
+  pub journal : journal.reading share.domain journal_file_text ≡ Ok lines
+  pub domain : DomainView
+  pub share_is : domain.share ≡ share
+  pub entries : domain.journal ≡ entries_of lines
+  pub replays : replay share (entries_of lines) ≡ Some domain.state
+  pub part : IsPart domain text
+
 -- what a command prints that was asked for, where files may have these bytes under these names
 abbrev pub AskedPrints : (List ℕ → List ℕ → Type 0) → Asked → List ℕ → Type 0
 AskedPrints holds (First packet) text = Prints packet text
 AskedPrints holds (Run layout script) text = RunPrints holds layout script text
 AskedPrints holds (Alone layout script number) text = AlonePrints holds layout script number text
+AskedPrints holds (Journal layout script number) text = JournalPrints holds layout script number text
+AskedPrints holds (Replay layout journal number) text = ReplayPrints holds layout journal number text

@@ -4,7 +4,8 @@ ghost use Rattle.std.specs.Prelude.{◌≡◌, ◌≢◌};
 ghost use Rattle.commands.specs.Endings.{exit_code, status_of};
 
 use command_line::WordsFault;
-use fab_types::{LayoutCause, LayoutFault, NoMemory, ReplayFault, ScriptCause};
+use fab_types::{LayoutCause, LayoutFault, NoMemory, ReplayFault, ScriptCause, ScriptFault};
+use journals::LineFault;
 use std::alloc::AllocError;
 use std::io;
 use std::io::ErrorKind;
@@ -46,6 +47,12 @@ pub enum Fault<'a> {
     /// A line of a script is not understood. The word of `first` counts as line 1.
     #[error("script {line}: Line")]
     ScriptLine { line: u32 },
+    /// A line of a journal is not understood.
+    #[error("journal {line}: Line")]
+    JournalLine { line: u32 },
+    /// The entry in a line of a journal is illegal after those before it.
+    #[error("journal {line}: Illegal")]
+    IllegalEntry { line: u32 },
     /// No domain of this number owns a port.
     #[error("domain {number}: none")]
     NoDomain { number: u32 },
@@ -68,6 +75,17 @@ impl Fault<'_> {
     {
         match cause {
             ScriptCause::Line => Fault::ScriptLine { line },
+            ScriptCause::NoMemory => Fault::NoMemory,
+        }
+    }
+
+    /// The fault of a journal's text.
+    pub fn of_journal(fault: ScriptFault) -> Self
+        ensures line { fault.cause ≡ ScriptCause.Line → result ≡ Fault.JournalLine fault.line }
+        ensures memory { fault.cause ≡ ScriptCause.NoMemory → result ≡ Fault.NoMemory }
+    {
+        match fault.cause {
+            ScriptCause::Line => Fault::JournalLine { line: fault.line },
             ScriptCause::NoMemory => Fault::NoMemory,
         }
     }
@@ -134,6 +152,19 @@ impl From<WordsFault> for Fault<'_> {
         match fault {
             WordsFault::Usage => Fault::Usage,
             WordsFault::NoMemory => Fault::NoMemory,
+        }
+    }
+}
+
+impl From<LineFault> for Fault<'_> {
+    ghost use Rattle.commands.specs.Endings.{fault_of_line};
+
+    ghost from_gives = { λ line f. f ≡ fault_of_line line };
+
+    fn from(fault: LineFault) -> Self {
+        match fault {
+            LineFault::Illegal(line) => Fault::IllegalEntry { line },
+            LineFault::NoMemory => Fault::NoMemory,
         }
     }
 }

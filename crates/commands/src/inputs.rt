@@ -1,17 +1,20 @@
-//! The texts of files: layouts and scripts.
+//! The texts of files: layouts, scripts and journals.
 
 ghost use Rattle.std.specs.Prelude.{◌≡◌, ℕ, List, IfOk, Ok, string_bytes};
 ghost use Rattle.layout.specs.Reading as layouts;
+ghost use Rattle.journal_text.specs.Reading as journals;
 ghost use Rattle.script.specs.Reading as scripts;
 
 use crate::fault::Fault;
 use crate::files::{FileFault, FileGiver};
+use fab_types::DomainId;
+use journal_text::JournalText;
 use layout::Layout;
 use script::Script;
 use std::alloc::Global;
 
 /// The text of a file. A file that is no UTF-8 is as one that cannot be read.
-fn text_of<'a, F: FileGiver>(files: &F, name: &'a str) -> Result<String, Fault<'a>>
+pub fn text_of<'a, F: FileGiver>(files: &F, name: &'a str) -> Result<String, Fault<'a>>
     ensures { IfOk result (λ text. F.holds files.now name.entry.now (string_bytes text)) }
 {
     let bytes = match files.bytes_of(name) {
@@ -52,5 +55,15 @@ pub fn script_of<'a, F: FileGiver>(
     match Script::read(alloc, text.as_str()) {
         Ok(script) => Ok(script),
         Err(fault) => Err(Fault::at_line(fault.line, fault.cause)),
+    }
+}
+
+/// Reads the text of a journal of this domain.
+pub fn journal_of<'a>(alloc: Global, domain: DomainId, text: &str) -> Result<JournalText, Fault<'a>>
+    ensures { IfOk result (λ journal. journals.reading domain text.now ≡ Ok journal) }
+{
+    match JournalText::read(alloc, domain, text) {
+        Ok(journal) => Ok(journal),
+        Err(fault) => Err(Fault::of_journal(fault)),
     }
 }

@@ -7,6 +7,7 @@ mod files;
 mod first;
 mod inputs;
 mod program;
+mod replay;
 mod report;
 mod run;
 

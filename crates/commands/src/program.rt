@@ -9,7 +9,8 @@ ghost use Rattle.commands.specs.Runs.{AskedPrints};
 use crate::fault::{ExitStatus, Fault};
 use crate::files::FileGiver;
 use crate::first::first;
-use crate::run::{alone, run};
+use crate::replay::replay;
+use crate::run::{alone, journal, run};
 use command_line::Request;
 use std::alloc::Global;
 use std::convert::AsStr;
@@ -71,6 +72,15 @@ fn perform<'a, R: Wait, F: FileGiver, O: Write>(
             files: names,
             domain,
         } => alone(rt, alloc, files, names, domain, out),
+        Request::Journal {
+            files: names,
+            domain,
+        } => journal(rt, alloc, files, names, domain, out),
+        Request::Replay {
+            layout,
+            journal: text,
+            domain,
+        } => replay(rt, alloc, files, layout, text, domain, out),
     }
 }
 

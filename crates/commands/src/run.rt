@@ -1,9 +1,9 @@
-//! The commands `run` and `alone`: a layout's fabric, driven by a script.
+//! The commands `run`, `alone` and `journal`: a layout's fabric, driven by a script.
 
-ghost use Rattle.std.specs.Prelude.{◌≡◌, IfOk, IfSome, OnOk, Some};
+ghost use Rattle.std.specs.Prelude.{◌≡◌, IfOk, OnOk, Some};
 ghost use Rattle.layout.specs.Views.{share_of_owner};
 ghost use Rattle.reports.specs.Writing.{Wrote};
-ghost use Rattle.commands.specs.Runs.{AlonePrints, IsReplayed, RunPrints};
+ghost use Rattle.commands.specs.Runs.{AlonePrints, IsReplayed, JournalPrints, RunPrints};
 
 use crate::drive::driven;
 use crate::fault::Fault;
@@ -12,7 +12,8 @@ use crate::inputs::{layout_of, script_of};
 use crate::report::write_report;
 use command_line::Files;
 use domain::Domain;
-use fab_types::{DomainId, NoMemory};
+use fab_types::DomainId;
+use journals::write_journal;
 use layout::{Layout, Start};
 use reports::write_domain;
 use script::Line;
@@ -52,25 +53,49 @@ pub fn alone<'a, R: Wait, F: FileGiver, W: Write>(
 {
     let layout = layout_of(alloc, files, names.layout)?;
     let script = script_of(alloc, files, names.script)?;
-    let Some(start) = start_of(alloc, &layout, number)? else {
-        return Err(Fault::NoDomain { number });
-    };
+    let start = start_of(alloc, &layout, number)?;
     let domain = replayed(rt, alloc, &layout, script.lines(), &start)?;
     write_domain(alloc, out, &domain)?;
     Ok(())
 }
 
-/// What the domain of this number starts from, if there is one that owns a port.
-fn start_of(alloc: Global, layout: &Layout, number: u32) -> Result<Option<Start>, NoMemory>
-    ensures { IfOk result (λ start. IfSome start (λ share. share_of_owner layout.now number ≡ Some share)) }
+/// Runs the same, and writes the journal of this domain.
+pub fn journal<'a, R: Wait, F: FileGiver, W: Write>(
+    rt: &R,
+    alloc: Global,
+    files: &F,
+    names: Files<'a>,
+    number: u32,
+    out: &mut W,
+) -> Result<(), Fault<'a>>
+    ensures { OnOk result (Wrote (W.contents out.old) (W.contents out.new) (JournalPrints (F.holds files.now) names.entry.layout.now names.entry.script.now number)) }
 {
-    let Ok(number) = u8::try_from(number) else {
-        return Ok(None);
+    let layout = layout_of(alloc, files, names.layout)?;
+    let script = script_of(alloc, files, names.script)?;
+    let start = start_of(alloc, &layout, number)?;
+    let fabric = driven(rt, alloc, &layout, script.lines(), &mut io::sink())?;
+    let Some(domain) = fabric.domain(start.domain()) else {
+        return Err(Fault::NoDomain { number });
     };
-    let Some(domain) = DomainId::new(number) else {
-        return Ok(None);
+    write_journal(rt, alloc, out, domain)?;
+    Ok(())
+}
+
+/// What the domain of this number starts from. There is none where it owns no port.
+pub fn start_of<'a>(alloc: Global, layout: &Layout, number: u32) -> Result<Start, Fault<'a>>
+    ensures { IfOk result (λ share. share_of_owner layout.now number ≡ Some share) }
+{
+    let none = Fault::NoDomain { number };
+    let Ok(narrow) = u8::try_from(number) else {
+        return Err(none);
     };
-    layout.start(alloc, domain)
+    let Some(domain) = DomainId::new(narrow) else {
+        return Err(none);
+    };
+    match layout.start(alloc, domain)? {
+        Some(start) => Ok(start),
+        None => Err(none),
+    }
 }
 
 /// The domain that the journal of a run makes of this start.

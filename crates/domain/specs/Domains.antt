@@ -4,9 +4,9 @@ use Rattle.frame_log.specs.Descriptor.{Descriptor}
 use Rattle.frame_log.specs.declared.fault.FrameFault.{FrameFault}
 use Rattle.frame_log.specs.declared.fault.FrameFault.TheVariants.{Stray, NoMemory}
 use Rattle.platform.specs.Share.{Share}
-use Rattle.domain.specs.declared.consume.EndFault.{EndFault}
-use Rattle.domain.specs.declared.consume.EndFault.TheVariants.{Illegal}
-use Rattle.domain.specs.declared.consume.EndFault.TheVariants as end
+use Rattle.domain.specs.declared.consume.EntryFault.{EntryFault}
+use Rattle.domain.specs.declared.consume.EntryFault.TheVariants.{Illegal}
+use Rattle.domain.specs.declared.consume.EntryFault.TheVariants as end
 use Rattle.domain.specs.declared.entry.Entry.{Entry}
 use Rattle.domain.specs.declared.deliver.Arrival.{Arrival}
 use Rattle.request_handling.specs.declared.handling.Handling.{Handling}
@@ -50,9 +50,9 @@ IsRefused old entry frame (Stray given) = (given ≡ frame) × (frame.domain ≡
 IsRefused old entry frame (NoMemory given) = (given ≡ frame) × (frame.domain ≡ old.share.domain) × Emits old entry
 
 -- the same of a number alone
-abbrev pub IsEndFault : DomainView → Entry → EndFault → Type 0
-IsEndFault old entry Illegal = change old.share old.state entry ≡ None
-IsEndFault old entry end.NoMemory = Emits old entry
+abbrev pub IsEntryFault : DomainView → Entry → EntryFault → Type 0
+IsEntryFault old entry Illegal = change old.share old.state entry ≡ None
+IsEntryFault old entry end.NoMemory = Emits old entry
 
 -- the only fault of a call that takes no memory
 abbrev pub IsStray : DomainView → Entry → Descriptor → FrameFault → Type 0

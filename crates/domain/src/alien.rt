@@ -4,12 +4,12 @@ ghost use Rattle.std.specs.Prelude.{◌≡◌, ◌+◌, ◌≤◌, false, true, 
 ghost use Rattle.fab_types.specs.declared.head.Parties.{Parties};
 ghost use Rattle.frame_log.specs.declared.fault.FrameFault.{FrameFault};
 ghost use Rattle.platform.specs.Share.{is_guarded};
-ghost use Rattle.domain.specs.declared.consume.EndFault.TheVariants as end;
+ghost use Rattle.domain.specs.declared.consume.EntryFault.TheVariants as end;
 ghost use Rattle.domain.specs.Domains.{is_emitting};
 ghost use Rattle.domain.specs.Machine.{change};
 ghost use Rattle.request_handling.specs.Takers.{takes};
 
-use crate::consume::EndFault;
+use crate::consume::EntryFault;
 use crate::domain::Domain;
 use crate::entry::Entry;
 use crate::receive::Reception;
@@ -46,30 +46,30 @@ impl Domain {
         place: Place,
         sender: Parties,
         bytes: &[u8],
-    ) -> Result<Option<Frame>, EndFault>
+    ) -> Result<Option<Frame>, EntryFault>
         ensures ok { IfOk result (λ sent. Makes self.old (Alien place sender bytes.now) self.new sent) }
         ensures illegal { IfErr result (λ fault. fault ≡ end.Illegal → change self.old.share self.old.state (Alien place sender bytes.now) ≡ None) }
         ensures err { OnErr result (self.new ≡ self.old) }
     {
         let (there, these) = (place, sender);
         let Some(reception) = self.reception(there, these, bytes) else {
-            return Err(EndFault::Illegal);
+            return Err(EntryFault::Illegal);
         };
         let Ok(entries) = room_for_entries(&mut self.journal, self.entries) else {
-            return Err(EndFault::NoMemory);
+            return Err(EntryFault::NoMemory);
         };
         // As many packets as entries, but for the begins, which are no packets of their own.
         let packets = entries.saturating_sub(self.start.budget() as usize);
         if self.state.make_room(packets).is_err() {
-            return Err(EndFault::NoMemory);
+            return Err(EntryFault::NoMemory);
         }
         let alloc = *self.journal.allocator();
         let Ok(copy) = PacketBytes::copy_of(alloc, bytes) else {
-            return Err(EndFault::NoMemory);
+            return Err(EntryFault::NoMemory);
         };
         let domain = self.start.domain();
         let Ok(sent) = self.state.receive(rt, domain, bytes, reception) else {
-            return Err(EndFault::NoMemory);
+            return Err(EntryFault::NoMemory);
         };
         self.entries = entries;
         self.journal
@@ -100,8 +100,8 @@ impl Domain {
         let sender = frame.head().parties;
         match self.end_alien(rt, place, sender, bytes) {
             Ok(sent) => Ok(sent),
-            Err(EndFault::Illegal) => unreachable!(),
-            Err(EndFault::NoMemory) => Err(FrameFault::NoMemory(frame)),
+            Err(EntryFault::Illegal) => unreachable!(),
+            Err(EntryFault::NoMemory) => Err(FrameFault::NoMemory(frame)),
         }
     }
 

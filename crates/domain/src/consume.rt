@@ -13,10 +13,10 @@ use request_handling::{
 };
 use std::sync::Wait;
 
-/// Why a number was not consumed.
-#[derive(Clone, Copy)]
-pub(crate) enum EndFault {
-    /// The entry is illegal.
+/// Why an entry was not done.
+#[derive(Clone, Copy, Debug, PartialEq, Eq)]
+pub enum EntryFault {
+    /// The machine has no such entry after those before it.
     Illegal,
     /// Memory was refused.
     NoMemory,
@@ -27,7 +27,7 @@ impl Domain {
     ghost use Rattle.domain.specs.declared.entry.Entry.TheVariants.{Carry, Deliver, Refuse};
     ghost use Rattle.request_handling.specs.Carries.{carriage_end, refusal_end};
     ghost use Rattle.domain.specs.Deliveries.{arrival};
-    ghost use Rattle.domain.specs.Domains.{Delivers, EndsBy, IsEndFault, IsRefused, IsStray, Makes};
+    ghost use Rattle.domain.specs.Domains.{Delivers, EndsBy, IsEntryFault, IsRefused, IsStray, Makes};
     ghost use Rattle.domain_parts.specs.State.{item_at};
 
     /// How a packet in flight ends at its sender's first port, if it ends there.
@@ -70,15 +70,15 @@ impl Domain {
         entry: Entry,
         number: u64,
         handling: Handling,
-    ) -> Result<Option<Frame>, EndFault>
+    ) -> Result<Option<Frame>, EntryFault>
         requires { EndsBy self.old entry number handling }
         ensures ok { IfOk result (λ sent. Makes self.old entry self.new sent) }
-        ensures fault { IfErr result (λ fault. IsEndFault self.old entry fault) }
+        ensures fault { IfErr result (λ fault. IsEntryFault self.old entry fault) }
         ensures err { OnErr result (self.new ≡ self.old) }
     {
         let domain = self.start.domain();
         let Ok(sent) = self.state.conclude(rt, domain, number, handling) else {
-            return Err(EndFault::NoMemory);
+            return Err(EntryFault::NoMemory);
         };
         self.journal.push_reserved(entry);
         Ok(sent)
@@ -90,13 +90,13 @@ impl Domain {
         &mut self,
         rt: &R,
         number: u64,
-    ) -> Result<Option<Frame>, EndFault>
+    ) -> Result<Option<Frame>, EntryFault>
         ensures ok { IfOk result (λ sent. Makes self.old (Refuse number) self.new sent) }
-        ensures fault { IfErr result (λ fault. IsEndFault self.old (Refuse number) fault) }
+        ensures fault { IfErr result (λ fault. IsEntryFault self.old (Refuse number) fault) }
         ensures err { OnErr result (self.new ≡ self.old) }
     {
         let Some(handling) = self.refusal_end(number) else {
-            return Err(EndFault::Illegal);
+            return Err(EntryFault::Illegal);
         };
         self.end_by(rt, Entry::Refuse(number), number, handling)
     }
@@ -106,26 +106,26 @@ impl Domain {
         &mut self,
         rt: &R,
         number: u64,
-    ) -> Result<Option<Frame>, EndFault>
+    ) -> Result<Option<Frame>, EntryFault>
         ensures ok { IfOk result (λ sent. Makes self.old (Carry number) self.new sent) }
-        ensures fault { IfErr result (λ fault. IsEndFault self.old (Carry number) fault) }
+        ensures fault { IfErr result (λ fault. IsEntryFault self.old (Carry number) fault) }
         ensures err { OnErr result (self.new ≡ self.old) }
     {
         let Some(handling) = self.carriage_end(number) else {
-            return Err(EndFault::Illegal);
+            return Err(EntryFault::Illegal);
         };
         self.end_by(rt, Entry::Carry(number), number, handling)
     }
 
     /// The completion reached whom it answers. It answers the record that it made, if it closed a Tag,
     /// or `Illegal` where the machine has no such entry.
-    pub(crate) fn end_delivered(&mut self, number: u64) -> Result<Option<Record>, EndFault>
+    pub(crate) fn end_delivered(&mut self, number: u64) -> Result<Option<Record>, EntryFault>
         ensures ok { IfOk result (λ given. Makes self.old (Deliver number) self.new None × Delivers self.old number given) }
-        ensures fault { IfErr result (λ fault. (fault ≡ EndFault.Illegal) × IsEndFault self.old (Deliver number) fault) }
+        ensures fault { IfErr result (λ fault. (fault ≡ EntryFault.Illegal) × IsEntryFault self.old (Deliver number) fault) }
         ensures err { OnErr result (self.new ≡ self.old) }
     {
         let Some(arrival) = self.state.arrival(number) else {
-            return Err(EndFault::Illegal);
+            return Err(EntryFault::Illegal);
         };
         let record = self.state.deliver(number, arrival);
         self.journal.push_reserved(Entry::Deliver(number));
@@ -153,8 +153,8 @@ impl Domain {
         }
         match self.end_refused(rt, frame.number()) {
             Ok(sent) => Ok(sent),
-            Err(EndFault::Illegal) => Err(FrameFault::Stray(frame)),
-            Err(EndFault::NoMemory) => Err(FrameFault::NoMemory(frame)),
+            Err(EntryFault::Illegal) => Err(FrameFault::Stray(frame)),
+            Err(EntryFault::NoMemory) => Err(FrameFault::NoMemory(frame)),
         }
     }
 
@@ -175,8 +175,8 @@ impl Domain {
         }
         match self.end_carried(rt, frame.number()) {
             Ok(sent) => Ok(sent),
-            Err(EndFault::Illegal) => Err(FrameFault::Stray(frame)),
-            Err(EndFault::NoMemory) => Err(FrameFault::NoMemory(frame)),
+            Err(EntryFault::Illegal) => Err(FrameFault::Stray(frame)),
+            Err(EntryFault::NoMemory) => Err(FrameFault::NoMemory(frame)),
         }
     }
 

@@ -114,6 +114,13 @@ impl Domain {
         }
     }
 
+    /// How many packets the domain has made, which is the number of its next one.
+    pub fn made(&self) -> u64
+        ensures { result ≡ length self.now.state.flight }
+    {
+        self.state.made()
+    }
+
     /// The completions that were delivered, oldest first.
     pub fn records(&self) -> &[Record]
         ensures { result.now ≡ self.now.state.deliveries }

@@ -19,6 +19,7 @@ mod submit;
 mod taker;
 mod tick;
 
+pub use consume::EntryFault;
 pub use deliver::Record;
 pub use domain::Domain;
 pub use domain_parts::Counts;

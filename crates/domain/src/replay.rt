@@ -1,13 +1,13 @@
 //! A domain from its journal.
 
-ghost use Rattle.std.specs.Prelude.{◌≡◌, ℕ, Some, Err, None, IfOk, IfErr, OnOk};
+ghost use Rattle.std.specs.Prelude.{◌≡◌, ℕ, Some, Err, None, IfOk, IfErr, OnErr, OnOk};
 ghost use Rattle.std.specs.Result.{IsOkUnless};
 ghost use Rattle.fab_types.specs.declared.faults.replay.ReplayFault.TheVariants.{Illegal};
-ghost use Rattle.domain.specs.declared.consume.EndFault.TheVariants as end;
+ghost use Rattle.domain.specs.declared.consume.EntryFault.TheVariants as end;
 ghost use Rattle.domain.specs.Machine.{change, replay};
 ghost use Rattle.domain_parts.specs.State.{Alone};
 
-use crate::consume::EndFault;
+use crate::consume::EntryFault;
 use crate::domain::Domain;
 use crate::entry::Entry;
 use fab_types::{MmioFault, ReplayFault, SubmitFault, TickFault};
@@ -19,26 +19,32 @@ use std::sync::{Arc, Wait};
 impl Domain {
     ghost use Rattle.domain.specs.Replays.{Follows, IsFirstIllegal};
 
-    /// Does what an entry says.
-    fn apply<R: Wait>(&mut self, rt: &R, entry: &Entry) -> Result<(), EndFault>
+    /// Does what an entry says, and adds it to the journal: one step of a replay.
+    ///
+    /// # Errors
+    ///
+    /// `Illegal` where the machine has no such entry in this state, and `NoMemory` where memory was refused. Then
+    /// nothing changes.
+    pub fn apply<R: Wait>(&mut self, rt: &R, entry: &Entry) -> Result<(), EntryFault>
         ensures ok { OnOk result (Follows self.old entry.now self.new) }
+        ensures err { OnErr result (self.new ≡ self.old) }
         ensures illegal { IfErr result (λ fault. fault ≡ end.Illegal → change self.old.share self.old.state entry.now ≡ None) }
     {
         match entry {
             Entry::Submit(function, bytes) => match self.submit(rt, *function, bytes.as_slice()) {
                 Ok(_) => Ok(()),
-                Err(SubmitFault::NoMemory) => Err(EndFault::NoMemory),
-                Err(_) => Err(EndFault::Illegal),
+                Err(SubmitFault::NoMemory) => Err(EntryFault::NoMemory),
+                Err(_) => Err(EntryFault::Illegal),
             },
             Entry::Tick(function) => match self.tick(rt, *function) {
                 Ok(_) => Ok(()),
-                Err(TickFault::NoMemory) => Err(EndFault::NoMemory),
-                Err(_) => Err(EndFault::Illegal),
+                Err(TickFault::NoMemory) => Err(EntryFault::NoMemory),
+                Err(_) => Err(EntryFault::Illegal),
             },
             Entry::Mmio(access) => match self.mmio(rt, access) {
                 Ok(_) => Ok(()),
-                Err(MmioFault::NoMemory) => Err(EndFault::NoMemory),
-                Err(_) => Err(EndFault::Illegal),
+                Err(MmioFault::NoMemory) => Err(EntryFault::NoMemory),
+                Err(_) => Err(EntryFault::Illegal),
             },
             Entry::Refuse(number) => match self.end_refused(rt, *number) {
                 Ok(_) => Ok(()),
@@ -89,8 +95,8 @@ impl Domain {
         for (i, entry) in entries.iter().enumerate() {
             match domain.apply(rt, entry) {
                 Ok(()) => {}
-                Err(EndFault::Illegal) => return Err(ReplayFault::Illegal(i)),
-                Err(EndFault::NoMemory) => return Err(ReplayFault::NoMemory),
+                Err(EntryFault::Illegal) => return Err(ReplayFault::Illegal(i)),
+                Err(EntryFault::NoMemory) => return Err(ReplayFault::NoMemory),
             }
         }
         Ok(domain)

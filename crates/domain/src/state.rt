@@ -92,6 +92,13 @@ impl State {
         self.flight.item(number)
     }
 
+    /// How many packets were made.
+    pub(crate) fn made(&self) -> u64
+        ensures { result ≡ length self.now.flight }
+    {
+        self.flight.made()
+    }
+
     /// What a packet in flight is to the one that it goes to, if it is a completion for somebody.
     pub(crate) fn arrival(&self, number: u64) -> Option<Arrival>
         ensures { result ≡ arrival self.now.open_tags (item_at self.now.flight number) }

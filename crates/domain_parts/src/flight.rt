@@ -92,6 +92,13 @@ impl Flight {
         Ok(frame)
     }
 
+    /// How many packets were emitted, which is the number of the next one.
+    pub fn made(&self) -> u64
+        ensures { result ≡ length self.now }
+    {
+        self.slots.len() as u64
+    }
+
     /// The packet that is in flight under this number.
     pub fn item(&self, number: u64) -> Option<(Parties, &[u8])>
         ensures well_made { IfSome result (λ item. IsWellMade item.0 item.1.now) }

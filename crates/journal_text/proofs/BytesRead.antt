@@ -25,7 +25,7 @@ lower_ones = refl
 digit_lower : (d : ℕ) → d < 16 → is_lower_digit (slice_index lower_digits d) ≡ true
 digit_lower d small = each is_lower_digit lower_digits d lower_ones small
 
-digits_lower : (bytes : List ℕ) → IsBytes bytes → list_all is_lower_digit (encode_lower bytes) ≡ true
+pub digits_lower : (bytes : List ℕ) → IsBytes bytes → list_all is_lower_digit (encode_lower bytes) ≡ true
 unfolding encode_with
 digits_lower [] are = refl
 digits_lower (b ∷ bytes) are =

@@ -5,3 +5,8 @@ pub mod BytesRead
 pub mod FieldWords
 pub mod FieldsRead
 pub mod EntriesRead
+pub mod Writing
+pub mod LineLemmas
+pub mod Lines
+pub mod FlightRead
+pub mod JournalsRead

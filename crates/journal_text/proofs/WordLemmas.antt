@@ -1,14 +1,15 @@
--- A word without a blank is what stands before the first blank of a text that begins with it.
-use Rattle.std.proofs.Common.{◌≡◌, ℕ, ◌+◌, ◌<◌, ◌==◌, Bool, true, not, refl, ap, ◌∙◌, List, [], ◌∷◌, ◌++◌, length, take, drop, Some, None, nat_lt, arith, length-append}
+-- A word, which has no blank and no line feed, is what stands before the first blank of a text that begins with
+-- it.
+use Rattle.std.proofs.Common.{◌≡◌, ℕ, ◌+◌, ◌<◌, ◌==◌, Bool, true, not, ◌&&◌, refl, ap, ◌∙◌, List, [], ◌∷◌, ◌++◌, length, take, drop, Some, None, nat_lt, arith, length-append}
 use Rattle.std.specs.Prelude.{option_map}
 use Rattle.std.specs.List.{list_all, position_or_len}
 use Rattle.std.proofs.lemmas.Bool.{and_from, and_parts, cond-true, lt-ltb}
 use Rattle.std.proofs.Math.Seq.{drop-append-add, take-append_seam}
 use Rattle.text.specs.Text.{at_blank, cut, cut_at, is_byte}
 
--- no blank
+-- no blank, and no line feed
 abbrev pub is_inner : ℕ → Bool
-is_inner b = not (b == 32)
+is_inner b = not (b == 32) && not (b == 10)
 
 abbrev pub IsWord : List ℕ → Type 0
 IsWord w = list_all is_inner w ≡ true
@@ -18,7 +19,7 @@ place [] rest h = refl
 place (b ∷ w) rest h =
     let parts = and_parts (is_inner b) (list_all is_inner w) h in
     let more = place w rest parts.1 in
-    cond-true (not (b == 32)) (1 + position_or_len (is_byte 32) (w ++ (32 ∷ rest))) 0 parts.0 ∙ omega (arith, more)
+    cond-true (not (b == 32)) (1 + position_or_len (is_byte 32) (w ++ (32 ∷ rest))) 0 (and_parts (not (b == 32)) (not (b == 10)) parts.0).0 ∙ omega (arith, more)
 
 at_place : (n : ℕ) (text : List ℕ) → position_or_len (is_byte 32) text ≡ n → n < length text → at_blank text ≡ Some (take n text, drop (n + 1) text)
 unfolding cut

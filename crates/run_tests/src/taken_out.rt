@@ -1,6 +1,5 @@
 //! Runs without the events of other domains: what a domain has of them, beside what it has of the whole run.
 
-use crate::machine::sweep_of;
 use fab_types::Class::Posted;
 use fab_types::{Bdf, CompareFault, Direction, DomainId, Origin, PacketBytes, PortId, Way};
 use fabric_core::{Comparison, Event, Fabric, compare_runs, purge_run};
@@ -9,6 +8,7 @@ use layout_tests::EXAMPLE;
 use std::alloc::Global;
 use std::sync::Wait;
 use std::test::Fail;
+use test_events::sweep_of;
 
 /// A write of 03:00.0, and three reads of what it wrote: of four bytes, of two, and of none. How many spoofed writes
 /// come after each.

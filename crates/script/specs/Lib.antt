@@ -1,4 +1,3 @@
-pub mod Answers
 pub mod PacketWord
 pub mod Commands
 pub mod Reading

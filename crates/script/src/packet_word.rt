@@ -3,7 +3,7 @@
 ghost use Rattle.std.specs.Prelude.{◌≡◌};
 ghost use Rattle.std.specs.List.{list_all};
 ghost use Rattle.script.specs.PacketWord.{is_lower_digit, is_hexadecimal, packet_bytes};
-ghost use Rattle.script.specs.Answers.{IsRead};
+ghost use Rattle.line_reader.specs.Answers.{IsRead};
 
 use fab_types::{PacketBytes, ScriptCause};
 use hex::FromHexError;

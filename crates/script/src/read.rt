@@ -1,17 +1,40 @@
 //! Reading a script text.
 
 ghost use Rattle.std.specs.Prelude.{◌≡◌};
-ghost use Rattle.script.specs.Reading.{said, reading, IsTaken, IsReading};
+ghost use Rattle.line_reader.specs.Reading.{IsReading};
+ghost use Rattle.script.specs.Reading.{reading, said};
 
 use crate::commands::command_of;
 use crate::lines::Line;
 use fab_types::{ScriptCause, ScriptFault};
+use line_reader::{LineReader, read_lines};
 use std::alloc::Global;
 use std::marker::Model;
-use text::{cut, is_comment};
 
 /// The greatest number of a line.
 const LAST_LINE: u32 = 65_536;
+
+/// The lines that are read so far.
+#[derive(Drop)]
+struct CommandReader {
+    lines: Vec<Line>,
+}
+
+impl LineReader for CommandReader {
+    type Item = Line;
+
+    ghost said = { λ _. said };
+
+    ghost items = { λ r. r.lines.items };
+
+    fn take_line(&mut self, alloc: Global, number: u32, line: &[u8]) -> Result<(), ScriptCause> {
+        let command = command_of(alloc, line)?;
+        match self.lines.push(Line { number, command }) {
+            Ok(()) => Ok(()),
+            Err(_) => Err(ScriptCause::NoMemory),
+        }
+    }
+}
 
 /// A script that was read. A contract sees its lines.
 #[derive(Debug, Drop)]
@@ -29,24 +52,6 @@ impl Model for Script {
 }
 
 impl Script {
-    /// Reads one line, which adds at most one to the script.
-    #[tactic(auto, unfolding(crate::specs::Reading::said))]
-    fn take_line(&mut self, alloc: Global, number: u32, line: &[u8]) -> Result<(), ScriptCause>
-        ensures { IsTaken (said number line.now) self.old result self.new }
-    {
-        if number > LAST_LINE {
-            return Err(ScriptCause::Line);
-        }
-        if is_comment(line) {
-            return Ok(());
-        }
-        let command = command_of(alloc, line)?;
-        match self.lines.push(Line { number, command }) {
-            Ok(()) => Ok(()),
-            Err(_) => Err(ScriptCause::NoMemory),
-        }
-    }
-
     /// Reads a script text.
     ///
     /// # Errors
@@ -56,23 +61,13 @@ impl Script {
     pub fn read(alloc: Global, text: &str) -> Result<Script, ScriptFault>
         ensures { IsReading (reading text.now) result }
     {
-        let mut script = Script {
+        let mut reader = CommandReader {
             lines: Vec::new(alloc),
         };
-        let mut line: u32 = 1;
-        let mut rest = text.as_bytes();
-        while let Some(parts) = cut(rest, b'\n') {
-            if let Err(cause) = script.take_line(alloc, line, parts.before) {
-                return Err(ScriptFault { cause, line });
-            }
-            line += 1;
-            rest = parts.after;
-        }
-        if !rest.is_empty() {
-            let cause = ScriptCause::Line;
-            return Err(ScriptFault { cause, line });
-        }
-        Ok(script)
+        read_lines(alloc, text, LAST_LINE, &mut reader)?;
+        Ok(Script {
+            lines: reader.lines,
+        })
     }
 
     /// The lines that are no comments, in their order.

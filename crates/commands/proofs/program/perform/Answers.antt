@@ -1,20 +1,33 @@
+use Rattle.std.proofs.Common.{refl}
 use Rattle.std.specs.Prelude.{OnOk}
 use Rattle.reports.specs.Writing.{Wrote}
+use Rattle.command_line.specs.CommandLine.{First, Run, Alone, Journal, Replay}
+use Rattle.command_line.specs.declared.request.Request.TheVariants as request
 use Rattle.commands.specs.Runs.{AskedPrints}
-use Rattle.command_line.proofs.Asking.{alone_asked, first_asked, run_asked}
+use Rattle.command_line.proofs.Asking.{asked_alone}
 use Rattle.commands.proofs.program.perform.Goals as goal
 
 pub returns-in-First : goal.returns-in-First
 returns-in-First g c = λ asked is.
-    first_asked (λ a. OnOk c.first.result (Wrote (g.O.Write.contents c.args.out.now) (g.O.Write.contents c.first.new.out) (AskedPrints (g.F.FileGiver.holds c.args.files.now) a))) c.in-First.packet
-    c.first.ensures.printed asked (rw c.in-First.is at is)
+    asked_alone (λ a. OnOk c.first.result (Wrote (g.O.Write.contents c.args.out.now) (g.O.Write.contents c.first.new.out) (AskedPrints (g.F.FileGiver.holds c.args.files.now) a)))
+    (request.First c.in-First.packet) (First c.in-First.packet.now) asked refl c.first.ensures.printed (rw c.in-First.is at is)
 
 pub returns-in-Run : goal.returns-in-Run
 returns-in-Run g c = λ asked is.
-    run_asked (λ a. OnOk c.run.result (Wrote (g.O.Write.contents c.args.out.now) (g.O.Write.contents c.run.new.out) (AskedPrints (g.F.FileGiver.holds c.args.files.now) a))) c.in-Run.names
-    c.run.ensures asked (rw c.in-Run.is at is)
+    asked_alone (λ a. OnOk c.run.result (Wrote (g.O.Write.contents c.args.out.now) (g.O.Write.contents c.run.new.out) (AskedPrints (g.F.FileGiver.holds c.args.files.now) a)))
+    (request.Run c.in-Run.names) (Run c.in-Run.names.layout.now c.in-Run.names.script.now) asked refl c.run.ensures (rw c.in-Run.is at is)
 
 pub returns-in-Alone : goal.returns-in-Alone
 returns-in-Alone g c = λ asked is.
-    alone_asked (λ a. OnOk c.alone.result (Wrote (g.O.Write.contents c.args.out.now) (g.O.Write.contents c.alone.new.out) (AskedPrints (g.F.FileGiver.holds c.args.files.now) a))) c.in-Alone.names c.in-Alone.domain
-    c.alone.ensures asked (rw c.in-Alone.is at is)
+    asked_alone (λ a. OnOk c.alone.result (Wrote (g.O.Write.contents c.args.out.now) (g.O.Write.contents c.alone.new.out) (AskedPrints (g.F.FileGiver.holds c.args.files.now) a)))
+    (request.Alone c.in-Alone.names c.in-Alone.domain) (Alone c.in-Alone.names.layout.now c.in-Alone.names.script.now c.in-Alone.domain) asked refl c.alone.ensures (rw c.in-Alone.is at is)
+
+pub returns-in-Journal : goal.returns-in-Journal
+returns-in-Journal g c = λ asked is.
+    asked_alone (λ a. OnOk c.journal.result (Wrote (g.O.Write.contents c.args.out.now) (g.O.Write.contents c.journal.new.out) (AskedPrints (g.F.FileGiver.holds c.args.files.now) a)))
+    (request.Journal c.in-Journal.names c.in-Journal.domain) (Journal c.in-Journal.names.layout.now c.in-Journal.names.script.now c.in-Journal.domain) asked refl c.journal.ensures (rw c.in-Journal.is at is)
+
+pub returns-in-Replay : goal.returns-in-Replay
+returns-in-Replay g c = λ asked is.
+    asked_alone (λ a. OnOk c.replay.result (Wrote (g.O.Write.contents c.args.out.now) (g.O.Write.contents c.replay.new.out) (AskedPrints (g.F.FileGiver.holds c.args.files.now) a)))
+    (request.Replay c.in-Replay.layout c.in-Replay.text c.in-Replay.domain) (Replay c.in-Replay.layout.now c.in-Replay.text.now c.in-Replay.domain) asked refl c.replay.ensures (rw c.in-Replay.is at is)

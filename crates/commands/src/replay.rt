@@ -1,0 +1,36 @@
+//! The command `replay`: a domain from the text of its journal.
+
+ghost use Rattle.std.specs.Prelude.{OnOk};
+ghost use Rattle.reports.specs.Writing.{Wrote};
+ghost use Rattle.commands.specs.Runs.{ReplayPrints};
+
+use crate::fault::Fault;
+use crate::files::FileGiver;
+use crate::inputs::{journal_of, layout_of, text_of};
+use crate::run::start_of;
+use reports::write_domain;
+use std::alloc::Global;
+use std::io::Write;
+use std::sync::Wait;
+
+/// Replays the journal in a file from what the layout gives this domain, and writes the part of the report of the
+/// domain.
+pub fn replay<'a, R: Wait, F: FileGiver, W: Write>(
+    rt: &R,
+    alloc: Global,
+    files: &F,
+    layout_name: &'a str,
+    journal_name: &'a str,
+    number: u32,
+    out: &mut W,
+) -> Result<(), Fault<'a>>
+    ensures { OnOk result (Wrote (W.contents out.old) (W.contents out.new) (ReplayPrints (F.holds files.now) layout_name.entry.now journal_name.entry.now number)) }
+{
+    let layout = layout_of(alloc, files, layout_name)?;
+    let text = text_of(files, journal_name)?;
+    let start = start_of(alloc, &layout, number)?;
+    let journal = journal_of(alloc, start.domain(), text.as_str())?;
+    let domain = journals::replay(rt, alloc, &start, journal.lines())?;
+    write_domain(alloc, out, &domain)?;
+    Ok(())
+}

@@ -1,0 +1,93 @@
+//! Reading the text of a domain's journal.
+
+ghost use Rattle.std.specs.Prelude.{◌≡◌};
+ghost use Rattle.line_reader.specs.Reading.{IsReading};
+ghost use Rattle.journal_text.specs.Reading.{reading, said};
+
+use crate::fields::entry_of;
+use crate::flight::is_in_flight;
+use domain::Entry;
+use fab_types::{DomainId, ScriptCause, ScriptFault};
+use line_reader::{LineReader, read_lines};
+use std::alloc::Global;
+use std::marker::Model;
+
+/// The greatest number of a line.
+const LAST_LINE: u32 = 16_777_216;
+
+/// A line of a journal's text that is an entry.
+#[derive(Debug, Drop)]
+pub struct JournalLine {
+    /// Counted from 1, comments too.
+    pub number: u32,
+    pub entry: Entry,
+}
+
+/// The entries that are read so far.
+#[derive(Drop)]
+struct EntryReader {
+    domain: DomainId,
+    lines: Vec<JournalLine>,
+}
+
+impl LineReader for EntryReader {
+    type Item = JournalLine;
+
+    ghost said = { λ r. said r.domain };
+
+    ghost items = { λ r. r.lines.items };
+
+    fn take_line(&mut self, alloc: Global, number: u32, line: &[u8]) -> Result<(), ScriptCause> {
+        if is_in_flight(line) {
+            return Ok(());
+        }
+        let entry = entry_of(alloc, self.domain, line)?;
+        match self.lines.push(JournalLine { number, entry }) {
+            Ok(()) => Ok(()),
+            Err(_) => Err(ScriptCause::NoMemory),
+        }
+    }
+}
+
+/// The text of a journal that was read. A contract sees its entries, with the numbers of their lines.
+#[derive(Debug, Drop)]
+pub struct JournalText {
+    lines: Vec<JournalLine>,
+}
+
+impl Model for JournalText {
+    ghost use Rattle.std.specs.Prelude.{List};
+    ghost use Rattle.journal_text.specs.declared.read.JournalLine.{JournalLine};
+
+    ghost Value = { List JournalLine };
+
+    ghost view = { λ t. t.lines.items };
+}
+
+impl JournalText {
+    /// Reads the text of the journal of this domain.
+    ///
+    /// # Errors
+    ///
+    /// `Line` and the first faulty line, counted from 1; or `NoMemory` and the line at which memory was
+    /// refused, which is not faulty, and before which no line is.
+    pub fn read(alloc: Global, domain: DomainId, text: &str) -> Result<JournalText, ScriptFault>
+        ensures { IsReading (reading domain text.now) result }
+    {
+        let mut reader = EntryReader {
+            domain,
+            lines: Vec::new(alloc),
+        };
+        read_lines(alloc, text, LAST_LINE, &mut reader)?;
+        Ok(JournalText {
+            lines: reader.lines,
+        })
+    }
+
+    /// The entries, in their order.
+    pub fn lines(&self) -> &[JournalLine]
+        ensures { result.now ≡ self.now }
+    {
+        &self.lines
+    }
+}

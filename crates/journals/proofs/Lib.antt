@@ -1,0 +1,4 @@
+pub mod Making
+pub mod Replaying
+pub mod Flying
+pub mod Writing

@@ -1,0 +1,67 @@
+//! Events of a fabric by which packets go on.
+
+use fab_types::{Bdf, Class, Direction, DomainId, NoMemory, Origin, PortId, Way};
+use fabric_core::{Event, Fabric, Station};
+use layout::Layout;
+use std::alloc::{AllocError, Global};
+use sweeps::stations;
+
+/// A direction of the link at whose lower end this ID stands.
+pub fn direction(lower: u16, way: Way) -> Direction {
+    Direction {
+        lower: Bdf::from_bits(lower),
+        way,
+    }
+}
+
+/// An event by which a packet goes on. IDs are given by their bits, a link by the one at its lower end.
+#[derive(Clone, Copy)]
+pub enum Move {
+    EnterOfFunction(u16, Class),
+    EnterOfHost(DomainId, Class),
+    Send(u16, Way, Class),
+    Take(u16, Way),
+    Credit(u16, Way),
+    Pass(u16, Class),
+    Root(Class),
+    Arrive(u16, Class),
+}
+
+impl Move {
+    /// The event itself.
+    pub fn event(self) -> Event {
+        match self {
+            Move::EnterOfFunction(id, class) => {
+                Event::Enter(Origin::Function(Bdf::from_bits(id)), class)
+            }
+            Move::EnterOfHost(domain, class) => Event::Enter(Origin::Host(domain), class),
+            Move::Send(lower, way, class) => Event::Send(direction(lower, way), class),
+            Move::Take(lower, way) => Event::Take(direction(lower, way)),
+            Move::Credit(lower, way) => Event::Credit(direction(lower, way)),
+            Move::Pass(port, class) => Event::Pass(PortId::new(Bdf::from_bits(port)), class),
+            Move::Root(class) => Event::Root(class),
+            Move::Arrive(id, class) => Event::Arrive(Bdf::from_bits(id), class),
+        }
+    }
+}
+
+fn add_moves(moves: &mut Vec<Event>, station: &Station) -> Result<(), AllocError> {
+    moves.push(station.taking(Class::Posted))?;
+    moves.push(station.taking(Class::NonPosted))?;
+    moves.push(station.taking(Class::Completion))?;
+    if let Station::Link(direction) = station {
+        moves.push(Event::Take(*direction))?;
+        moves.push(Event::Credit(*direction))?;
+    }
+    Ok(())
+}
+
+/// The events of a sweep of this layout.
+pub fn sweep_of(alloc: Global, layout: &Layout) -> Result<Vec<Event>, NoMemory> {
+    let fabric = Fabric::new(alloc, layout)?;
+    let mut moves = Vec::new(alloc);
+    for station in &stations(alloc, layout, fabric.domains())? {
+        add_moves(&mut moves, station)?;
+    }
+    Ok(moves)
+}
