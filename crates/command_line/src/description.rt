@@ -41,7 +41,7 @@ Example: a posted write of the bytes 11 22 33 44 to address 0x1000, which is map
   $ pciefab first 400000010300000f0000100011223344
   frame 0 000 11223344000000000000000000000000
 
-The text of a layout is described in docs/LAYOUT.md, those of a script and a journal and what is printed in docs/FORMATS.md.
+Layouts are described in docs/LAYOUT.md; scripts, journals and what is printed in docs/FORMATS.md.
 The exit status is 0, 2 where memory is refused, or 1 for any other fault.";
 
 /// A subcommand without words.
