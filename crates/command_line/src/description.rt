@@ -21,7 +21,7 @@ const ALONE_ABOUT: &str = "Runs the same, and prints one domain as its journal a
 const JOURNAL_ABOUT: &str = "Runs the same, and prints the journal of one domain, entry by entry";
 
 const REPLAY_ABOUT: &str =
-    "Prints one domain as a journal leaves it that was printed or written before";
+    "Replays the journal of one domain from the start of its layout, and prints what it then holds";
 
 const PACKET_HELP: &str = "The bytes of the packet in lower-case hexadecimal, or - for no bytes";
 
