@@ -1,5 +1,5 @@
 -- What the commands of runs and of journals print.
-use Rattle.std.specs.Prelude.{◌≡◌, ℕ, List, ◌++◌, Ok, Some}
+use Rattle.std.specs.Prelude.{◌≡◌, ℕ, ◌+◌, ◌*◌, ◌≤◌, List, ◌++◌, length, Ok, Some}
 use Rattle.platform.specs.Platform.{Platform}
 use Rattle.layout.specs.Reading.{reading}
 use Rattle.platform.specs.Share.{Share}
@@ -16,7 +16,7 @@ use Rattle.commands.specs.Report.{IsReport}
 use Rattle.reports.specs.Report.{IsPart}
 use Rattle.command_line.specs.CommandLine.{Asked, First, Run, Alone, Journal, Replay}
 use Rattle.commands.specs.First.{Prints}
-use Rattle.journal_text.specs.Journals.{journal_text}
+use Rattle.journal_text.specs.Journals.{IsReadBack, journal_text}
 use Rattle.journal_text.specs.Reading as journal
 use Rattle.journals.specs.Steps.{entries_of}
 use Rattle.journal_text.specs.declared.read.JournalLine.{JournalLine}
@@ -73,7 +73,8 @@ pub record AlonePrints (holds : List ℕ → List ℕ → Type 0) (layout_name s
   pub replayed : IsReplayed platform lines share domain
   pub part : IsPart domain text
 
--- what `journal` prints: the journal that the domain of this number has in such a run
+-- what `journal` prints: the journal that the domain of this number has in such a run; a text of at most 16,777,216 lines
+-- is read as the same entries
 pub record JournalPrints (holds : List ℕ → List ℕ → Type 0) (layout_name script_name : List ℕ) (number : ℕ) (text : List ℕ) : Type 0 where
   pub platform : Platform
   pub lines : List Line
@@ -83,6 +84,7 @@ pub record JournalPrints (holds : List ℕ → List ℕ → Type 0) (layout_name
   pub domain : DomainView
   pub run : IsDrivenDomain platform lines share domain
   pub journal : text ≡ journal_text domain.share domain.journal
+  pub read_back : 2 * length domain.journal + 1 ≤ 16777216 → IsReadBack domain.share domain.journal
 
 -- what `replay` prints: the part of the report that the domain of this number has, from the replay of the journal in a file
 pub record ReplayPrints (holds : List ℕ → List ℕ → Type 0) (layout_name journal_name : List ℕ) (number : ℕ) (text : List ℕ) : Type 0 where

@@ -10,3 +10,4 @@ pub mod LineLemmas
 pub mod Lines
 pub mod FlightRead
 pub mod JournalsRead
+pub mod LegalEntries

@@ -61,3 +61,20 @@ IsLegible (entry.Refuse number) = number < 2 ^ 64
 IsLegible (entry.Carry number) = number < 2 ^ 64
 IsLegible (entry.Deliver number) = number < 2 ^ 64
 IsLegible (entry.Alien place sender bytes) = IsPlace place × AreParties sender × IsBytes bytes
+
+-- ---- what the types of numbers say by themselves
+
+-- a count of DW may have ten digits
+abbrev pub OperationFits : Operation → Type 0
+OperationFits (Read count) = ⊤
+OperationFits (Write bytes) = IsBytes bytes
+
+-- the same of any entry, whether a domain's machine has it or not
+abbrev pub EntryFits : Entry → Type 0
+EntryFits (entry.Submit function bytes) = IsId function × IsBytes bytes
+EntryFits (entry.Tick function) = IsId function
+EntryFits (entry.Mmio access) = IsId access.function × OperationFits access.operation
+EntryFits (entry.Refuse number) = number < 2 ^ 64
+EntryFits (entry.Carry number) = number < 2 ^ 64
+EntryFits (entry.Deliver number) = number < 2 ^ 64
+EntryFits (entry.Alien place sender bytes) = IsPlace place × AreParties sender × IsBytes bytes

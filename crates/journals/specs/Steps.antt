@@ -7,15 +7,17 @@ use Rattle.domain.specs.Domains.{DomainView}
 use Rattle.domain.specs.Machine.{change, replay}
 use Rattle.domain_parts.specs.State.{Alone, Change}
 use Rattle.journal_text.specs.Journals.{made_text}
+use Rattle.journal_text.specs.Legible.{IsLegible}
 use Rattle.journal_text.specs.Words.{entry_line}
 use Rattle.journal_text.specs.declared.read.JournalLine.{JournalLine}
 
--- the entry was legal, and it was written with the packet that it made
+-- the entry was legal, its numbers fit their types, and it was written with the packet that it made
 pub record IsWritten (before after : Option (List ℕ)) (old : DomainView) (entry : Entry) (new : DomainView) : Type 0 where
   pub share : new.share ≡ old.share
   pub made : Change
   pub step : change old.share old.state entry ≡ Some made
   pub state : new.state ≡ made.state
+  pub legible : IsLegible entry
   pub written : Appends before after (entry_line old.share.domain entry ++ made_text (length old.state.flight) made.emission)
 
 -- the entries of a journal's lines

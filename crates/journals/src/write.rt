@@ -1,14 +1,14 @@
 //! The journal of a domain as a text.
 
-ghost use Rattle.std.specs.Prelude.{◌≡◌, IfOk, IsSome, OnOk};
+ghost use Rattle.std.specs.Prelude.{◌≡◌, ◌+◌, ◌*◌, ◌≤◌, IfOk, IsSome, OnOk, length};
 ghost use Rattle.std.specs.Io.KnownBytes.{Appends};
 ghost use Rattle.domain.specs.Machine.{change};
 ghost use Rattle.domain_parts.specs.State.{start_state};
-ghost use Rattle.journal_text.specs.Journals.{journal_text, numbers_in_flight};
+ghost use Rattle.journal_text.specs.Journals.{IsReadBack, journal_text, numbers_in_flight};
 ghost use Rattle.journals.specs.Steps.{IsWritten};
 
 use domain::{Domain, Entry, EntryFault};
-use journal_text::{write_entry, write_in_flight, write_packet_note};
+use journal_text::{entry_fits, write_entry, write_in_flight, write_packet_note};
 use layout::Start;
 use std::alloc::{AllocError, Global};
 use std::io;
@@ -16,7 +16,7 @@ use std::io::{ErrorKind, Write};
 use std::sync::Wait;
 
 /// Writes the journal of a domain: a line for each entry, behind it a comment on the packet that it made, and last
-/// what is in flight.
+/// what is in flight. `JournalText::read` reads it as the same entries.
 ///
 /// # Errors
 ///
@@ -27,10 +27,15 @@ pub fn write_journal<R: Wait, W: Write>(
     out: &mut W,
     domain: &Domain,
 ) -> io::Result<()>
-    ensures { OnOk result (Appends (W.contents out.old) (W.contents out.new) (journal_text domain.now.share domain.now.journal)) }
+    ensures written { OnOk result (Appends (W.contents out.old) (W.contents out.new) (journal_text domain.now.share domain.now.journal)) }
+    // A text of at most 16,777,216 lines is read as the same entries.
+    ensures read_back { OnOk result (2 * length domain.now.journal + 1 ≤ 16777216 → IsReadBack domain.now.share domain.now.journal) }
 {
+    let share = domain.start();
+    // for the proof: a domain's number is 1 to 31
+    let _ = share.domain().get();
     // What a packet was is told by the domain's state when it was made.
-    let mut machine = at_start(rt, alloc, domain.start())?;
+    let mut machine = at_start(rt, alloc, share)?;
     for entry in domain.journal() {
         write_step(rt, alloc, out, &mut machine, entry)?;
     }
@@ -59,6 +64,8 @@ fn write_step<R: Wait, W: Write>(
     requires { IsSome (change machine.old.share machine.old.state entry.now) }
     ensures { OnOk result (IsWritten (W.contents out.old) (W.contents out.new) machine.old entry.now machine.new) }
 {
+    // for the proof: what is written is read back
+    entry_fits(entry);
     let number = machine.made();
     write_entry(alloc, out, machine.start().domain(), entry)?;
     match machine.apply(rt, entry) {

@@ -24,6 +24,7 @@ returns g c =
           there = sym (rw c.domain.ensures at c.in-Some.ensures);
         };
         journal = refl;
+        read_back = c.in_ok-write_journal.ensures.read_back;
       },
-      c.in_ok-write_journal.ensures,
+      c.in_ok-write_journal.ensures.written,
     )
