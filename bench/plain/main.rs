@@ -1,5 +1,5 @@
 //! A plain simulator of the fabric, in ordinary Rust: a yardstick of the speed of `pciefab run`, and an independent
-//! check of what it prints, written from docs/ and not from the crates. Nothing of it is proved.
+//! check of what it prints, written from docs/, where these left a doubt from the definitions, and not from code. Nothing of it is proved.
 //!
 //!     rustc --edition 2021 -O -o plain bench/plain/main.rs
 //!     plain run LAYOUT SCRIPT               prints what `pciefab run` prints
