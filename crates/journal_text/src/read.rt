@@ -23,11 +23,10 @@ pub struct JournalLine {
     pub entry: Entry,
 }
 
-/// The entries that are read so far.
+/// Knows what a line says in the journal of this domain.
 #[derive(Drop)]
 struct EntryReader {
     domain: DomainId,
-    lines: Vec<JournalLine>,
 }
 
 impl LineReader for EntryReader {
@@ -35,17 +34,17 @@ impl LineReader for EntryReader {
 
     ghost said = { λ r. said r.domain };
 
-    ghost items = { λ r. r.lines.items };
-
-    fn take_line(&mut self, alloc: Global, number: u32, line: &[u8]) -> Result<(), ScriptCause> {
+    fn item(
+        &self,
+        alloc: Global,
+        number: u32,
+        line: &[u8],
+    ) -> Result<Option<JournalLine>, ScriptCause> {
         if is_in_flight(line) {
-            return Ok(());
+            return Ok(None);
         }
         let entry = entry_of(alloc, self.domain, line)?;
-        match self.lines.push(JournalLine { number, entry }) {
-            Ok(()) => Ok(()),
-            Err(_) => Err(ScriptCause::NoMemory),
-        }
+        Ok(Some(JournalLine { number, entry }))
     }
 }
 
@@ -71,17 +70,12 @@ impl JournalText {
     ///
     /// `Line` and the first faulty line, counted from 1; or `NoMemory` and the line at which memory was
     /// refused, which is not faulty, and before which no line is.
+    #[tactic(auto, unfolding(crate::specs::Reading::reading))]
     pub fn read(alloc: Global, domain: DomainId, text: &str) -> Result<JournalText, ScriptFault>
         ensures { IsReading (reading domain text.now) result }
     {
-        let mut reader = EntryReader {
-            domain,
-            lines: Vec::new(alloc),
-        };
-        read_lines(alloc, text, LAST_LINE, &mut reader)?;
-        Ok(JournalText {
-            lines: reader.lines,
-        })
+        let lines = read_lines(alloc, text, LAST_LINE, &EntryReader { domain })?;
+        Ok(JournalText { lines })
     }
 
     /// The entries, in their order.

@@ -1,6 +1,6 @@
 -- A text's first line is read, and then the rest.
-use Rattle.std.proofs.Common.{◌≡◌, ℕ, ◌+◌, ◌<◌, Bool, true, false, cond, length, ◌==◌, List, [], ◌∷◌, ◌++◌, Option, Some, None, refl, sym, ap, ◌∙◌, arith, inl, inr, lt-ltb, ltb-false}
-use Rattle.std.specs.Prelude.{nat_lt, option_map, IsSome, Result, Ok, Err}
+use Rattle.std.proofs.Common.{◌≡◌, ℕ, ◌+◌, ◌<◌, Bool, true, false, cond, length, ◌==◌, List, [], ◌∷◌, ◌++◌, Option, Some, None, refl, sym, ap, arith, inl, inr, lt-ltb, ltb-false}
+use Rattle.std.specs.Prelude.{nat_lt, IsSome, Result, Ok, Err}
 use Rattle.std.proofs.lemmas.List.{append_assoc, append-nil}
 use Rattle.fab_types.specs.declared.faults.script.ScriptFault.{ScriptFault}
 use Rattle.fab_types.specs.declared.faults.script.ScriptCause.{ScriptCause}
@@ -18,19 +18,6 @@ module _ {T : Type 0} where
   before-more : (old items : List T) (more : Result (List T) ScriptFault) → before old (before items more) ≡ before (old ++ items) more
   before-more old items (Ok more) = ap Ok (sym (append_assoc old items more))
   before-more old items (Err fault) = refl
-
-  -- a fault stays the same behind items
-  pub fault-before : (old : List T) (expected : Result (List T) ScriptFault) (fault : ScriptFault) → IsFault (before old expected) fault → IsFault expected fault
-  fault-before old (Ok items) fault (inl h) = inl h
-  fault-before old (Ok items) fault (inr h) = absurd cc
-  fault-before old (Err f) fault h = h
-
-  line-taken : (number : ℕ) (expected : Option (List T)) (old new : List T) (more : Result (List T) ScriptFault)
-      → option_map (λ items. old ++ items) expected ≡ Some new → before old (and_on number expected more) ≡ before new more
-  line-taken number None old new more h = absurd cc
-  line-taken number (Some items) old new more h =
-      let e : old ++ items ≡ new = cc in
-      before-more old items more ∙ ap (λ (all : List T). before all more) e
 
   more-sound : (number lower : ℕ) (expected : Option (List T)) (more : Result (List T) ScriptFault) → lower < number
       → is_sound more lower ≡ true → is_sound (and_on number expected more) lower ≡ true
@@ -50,15 +37,15 @@ module _ {T : Type 0} where
   at-line number old (Some items) (Ok more) h later = refl
   at-line number old (Some items) (Err fault) h later = later
 
-  number-below : (past : Bool) (last number : ℕ) (expected : Option (List T)) (old new : List T) → past ≡ nat_lt last number
-      → option_map (λ items. old ++ items) (cond past None expected) ≡ Some new → number < last + 1
-  number-below true last number expected old new e h = absurd cc
-  number-below false last number expected old new e h = omega (arith, ltb-false last number (sym e))
+  number-below : (past : Bool) (last number : ℕ) (expected : Option (List T)) (items : List T) → past ≡ nat_lt last number
+      → cond past None expected ≡ Some items → number < last + 1
+  number-below true last number expected items e h = absurd cc
+  number-below false last number expected items e h = omega (arith, ltb-false last number (sym e))
 
-  -- a line that was taken is none behind the last
-  pub number-of_taken : (last : ℕ) (said : ℕ → List ℕ → Option (List T)) (number : ℕ) (line : List ℕ) (old new : List T)
-      → option_map (λ items. old ++ items) (adds last said number line) ≡ Some new → number < last + 1
-  number-of_taken last said number line old new h = number-below (nat_lt last number) last number (cond (is_comment line) (Some []) (said number line)) old new refl h
+  -- a line that adds something is none behind the last
+  pub number-of_line : (last : ℕ) (said : ℕ → List ℕ → Option (List T)) (number : ℕ) (line : List ℕ) (items : List T)
+      → adds last said number line ≡ Some items → number < last + 1
+  number-of_line last said number line items h = number-below (nat_lt last number) last number (cond (is_comment line) (Some []) (said number line)) items refl h
 
 module _ {T : Type 0} (added : ℕ → List ℕ → Option (List T)) where
   -- a line that ends is taken, and then the rest
@@ -69,11 +56,11 @@ module _ {T : Type 0} (added : ℕ → List ℕ → Option (List T)) where
   read-end : (number : ℕ) (text : List ℕ) → None ≡ cut 10 text → read_from added number (pieces text) ≡ cond (length text == 0) (Ok []) (Err (fault_at number))
   read-end number text e = rw (pieces-no_cut text e) refl
 
-  -- a line was taken: what was read of the text so far has its share
-  pub read-taken : (number : ℕ) (old new : List T) (line after text : List ℕ) → Some (line, after) ≡ cut 10 text → option_map (λ items. old ++ items) (added number line) ≡ Some new
-      → before old (read_from added number (pieces text)) ≡ before new (read_from added (number + 1) (pieces after))
-  read-taken number old new line after text e h =
-      rw (read-line number line after text e) (line-taken number (added number line) old new (read_from added (number + 1) (pieces after)) h)
+  -- a line adds its items to those before it
+  pub read-on : (number : ℕ) (old items : List T) (line after text : List ℕ) → Some (line, after) ≡ cut 10 text → added number line ≡ Some items
+      → before old (read_from added number (pieces text)) ≡ before (old ++ items) (read_from added (number + 1) (pieces after))
+  read-on number old items line after text e h =
+      rw (read-line number line after text e, h) (before-more old items (read_from added (number + 1) (pieces after)))
 
   -- no line is faulty before the one that is read next
   sound-before : (number lower : ℕ) (lines : List (List ℕ)) → lower < number → is_sound (read_from added number lines) lower ≡ true

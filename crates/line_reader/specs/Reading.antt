@@ -1,10 +1,8 @@
 -- A text is what its lines say, or it has a first faulty line.
-use Rattle.std.specs.Prelude.{◌≡◌, ℕ, ◌+◌, ◌==◌, List, [], ◌∷◌, ◌++◌, Bool, true, nat_lt, length, Option, Some, None, option_map, Result, Ok, Err, MatchResult, ◌⊎◌, if◌then◌else◌}
-use Rattle.fab_types.specs.declared.faults.script.ScriptCause.{ScriptCause}
+use Rattle.std.specs.Prelude.{◌≡◌, ℕ, ◌+◌, ◌==◌, List, [], ◌∷◌, ◌++◌, Bool, true, nat_lt, length, Option, Some, None, Result, Ok, Err, MatchResult, Vec, ◌⊎◌, if◌then◌else◌}
 use Rattle.fab_types.specs.declared.faults.script.ScriptCause.TheVariants as cause
 use Rattle.fab_types.specs.declared.faults.script.ScriptFault.{ScriptFault}
 use Rattle.text.specs.Text.{pieces, is_last, is_comment}
-use Rattle.line_reader.specs.Answers.{IsCause}
 
 -- What the line of this number adds: none that is behind the last, a comment nothing, each other line what
 -- it says. A line that says nothing is faulty.
@@ -36,10 +34,6 @@ read_from added number (line ∷ rest) =
 unfoldable pub reading : {T : Type 0} → ℕ → (ℕ → List ℕ → Option (List T)) → List ℕ → Result (List T) ScriptFault
 reading last said text = read_from (adds last said) 1 (pieces text)
 
--- what is expected stands behind the old items, or the answer is the cause why not
-abbrev pub IsTaken : {T : Type 0} → Option (List T) → List T → Result (Unit {0}) ScriptCause → List T → Type 0
-IsTaken expected old answer new = MatchResult answer (λ _. option_map (λ items. old ++ items) expected ≡ Some new) (IsCause expected)
-
 -- no line up to this one is faulty
 abbrev pub is_sound : {T : Type 0} → Result (List T) ScriptFault → ℕ → Bool
 is_sound (Ok items) number = true
@@ -54,6 +48,7 @@ IsFault expected fault = ((fault.cause ≡ cause.NoMemory) × (is_sound expected
 abbrev pub IsReading : {T : Type 0} → Result (List T) ScriptFault → Result (List T) ScriptFault → Type 0
 IsReading expected answer = MatchResult answer (λ items. expected ≡ Ok items) (IsFault expected)
 
--- what a text is stands behind the old items, or the answer is the fault why not
-abbrev pub AreTaken : {T : Type 0} → Result (List T) ScriptFault → List T → Result (Unit {0}) ScriptFault → List T → Type 0
-AreTaken expected old answer new = MatchResult answer (λ _. before old expected ≡ Ok new) (IsFault expected)
+-- what was read, as a list
+abbrev pub list_of : {T Z : Type 0} → Result (Vec T Z) ScriptFault → Result (List T) ScriptFault
+list_of (Ok items) = Ok items.items
+list_of (Err fault) = Err fault

@@ -1,35 +1,45 @@
 //! Reading the lines of a text.
 
-ghost use Rattle.std.specs.Prelude.{◌≡◌, ◌<◌};
-ghost use Rattle.line_reader.specs.Reading.{AreTaken, IsTaken, adds, reading};
+ghost use Rattle.std.specs.Prelude.{◌≡◌, ◌<◌, ◌++◌, OnOk, option_to_list};
+ghost use Rattle.line_reader.specs.Answers.{IsItem};
+ghost use Rattle.line_reader.specs.Reading.{IsReading, adds, list_of, reading};
 
 use crate::reader::LineReader;
 use fab_types::{ScriptCause, ScriptFault};
-use std::alloc::Global;
+use std::alloc::{AllocError, Global};
 use text::{cut, is_comment};
 
-/// Takes one line: none behind the last, and nothing of a comment.
-fn take_any<R: LineReader>(
+/// What one line adds: none that is behind the last, and a comment nothing.
+fn item_at<R: LineReader>(
     alloc: Global,
     last: u32,
-    reader: &mut R,
+    reader: &R,
     number: u32,
     line: &[u8],
-) -> Result<(), ScriptCause>
-    ensures taken { IsTaken (adds last (R.said reader.old) number line.now) (R.items reader.old) result (R.items reader.new) }
-    ensures same { R.said reader.new ≡ R.said reader.old }
+) -> Result<Option<R::Item>, ScriptCause>
+    ensures { IsItem (adds last (R.said reader.now) number line.now) result }
 {
     if number > last {
         return Err(ScriptCause::Line);
     }
     if is_comment(line) {
-        return Ok(());
+        return Ok(None);
     }
-    reader.take_line(alloc, number, line)
+    reader.item(alloc, number, line)
 }
 
-/// Reads each line of a text, up to the first faulty one. A line that begins with `#` is a comment, which
-/// is counted and says nothing; a line behind the number `last` is faulty.
+/// Puts an item behind the others, if there is one.
+fn keep<T: Drop>(items: &mut Vec<T>, item: Option<T>) -> Result<(), AllocError>
+    ensures { OnOk result (items.new.items ≡ items.old.items ++ option_to_list item) }
+{
+    if let Some(item) = item {
+        items.push(item)?;
+    }
+    Ok(())
+}
+
+/// What the lines of a text say, in their order. A line that begins with `#` is a comment, which is counted
+/// and says nothing; a line behind the number `last` is faulty.
 ///
 /// # Errors
 ///
@@ -39,17 +49,23 @@ pub fn read_lines<R: LineReader>(
     alloc: Global,
     text: &str,
     last: u32,
-    reader: &mut R,
-) -> Result<(), ScriptFault>
+    reader: &R,
+) -> Result<Vec<R::Item>, ScriptFault>
     requires { last < u32.MAX }
-    ensures { AreTaken (reading last (R.said reader.old) text.now) (R.items reader.old) result (R.items reader.new) }
+    ensures { IsReading (reading last (R.said reader.now) text.now) (list_of result) }
 {
+    let mut items = Vec::new(alloc);
     let mut line: u32 = 1;
     let mut rest = text.as_bytes();
     while let Some(parts) = cut(rest, b'\n') {
-        if let Err(cause) = take_any(alloc, last, reader, line, parts.before) {
+        let item = match item_at(alloc, last, reader, line, parts.before) {
+            Ok(item) => item,
+            Err(cause) => return Err(ScriptFault { cause, line }),
+        };
+        let Ok(()) = keep(&mut items, item) else {
+            let cause = ScriptCause::NoMemory;
             return Err(ScriptFault { cause, line });
-        }
+        };
         line += 1;
         rest = parts.after;
     }
@@ -57,5 +73,5 @@ pub fn read_lines<R: LineReader>(
         let cause = ScriptCause::Line;
         return Err(ScriptFault { cause, line });
     }
-    Ok(())
+    Ok(items)
 }

@@ -1,28 +1,29 @@
 //! Who knows what a line says.
 
-ghost use Rattle.std.specs.Prelude.{◌≡◌, ℕ, List, Option};
-ghost use Rattle.line_reader.specs.Reading.{IsTaken};
+ghost use Rattle.std.specs.Prelude.{ℕ, List, Option};
+ghost use Rattle.line_reader.specs.Answers.{IsItem};
 
 use fab_types::ScriptCause;
 use std::alloc::Global;
 
-/// Reads the lines of a text that are no comments, and keeps what they say.
+/// Knows what the lines of a text say that are no comments.
 pub trait LineReader {
-    /// What lines say: each a list of these, which may be empty.
-    type Item;
+    /// What a line says: one of these, or none.
+    type Item: Drop;
 
-    /// What a line of this number says, if it says something. No line changes it.
+    /// What a line of this number says, if it says something.
     ghost said: { Self → ℕ → List ℕ → Option (List Self.Item) };
 
-    /// What the lines so far said.
-    ghost items: { Self → List Self.Item };
-
-    /// Reads one line.
+    /// What one line says.
     ///
     /// # Errors
     ///
     /// `Line` where the line says nothing, and `NoMemory` where memory was refused.
-    fn take_line(&mut self, alloc: Global, number: u32, line: &[u8]) -> Result<(), ScriptCause>
-        ensures taken { IsTaken (said self.old number line.now) (items self.old) result (items self.new) }
-        ensures same { said self.new ≡ said self.old };
+    fn item(
+        &self,
+        alloc: Global,
+        number: u32,
+        line: &[u8],
+    ) -> Result<Option<Self::Item>, ScriptCause>
+        ensures { IsItem (said self.now number line.now) result };
 }

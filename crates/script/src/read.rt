@@ -14,25 +14,18 @@ use std::marker::Model;
 /// The greatest number of a line.
 const LAST_LINE: u32 = 65_536;
 
-/// The lines that are read so far.
+/// Knows what a line of a script says.
 #[derive(Drop)]
-struct CommandReader {
-    lines: Vec<Line>,
-}
+struct CommandReader;
 
 impl LineReader for CommandReader {
     type Item = Line;
 
     ghost said = { λ _. said };
 
-    ghost items = { λ r. r.lines.items };
-
-    fn take_line(&mut self, alloc: Global, number: u32, line: &[u8]) -> Result<(), ScriptCause> {
+    fn item(&self, alloc: Global, number: u32, line: &[u8]) -> Result<Option<Line>, ScriptCause> {
         let command = command_of(alloc, line)?;
-        match self.lines.push(Line { number, command }) {
-            Ok(()) => Ok(()),
-            Err(_) => Err(ScriptCause::NoMemory),
-        }
+        Ok(Some(Line { number, command }))
     }
 }
 
@@ -58,16 +51,12 @@ impl Script {
     ///
     /// `Line` and the first faulty line, counted from 1; or `NoMemory` and the line at which memory
     /// was refused, which is not faulty, and before which no line is.
+    #[tactic(auto, unfolding(crate::specs::Reading::reading))]
     pub fn read(alloc: Global, text: &str) -> Result<Script, ScriptFault>
         ensures { IsReading (reading text.now) result }
     {
-        let mut reader = CommandReader {
-            lines: Vec::new(alloc),
-        };
-        read_lines(alloc, text, LAST_LINE, &mut reader)?;
-        Ok(Script {
-            lines: reader.lines,
-        })
+        let lines = read_lines(alloc, text, LAST_LINE, &CommandReader)?;
+        Ok(Script { lines })
     }
 
     /// The lines that are no comments, in their order.

@@ -5,10 +5,9 @@ use Rattle.line_reader.proofs.read.read_lines.Given as goal
 
 abbrev pub invariant-loop-parts : goal.invariant-loop-parts
 invariant-loop-parts g l =
-    let r = g.R.LineReader in
+    let said = g.R.LineReader.said l.reader in
     record {
-      same : r.said l.reader ≡ r.said l.initial.reader;
-      left : before (r.items l.initial.reader) (reading l.last (r.said l.initial.reader) l.fn.text) ≡ before (r.items l.reader) (read_from (adds l.last (r.said l.initial.reader)) l.line (pieces l.rest));
+      left : reading l.last said l.fn.text ≡ before l.items.items (read_from (adds l.last said) l.line (pieces l.rest));
       small : l.line ≤ l.last + 1;
     }
 
