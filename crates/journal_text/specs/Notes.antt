@@ -6,12 +6,12 @@ use Rattle.fab_types.specs.Faults.{malformed_name}
 use Rattle.fab_types.specs.Texts.{byte_text, id_text}
 use Rattle.fab_types.specs.declared.faults.malformed.Malformed.{Malformed}
 use Rattle.fab_types.specs.declared.status.Status.{Status}
-use Rattle.fab_types.specs.declared.status.Status.TheVariants.{SC, UR, CRS, CA}
 use Rattle.tlp_view.specs.Bytes.{packet_of}
 use Rattle.tlp_view.specs.Malformed.{malformed}
 use Rattle.tlp_view.specs.Packet.{Packet, address_in, status_in}
 use Rattle.tlp_view.specs.declared.kind.Kind.{Kind}
 use Rattle.tlp_view.specs.declared.kind.Kind.TheVariants.{MRd, MRdLk, MWr, IORd, IOWr, CfgRd0, CfgWr0, CfgRd1, CfgWr1, Msg, MsgD, Cpl, CplD, CplLk, CplDLk, FetchAdd, Swap, CAS}
+use Rattle.reports.specs.Report.{status_name}
 
 -- ---- packets
 
@@ -34,12 +34,6 @@ kind_name CplDLk = codes "CplDLk"
 kind_name FetchAdd = codes "FetchAdd"
 kind_name Swap = codes "Swap"
 kind_name CAS = codes "CAS"
-
-abbrev pub status_name : Status → List ℕ
-status_name SC = codes "SC"
-status_name UR = codes "UR"
-status_name CRS = codes "CRS"
-status_name CA = codes "CA"
 
 -- where it goes, of a memory read or write, or how it ends, of a completion
 abbrev pub end_text : Option ℕ → Option Status → List ℕ

@@ -5,9 +5,10 @@ ghost use Rattle.std.specs.Io.KnownBytes.{Appends};
 ghost use Rattle.tlp_view.specs.Bytes.{packet_of};
 ghost use Rattle.tlp_view.specs.Malformed.{malformed};
 ghost use Rattle.tlp_view.specs.Packet.{address_in, status_in};
-ghost use Rattle.journal_text.specs.Notes.{bytes_are, end_text, kind_name, note_line, packet_head, packet_text, status_name};
+ghost use Rattle.journal_text.specs.Notes.{bytes_are, end_text, kind_name, note_line, packet_head, packet_text};
 
 use fab_types::Status;
+use reports::status_name;
 use std::io;
 use std::io::Write;
 use tlp_view::{Kind, TlpView};
@@ -34,17 +35,6 @@ fn kind_name(kind: Kind) -> &'static str
         Kind::FetchAdd => "FetchAdd",
         Kind::Swap => "Swap",
         Kind::CAS => "CAS",
-    }
-}
-
-fn status_name(status: Status) -> &'static str
-    ensures { result.now ≡ status_name status }
-{
-    match status {
-        Status::SC => "SC",
-        Status::UR => "UR",
-        Status::CRS => "CRS",
-        Status::CA => "CA",
     }
 }
 

@@ -73,6 +73,7 @@ memory_lines domain = flat_map (numbered_lines domain.state.frames) domain.share
 abbrev pub register_lines : List (ℕ × List ℕ) → ℕ → List ℕ
 register_lines pages function = option_map_or (page_lines (Registers function)) (page_of pages function) []
 
+-- the name of a completion's status (PCIe 4.0, 2.2.9)
 abbrev pub status_name : Status → List ℕ
 status_name SC = codes "SC"
 status_name UR = codes "UR"

@@ -6,4 +6,6 @@ mod report;
 mod rows;
 
 pub use ids::rising;
-pub use report::{write_domain, write_domains, write_frames, write_refusal, write_violations};
+pub use report::{
+    status_name, write_domain, write_domains, write_frames, write_refusal, write_violations,
+};

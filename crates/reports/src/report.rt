@@ -125,7 +125,8 @@ fn write_register_page<W: Write>(out: &mut W, domain: &Domain, function: Bdf) ->
     }
 }
 
-fn status_name(status: Status) -> &'static str
+/// The name of a completion's status (PCIe 4.0, 2.2.9), as `SC` of a successful one.
+pub fn status_name(status: Status) -> &'static str
     ensures { result.now ≡ status_name status }
 {
     match status {

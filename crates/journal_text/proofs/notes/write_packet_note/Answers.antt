@@ -2,7 +2,8 @@ use Rattle.std.specs.Prelude.{codes}
 use Rattle.tlp_view.specs.Bytes.{packet_of}
 use Rattle.tlp_view.specs.Malformed.{malformed}
 use Rattle.journal_text.specs.Notes.{bytes_are, note_head, note_text}
-use Rattle.journal_text.proofs.Writing.{joined, joined_ok}
+use Rattle.reports.proofs.Writing.{joined}
+use Rattle.journal_text.proofs.Writing.{joined_ok}
 use Rattle.journal_text.proofs.notes.write_packet_note.Goals as goal
 
 pub returns : goal.returns
