@@ -30,6 +30,11 @@ pub record AreFiles (holds : List ℕ → List ℕ → Type 0) (layout_name scri
   pub script_file : holds script_name script_text
   pub script : script.reading script_text ≡ Ok lines
 
+-- what `alone` and `journal` are given: such files, and the number of a domain, to which the platform gives this share
+pub record AreInputs (holds : List ℕ → List ℕ → Type 0) (layout_name script_name : List ℕ) (number : ℕ) (platform : Platform) (lines : List Line) (share : Share) : Type 0 where
+  pub files : AreFiles holds layout_name script_name platform lines
+  pub owner : share_of_owner platform number ≡ Some share
+
 -- What `run` prints: the fabric of the one file is driven by the other, and of that the begins that were refused, as
 -- they came, and then the report. Where the layout is guarded, no domain can tell that run from the one that is left when
 -- all other domains' events are taken out
@@ -66,9 +71,8 @@ pub record IsReplayed (platform : Platform) (lines : List Line) (share : Share) 
 pub record AlonePrints (holds : List ℕ → List ℕ → Type 0) (layout_name script_name : List ℕ) (number : ℕ) (text : List ℕ) : Type 0 where
   pub platform : Platform
   pub lines : List Line
-  pub files : AreFiles holds layout_name script_name platform lines
   pub share : Share
-  pub owner : share_of_owner platform number ≡ Some share
+  pub inputs : AreInputs holds layout_name script_name number platform lines share
   pub domain : DomainView
   pub replayed : IsReplayed platform lines share domain
   pub part : IsPart domain text
@@ -78,9 +82,8 @@ pub record AlonePrints (holds : List ℕ → List ℕ → Type 0) (layout_name s
 pub record JournalPrints (holds : List ℕ → List ℕ → Type 0) (layout_name script_name : List ℕ) (number : ℕ) (text : List ℕ) : Type 0 where
   pub platform : Platform
   pub lines : List Line
-  pub files : AreFiles holds layout_name script_name platform lines
   pub share : Share
-  pub owner : share_of_owner platform number ≡ Some share
+  pub inputs : AreInputs holds layout_name script_name number platform lines share
   pub domain : DomainView
   pub run : IsDrivenDomain platform lines share domain
   pub journal : text ≡ journal_text domain.share domain.journal

@@ -3,7 +3,7 @@
 ghost use Rattle.std.specs.Prelude.{◌≡◌, IfOk, OnOk, Some};
 ghost use Rattle.layout.specs.Views.{share_of_owner};
 ghost use Rattle.reports.specs.Writing.{Wrote};
-ghost use Rattle.commands.specs.Runs.{AlonePrints, IsReplayed, JournalPrints, RunPrints};
+ghost use Rattle.commands.specs.Runs.{AlonePrints, AreInputs, IsReplayed, JournalPrints, RunPrints};
 
 use crate::drive::driven;
 use crate::fault::Fault;
@@ -16,7 +16,7 @@ use fab_types::DomainId;
 use journals::write_journal;
 use layout::{Layout, Start};
 use reports::write_domain;
-use script::Line;
+use script::{Line, Script};
 use std::alloc::Global;
 use std::io;
 use std::io::Write;
@@ -51,10 +51,9 @@ pub fn alone<'a, R: Wait, F: FileGiver, W: Write>(
 ) -> Result<(), Fault<'a>>
     ensures { OnOk result (Wrote (W.contents out.old) (W.contents out.new) (AlonePrints (F.holds files.now) names.entry.layout.now names.entry.script.now number)) }
 {
-    let layout = layout_of(alloc, files, names.layout)?;
-    let script = script_of(alloc, files, names.script)?;
-    let start = start_of(alloc, &layout, number)?;
-    let domain = replayed(rt, alloc, &layout, script.lines(), &start)?;
+    let inputs = inputs_of(alloc, files, names, number)?;
+    let lines = inputs.script.lines();
+    let domain = replayed(rt, alloc, &inputs.layout, lines, &inputs.start)?;
     write_domain(alloc, out, &domain)?;
     Ok(())
 }
@@ -70,15 +69,42 @@ pub fn journal<'a, R: Wait, F: FileGiver, W: Write>(
 ) -> Result<(), Fault<'a>>
     ensures { OnOk result (Wrote (W.contents out.old) (W.contents out.new) (JournalPrints (F.holds files.now) names.entry.layout.now names.entry.script.now number)) }
 {
-    let layout = layout_of(alloc, files, names.layout)?;
-    let script = script_of(alloc, files, names.script)?;
-    let start = start_of(alloc, &layout, number)?;
-    let fabric = driven(rt, alloc, &layout, script.lines(), &mut io::sink())?;
-    let Some(domain) = fabric.domain(start.domain()) else {
+    let inputs = inputs_of(alloc, files, names, number)?;
+    let lines = inputs.script.lines();
+    let fabric = driven(rt, alloc, &inputs.layout, lines, &mut io::sink())?;
+    let Some(domain) = fabric.domain(inputs.start.domain()) else {
         return Err(Fault::NoDomain { number });
     };
     write_journal(rt, alloc, out, domain)?;
     Ok(())
+}
+
+/// What `alone` and `journal` are given.
+#[derive(Drop)]
+struct Inputs {
+    layout: Layout,
+    script: Script,
+    /// What the domain that was asked for starts from.
+    start: Start,
+}
+
+/// Reads the files of these names, and finds the domain of this number.
+fn inputs_of<'a, F: FileGiver>(
+    alloc: Global,
+    files: &F,
+    names: Files<'a>,
+    number: u32,
+) -> Result<Inputs, Fault<'a>>
+    ensures { IfOk result (λ inputs. AreInputs (F.holds files.now) names.entry.layout.now names.entry.script.now number inputs.layout inputs.script inputs.start) }
+{
+    let layout = layout_of(alloc, files, names.layout)?;
+    let script = script_of(alloc, files, names.script)?;
+    let start = start_of(alloc, &layout, number)?;
+    Ok(Inputs {
+        layout,
+        script,
+        start,
+    })
 }
 
 /// What the domain of this number starts from. There is none where it owns no port.
