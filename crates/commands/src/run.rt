@@ -1,6 +1,6 @@
 //! The commands `run`, `alone` and `journal`: a layout's fabric, driven by a script.
 
-ghost use Rattle.std.specs.Prelude.{◌≡◌, IfOk, OnOk, Some};
+ghost use Rattle.std.specs.Prelude.{◌≡◌, ◌≤◌, ◌⊎◌, IfErr, IfOk, None, OnOk, Some, SomeIff};
 ghost use Rattle.layout.specs.Views.{share_of_owner};
 ghost use Rattle.reports.specs.Writing.{Wrote};
 ghost use Rattle.commands.specs.Runs.{AlonePrints, AreInputs, IsReplayed, JournalPrints, RunPrints};
@@ -107,15 +107,22 @@ fn inputs_of<'a, F: FileGiver>(
     })
 }
 
+/// The domain of this number, if it is 1 to 31.
+fn domain_of(number: u32) -> Option<DomainId>
+    ensures { SomeIff result ((1 ≤ number) × (number ≤ 31)) number }
+{
+    DomainId::new(u8::try_from(number).ok()?)
+}
+
 /// What the domain of this number starts from. There is none where it owns no port.
 pub fn start_of<'a>(alloc: Global, layout: &Layout, number: u32) -> Result<Start, Fault<'a>>
-    ensures { IfOk result (λ share. share_of_owner layout.now number ≡ Some share) }
+    ensures ok { IfOk result (λ share. share_of_owner layout.now number ≡ Some share) }
+    ensures none { IfErr result (λ fault. (fault ≡ Fault.NoMemory) ⊎ ((fault ≡ Fault.NoDomain number) × (share_of_owner layout.now number ≡ None))) }
 {
+    // for the proof: each port is of a domain, 1 to 31
+    let _ = layout.ports();
     let none = Fault::NoDomain { number };
-    let Ok(narrow) = u8::try_from(number) else {
-        return Err(none);
-    };
-    let Some(domain) = DomainId::new(narrow) else {
+    let Some(domain) = domain_of(number) else {
         return Err(none);
     };
     match layout.start(alloc, domain)? {
