@@ -1,5 +1,5 @@
 -- An entry that the machine of a domain has is legible.
-use Rattle.std.proofs.Common.{◌≡◌, ℕ, ◌*◌, ◌<◌, ◌≤◌, Bool, true, false, cond, Option, Some, None, refl, arith}
+use Rattle.std.proofs.Common.{◌≡◌, ℕ, ◌<◌, ◌≤◌, Bool, true, false, cond, Option, Some, refl, arith}
 use Rattle.std.specs.Prelude.{not}
 use Rattle.std.proofs.lemmas.Bool.Decides.{nat_tests}
 use Rattle.fab_types.specs.declared.faults.begin.MmioFault.{MmioFault}
@@ -14,7 +14,7 @@ use Rattle.domain.specs.declared.entry.Entry.TheVariants as entry
 use Rattle.domain.specs.Machine.{change}
 use Rattle.domain_parts.specs.HostAccesses.{is_in_page, mmio_fault, mmio_unless, size_of}
 use Rattle.domain_parts.specs.State.{Alone, Change}
-use Rattle.journal_text.specs.Legible.{EntryFits, IsAccess, IsId, IsLegible, IsOperation, OperationFits}
+use Rattle.journal_text.specs.Legible.{EntryFits, IsLegible, IsOperation, OperationFits}
 
 -- an access that isn't refused lies in the page
 unless_in_page : (share : Share) (s : Alone) (access : HostAccess) (c : Change) (own page : Bool) (rest : Option MmioFault) → mmio_unless (cond (not own) (Some NotYours) (cond (not page) (Some Range) rest)) share s access ≡ Some c

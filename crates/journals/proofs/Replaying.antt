@@ -1,11 +1,11 @@
 -- The entries of lines, one after another.
-use Rattle.std.proofs.Common.{◌≡◌, ℕ, ◌+◌, ◌<◌, List, [], ◌∷◌, ◌++◌, length, take, Option, Some, None, refl, sym, ap, ◌∙◌, subst, slice_get}
-use Rattle.std.specs.Prelude.{map, option_map, slice_index_or}
+use Rattle.std.proofs.Common.{◌≡◌, ℕ, ◌+◌, ◌<◌, List, [], ◌∷◌, ◌++◌, length, take, Option, Some, None, refl, ap, ◌∙◌, slice_get}
+use Rattle.std.specs.Prelude.{option_map, slice_index_or}
 use Rattle.std.proofs.lemmas.List.{take-map}
 use Rattle.std.proofs.lemmas.Option.{slice_get-map}
 use Rattle.platform.specs.Share.{Share}
 use Rattle.domain.specs.declared.entry.Entry.{Entry}
-use Rattle.domain.specs.Machine.{change, replay, replay_from, step, step_from}
+use Rattle.domain.specs.Machine.{change, replay, replay_from, step_from}
 use Rattle.domain.proofs.Replaying.{replay_stops}
 use Rattle.domain_parts.specs.State.{Alone, Change, start_state}
 use Rattle.journal_text.specs.declared.read.JournalLine.{JournalLine}

@@ -1,4 +1,3 @@
-use Rattle.std.proofs.Common.{◌∙◌, sym}
 use Rattle.journals.proofs.Writing.{with_packet, without_packet}
 use Rattle.journals.proofs.write.write_step.Goals as goal
 
