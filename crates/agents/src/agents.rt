@@ -193,6 +193,16 @@ impl Agents {
         self.domains.deliver(frame)
     }
 
+    /// The same as `deliver` without the record, of which no copy is made then.
+    pub fn complete(&mut self, frame: Frame) -> Result<(), FrameFault>
+        ensures ok { OnOk result (delivered self.old frame ≡ Some self.new) }
+        ensures fault { IfErr result (λ fault. IsStray (made self.old.domains frame.domain (Deliver frame.number)) frame fault) }
+        ensures stray { delivered self.old frame ≡ None → result ≡ Err (FrameFault.Stray frame) }
+        ensures err { OnErr result (self.new ≡ self.old) }
+    {
+        self.domains.complete(frame)
+    }
+
     /// What ports read of the eligible packet of a class that an origin has waiting.
     pub fn head(&self, origin: Origin, class: Class) -> Option<Head>
         ensures { result ≡ option_map (λ taken. taken.0.head) (eligible class (waiting_of self.now.outboxes origin)) }

@@ -18,7 +18,7 @@ use fab_types::{Bdf, DomainId, NoMemory, Origin, Parties};
 use frame_log::Frame;
 use function::{OpenTag, Plan, TagUse};
 use std::sync::Wait;
-use tlp_view::RequestBuf;
+use tlp_view::{ReadPacket, RequestBuf};
 
 impl State {
     /// Emits a packet of a function, and opens its Tag if it waits for a completion.
@@ -27,12 +27,12 @@ impl State {
         rt: &R,
         domain: DomainId,
         function: Bdf,
-        bytes: &[u8],
+        packet: &ReadPacket<'_>,
     ) -> Result<Frame, NoMemory>
-        requires short { length bytes.now ≤ 272 }
+        requires short { length packet.now ≤ 272 }
         requires begins { self.old.counts.begins + 1 < 2 ^ 32 }
-        ensures state { IfOk result (λ _. self.new ≡ with_emission (submitted self.old function bytes.now) (record { parties = Upward function; bytes = bytes.now })) }
-        ensures frame { IfOk result (λ frame. frame ≡ descriptor_of domain (length self.old.flight) (record { parties = Upward function; bytes = bytes.now })) }
+        ensures state { IfOk result (λ _. self.new ≡ with_emission (submitted self.old function packet.now) (record { parties = Upward function; bytes = packet.now })) }
+        ensures frame { IfOk result (λ frame. frame ≡ descriptor_of domain (length self.old.flight) (record { parties = Upward function; bytes = packet.now })) }
         ensures err { OnErr result (self.new ≡ self.old) }
     {
         self.open_tags.reserve(1)?;
@@ -40,8 +40,8 @@ impl State {
         self.records.reserve(self.open_tags.len() + 1)?;
         let frame = self
             .flight
-            .emit(rt, domain, Parties::Upward(function), bytes)?;
-        if let Some(tag) = tag_to_open(bytes) {
+            .emit_read(rt, domain, Parties::Upward(function), packet)?;
+        if let Some(tag) = tag_to_open(packet) {
             self.open_tags.push_reserved(OpenTag {
                 owner: Origin::Function(function),
                 tag,

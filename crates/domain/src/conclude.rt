@@ -2,7 +2,7 @@
 
 ghost use Rattle.std.specs.Prelude.{◌≡◌, ◌+◌, ◌<◌, ◌≤◌, ◌^◌, IfOk, IsSome, OnErr, length, option_map, vec_capacity, true, None, Some, ◌++◌, ◌∷◌, []};
 ghost use Rattle.tlp_view.specs.Bytes.{packet_of};
-ghost use Rattle.domain.specs.Deliveries.{arrived, record_of_arrival};
+ghost use Rattle.domain.specs.Deliveries.{arrived};
 ghost use Rattle.domain_parts.specs.Closings.{closed, completed, use_of};
 ghost use Rattle.domain_parts.specs.Ends.{EffectFits, conclude, done, replied};
 ghost use Rattle.request_handling.specs.Heads.{descriptor_of};
@@ -125,17 +125,17 @@ impl State {
         }
     }
 
-    /// Ends the packet of this number, a completion that is delivered so. It answers the record that was made, if
-    /// its addressee waited for it.
-    pub(crate) fn deliver(&mut self, number: u64, arrival: Arrival) -> Option<Record>
+    /// Ends the packet of this number, a completion that is delivered so. Was a record made of it, since its
+    /// addressee waited for it?
+    pub(crate) fn deliver(&mut self, number: u64, arrival: Arrival) -> bool
         requires counts { self.old.counts.unexpected + 1 < 2 ^ 64 }
         requires is_open { arrival.is_awaited ≡ true → is_open self.old.open_tags (arrival.delivery).owner (arrival.delivery).tag ≡ true }
         ensures state { self.new ≡ arrived (without self.old number) arrival }
-        ensures record { result ≡ record_of_arrival arrival }
+        ensures record { result ≡ arrival.is_awaited }
     {
-        let record = arrival.record();
+        let is_recorded = arrival.is_awaited;
         self.flight.end(number);
         self.arrive(arrival);
-        record
+        is_recorded
     }
 }

@@ -1,6 +1,6 @@
 //! The end of a packet: at its sender's first port, at its completer, or at the one that it answers.
 
-ghost use Rattle.std.specs.Prelude.{◌≡◌, Some, None, IfOk, IfErr, OnErr, option_map};
+ghost use Rattle.std.specs.Prelude.{◌≡◌, Some, None, IfOk, IfErr, OnErr, OnOk, option_map};
 ghost use Rattle.domain_parts.specs.Ends.{conclude};
 
 use crate::deliver::Record;
@@ -27,7 +27,7 @@ impl Domain {
     ghost use Rattle.domain.specs.declared.entry.Entry.TheVariants.{Carry, Deliver, Refuse};
     ghost use Rattle.request_handling.specs.Carries.{carriage_end, refusal_end};
     ghost use Rattle.domain.specs.Deliveries.{arrival};
-    ghost use Rattle.domain.specs.Domains.{Delivers, EndsBy, IsEntryFault, IsRefused, IsStray, Makes};
+    ghost use Rattle.domain.specs.Domains.{Arrives, Delivers, EndsBy, IsEntryFault, IsRefused, IsStray, Makes};
     ghost use Rattle.domain_parts.specs.State.{item_at};
 
     /// How a packet in flight ends at its sender's first port, if it ends there.
@@ -117,19 +117,19 @@ impl Domain {
         self.end_by(rt, Entry::Carry(number), number, handling)
     }
 
-    /// The completion reached whom it answers. It answers the record that it made, if it closed a Tag,
-    /// or `Illegal` where the machine has no such entry.
-    pub(crate) fn end_delivered(&mut self, number: u64) -> Result<Option<Record>, EntryFault>
-        ensures ok { IfOk result (λ given. Makes self.old (Deliver number) self.new None × Delivers self.old number given) }
+    /// The completion reached whom it answers. Did it close a Tag, so that a record was made? It answers
+    /// `Illegal` where the machine has no such entry.
+    pub(crate) fn end_delivered(&mut self, number: u64) -> Result<bool, EntryFault>
+        ensures ok { IfOk result (λ is_recorded. Makes self.old (Deliver number) self.new None × Arrives self.old number self.new is_recorded) }
         ensures fault { IfErr result (λ fault. (fault ≡ EntryFault.Illegal) × IsEntryFault self.old (Deliver number) fault) }
         ensures err { OnErr result (self.new ≡ self.old) }
     {
         let Some(arrival) = self.state.arrival(number) else {
             return Err(EntryFault::Illegal);
         };
-        let record = self.state.deliver(number, arrival);
+        let is_recorded = self.state.deliver(number, arrival);
         self.journal.push_reserved(Entry::Deliver(number));
-        Ok(record)
+        Ok(is_recorded)
     }
 
     /// A packet is stopped by its sender's first port: it leaves flight, and a non-posted request is
@@ -191,11 +191,26 @@ impl Domain {
         ensures fault { IfErr result (λ fault. IsStray self.old (Deliver frame.number) frame fault) }
         ensures err { OnErr result (self.new ≡ self.old) }
     {
+        if self.complete(frame)? {
+            Ok(self.state.last_record())
+        } else {
+            Ok(None)
+        }
+    }
+
+    /// The same as `deliver`, but it answers only whether there is a record, which is the last one then: so the
+    /// completion's bytes are copied once.
+    pub fn complete(&mut self, frame: Frame) -> Result<bool, FrameFault>
+        ensures ok { OnOk result ((frame.domain ≡ (self.old.share).domain) × Makes self.old (Deliver frame.number) self.new None) }
+        ensures delivery { IfOk result (λ is_recorded. Arrives self.old frame.number self.new is_recorded) }
+        ensures fault { IfErr result (λ fault. IsStray self.old (Deliver frame.number) frame fault) }
+        ensures err { OnErr result (self.new ≡ self.old) }
+    {
         if frame.domain() != self.start.domain() {
             return Err(FrameFault::Stray(frame));
         }
         match self.end_delivered(frame.number()) {
-            Ok(record) => Ok(record),
+            Ok(is_recorded) => Ok(is_recorded),
             Err(_) => Err(FrameFault::Stray(frame)),
         }
     }

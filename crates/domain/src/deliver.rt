@@ -2,7 +2,7 @@
 
 ghost use Rattle.std.specs.Prelude.{◌≡◌, ◌≤◌, length, None};
 ghost use Rattle.tlp_view.specs.Malformed.{malformed};
-ghost use Rattle.domain.specs.Deliveries.{arrival_at, arrival_for, delivery_of, is_awaited, is_port, record_of_arrival};
+ghost use Rattle.domain.specs.Deliveries.{arrival_at, arrival_for, delivery_of, is_awaited, is_port};
 
 use arrayvec::ArrayVec;
 use fab_types::{Answerer, Origin, Status};
@@ -65,7 +65,7 @@ impl Record {
     }
 
     /// The same record once more. No caller outside may double one.
-    fn copy(&self) -> Record
+    pub(crate) fn copy(&self) -> Record
         ensures { result ≡ self.now }
     {
         Record {
@@ -93,19 +93,6 @@ fn copied(bytes: &[u8]) -> ArrayVec<u8, 272>
 pub(crate) struct Arrival {
     pub(crate) delivery: Record,
     pub(crate) is_awaited: bool,
-}
-
-impl Arrival {
-    /// The record of the completion, if its addressee waits for it.
-    pub(crate) fn record(&self) -> Option<Record>
-        ensures { result ≡ record_of_arrival self.now }
-    {
-        if self.is_awaited {
-            Some(self.delivery.copy())
-        } else {
-            None
-        }
-    }
 }
 
 fn is_port(answerer: Answerer) -> bool

@@ -1,6 +1,6 @@
 //! The state of a domain.
 
-ghost use Rattle.std.specs.Prelude.{◌≡◌, ◌≤◌, ℕ, List, length, IfOk, IfSome, MatchOption, None, Some, option_map};
+ghost use Rattle.std.specs.Prelude.{◌≡◌, ◌≤◌, ◌-◌, ℕ, List, length, IfOk, IfSome, MatchOption, None, Some, option_map, slice_get};
 ghost use Rattle.std.specs.Option.{option_copied};
 ghost use Rattle.function.specs.Plans.{PlanFits, plan_of};
 ghost use Rattle.host_memory.specs.Pages.{page_of};
@@ -120,6 +120,16 @@ impl State {
         ensures { result.now ≡ self.now.deliveries }
     {
         &self.records
+    }
+
+    /// The record that was made last.
+    pub(crate) fn last_record(&self) -> Option<Record>
+        ensures { result ≡ slice_get self.now.deliveries (length self.now.deliveries - 1) }
+    {
+        match self.records.last() {
+            Some(record) => Some(record.copy()),
+            None => None,
+        }
     }
 
     /// The domain's functions.

@@ -15,32 +15,33 @@ use fab_types::{Bdf, Origin, PacketBytes, SubmitFault};
 use frame_log::Frame;
 use function::is_open;
 use std::sync::Wait;
+use tlp_view::ReadPacket;
 
 impl Domain {
     ghost use Rattle.domain.specs.declared.entry.Entry.TheVariants.{Submit};
     ghost use Rattle.domain.specs.Domains.{Makes};
 
-    /// Does the function have the Tag open that the bytes would open?
-    fn is_tag_busy(&self, function: Bdf, bytes: &[u8]) -> bool
-        ensures { result ≡ opens_tag bytes.now && is_open self.now.state.open_tags (Function function) (packet_of bytes.now).tag }
+    /// Does the function have the Tag open that the packet would open?
+    fn is_tag_busy(&self, function: Bdf, packet: &ReadPacket<'_>) -> bool
+        ensures { result ≡ opens_tag packet.now && is_open self.now.state.open_tags (Function function) (packet_of packet.now).tag }
     {
-        match tag_to_open(bytes) {
+        match tag_to_open(packet) {
             Some(tag) => is_open(self.state.open_tags(), Origin::Function(function), tag),
             None => false,
         }
     }
 
-    /// The first refusal that applies to these bytes of the function, memory aside.
-    fn submit_fault(&self, function: Bdf, bytes: &[u8]) -> Option<SubmitFault>
-        ensures { result ≡ submit_fault self.now.share self.now.state function bytes.now }
+    /// The first refusal that applies to this packet of the function, memory aside.
+    fn submit_fault(&self, function: Bdf, packet: &ReadPacket<'_>) -> Option<SubmitFault>
+        ensures { result ≡ submit_fault self.now.share self.now.state function packet.now }
     {
         if !self.start.owns_function(function) {
             Some(SubmitFault::NoFunction)
-        } else if bytes.len() > 272 {
+        } else if packet.bytes().len() > 272 {
             Some(SubmitFault::TooLong)
-        } else if completes(bytes) {
+        } else if completes(packet) {
             Some(SubmitFault::Completion)
-        } else if self.is_tag_busy(function, bytes) {
+        } else if self.is_tag_busy(function, packet) {
             Some(SubmitFault::TagBusy)
         } else if self.state.counts().begins >= self.start.budget() {
             Some(SubmitFault::BudgetSpent)
@@ -66,14 +67,16 @@ impl Domain {
         ensures accepted { submit_fault self.old.share self.old.state function bytes.now ≡ None → IsOkUnless result SubmitFault.NoMemory }
         ensures err { OnErr result (self.new ≡ self.old) }
     {
-        if let Some(fault) = self.submit_fault(function, bytes) {
+        let packet = ReadPacket::new(bytes);
+        if let Some(fault) = self.submit_fault(function, &packet) {
             return Err(fault);
         }
         let alloc = *self.journal.allocator();
         let Ok(copy) = PacketBytes::copy_of(alloc, bytes) else {
             return Err(SubmitFault::NoMemory);
         };
-        let Ok(frame) = self.state.submit(rt, self.start.domain(), function, bytes) else {
+        let domain = self.start.domain();
+        let Ok(frame) = self.state.submit(rt, domain, function, &packet) else {
             return Err(SubmitFault::NoMemory);
         };
         self.journal.push_reserved(Entry::Submit(function, copy));

@@ -11,6 +11,7 @@ use request_handling::head_of;
 use std::alloc::Global;
 use std::marker::Model;
 use std::sync::{Arc, Wait};
+use tlp_view::ReadPacket;
 
 /// A packet in flight: who made it and for whom, and what shows where its bytes are.
 #[derive(Drop)]
@@ -19,7 +20,8 @@ struct InFlight {
     token: Token,
 }
 
-/// The packets in flight by their numbers, and the log that has their bytes. A contract sees the list.
+/// The packets in flight by their numbers, and the log that has their bytes, which others may share. A contract sees
+/// the list.
 #[derive(Drop)]
 pub struct Flight {
     log: Arc<Log>,
@@ -83,11 +85,28 @@ impl Flight {
         ensures frame { IfOk result (λ frame. frame ≡ descriptor_of domain (length self.old) (record { parties = parties; bytes = bytes.now })) }
         ensures err { OnErr result (self.new ≡ self.old) }
     {
+        self.emit_read(rt, domain, parties, &ReadPacket::new(bytes))
+    }
+
+    /// The same of a packet that was read already.
+    pub fn emit_read<R: Wait>(
+        &mut self,
+        rt: &R,
+        domain: DomainId,
+        parties: Parties,
+        packet: &ReadPacket<'_>,
+    ) -> Result<Frame, NoMemory>
+        requires short { length packet.now ≤ 272 }
+        requires well_made { IsWellMade parties packet.now }
+        ensures flight { IfOk result (λ _. self.new ≡ self.old ++ Some (record { parties = parties; bytes = packet.now }) ∷ []) }
+        ensures frame { IfOk result (λ frame. frame ≡ descriptor_of domain (length self.old) (record { parties = parties; bytes = packet.now })) }
+        ensures err { OnErr result (self.new ≡ self.old) }
+    {
         self.slots.reserve(1)?;
         let number = self.slots.len() as u64;
         let these = parties;
-        let head = head_of(these, bytes);
-        let (frame, token) = self.log.emit(rt, domain, number, head, bytes)?;
+        let head = head_of(these, packet);
+        let (frame, token) = self.log.emit(rt, domain, number, head, packet.bytes())?;
         self.slots.push_reserved(Some(InFlight { parties, token }));
         Ok(frame)
     }

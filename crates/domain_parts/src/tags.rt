@@ -7,7 +7,7 @@ ghost use Rattle.domain_parts.specs.Closings.{closed, use_of};
 
 use fab_types::{Class, Origin, same_origin};
 use function::{OpenTag, TagUse};
-use tlp_view::TlpView;
+use tlp_view::ReadPacket;
 
 /// Closes this Tag of this owner.
 pub fn close(tags: &mut Vec<OpenTag>, owner: Origin, tag: u8)
@@ -29,25 +29,25 @@ pub fn use_of(tags: &[OpenTag], owner: Origin, tag: u8) -> TagUse
     }
 }
 
-/// The Tag that the bytes open: that of a well-formed non-posted request.
-pub fn tag_to_open(bytes: &[u8]) -> Option<u8>
-    ensures { result ≡ (if opens_tag bytes.now then Some (packet_of bytes.now).tag else None) }
+/// The Tag that a packet opens: that of a well-formed non-posted request.
+pub fn tag_to_open(packet: &ReadPacket<'_>) -> Option<u8>
+    ensures { result ≡ (if opens_tag packet.now then Some (packet_of packet.now).tag else None) }
 {
-    match TlpView::read(bytes) {
-        Ok(view) => match view.class() {
+    match packet.view() {
+        Some(view) => match view.class() {
             Class::NonPosted => Some(view.tag()),
             Class::Posted | Class::Completion => None,
         },
-        Err(_) => None,
+        None => None,
     }
 }
 
-/// Are the bytes a well-formed completion?
-pub fn completes(bytes: &[u8]) -> bool
-    ensures { result ≡ completes bytes.now }
+/// Is the packet a well-formed completion?
+pub fn completes(packet: &ReadPacket<'_>) -> bool
+    ensures { result ≡ completes packet.now }
 {
-    match TlpView::read(bytes) {
-        Ok(view) => view.kind().is_completion(),
-        Err(_) => false,
+    match packet.view() {
+        Some(view) => view.kind().is_completion(),
+        None => false,
     }
 }

@@ -1,6 +1,6 @@
 //! The domains of a fabric as one value.
 
-ghost use Rattle.std.specs.Prelude.{◌≡◌, ◌<◌, IfOk, IfErr, IfSome, None, OnErr, Some, is_some, length};
+ghost use Rattle.std.specs.Prelude.{◌≡◌, ◌<◌, IfOk, IfErr, IfSome, None, OnErr, OnOk, Some, is_some, length};
 ghost use Rattle.std.specs.Option.{option_copied};
 ghost use Rattle.std.specs.Result.{IsOkUnless};
 ghost use Rattle.fab_types.specs.declared.faults.begin.SubmitFault.{SubmitFault};
@@ -11,7 +11,7 @@ ghost use Rattle.domains.specs.Domains.{Emits, IsGivenBack, IsHome, IsStray, del
 
 use crate::aliens::{alien_at, answers_alien, has_alien};
 use crate::begins::{mmio_at, submit_at, tick_at};
-use crate::ends::{carry_at, deliver_at, refuse_at};
+use crate::ends::{carry_at, complete_at, deliver_at, refuse_at};
 use crate::indexing::{index_of, indexed_home, indexed_place};
 use crate::places::owner_of_frame;
 use crate::starts::domains_of;
@@ -199,6 +199,19 @@ impl Domains {
     {
         match self.place(frame.domain()) {
             Some(place) => deliver_at(&mut self.domains, place, frame),
+            None => Err(FrameFault::Stray(frame)),
+        }
+    }
+
+    /// The same as `deliver` without the record, of which no copy is made then.
+    pub fn complete(&mut self, frame: Frame) -> Result<(), FrameFault>
+        ensures ok { OnOk result (made self.old frame.domain (Deliver frame.number) ≡ Some (record { domains = self.new; sent = None })) }
+        ensures fault { IfErr result (λ fault. IsStray (made self.old frame.domain (Deliver frame.number)) frame fault) }
+        ensures stray { made self.old frame.domain (Deliver frame.number) ≡ None → result ≡ Err (FrameFault.Stray frame) }
+        ensures err { OnErr result (self.new ≡ self.old) }
+    {
+        match self.place(frame.domain()) {
+            Some(place) => complete_at(&mut self.domains, place, frame),
             None => Err(FrameFault::Stray(frame)),
         }
     }

@@ -1,6 +1,6 @@
 //! Ends of packets of the domain at a place.
 
-ghost use Rattle.std.specs.Prelude.{◌≡◌, ◌<◌, IfErr, IfOk, None, OnErr, Some, length, slice_get};
+ghost use Rattle.std.specs.Prelude.{◌≡◌, ◌<◌, IfErr, IfOk, None, OnErr, OnOk, Some, length, slice_get};
 ghost use Rattle.fab_types.specs.declared.origin.Origin.{Origin};
 ghost use Rattle.domain.specs.declared.entry.Entry.TheVariants.{Carry, Deliver, Refuse};
 ghost use Rattle.domains.specs.Indexes.{place_of_origin};
@@ -61,4 +61,21 @@ pub(crate) fn deliver_at(
     ensures places { (origin : Origin) → place_of_origin domains.new origin ≡ place_of_origin domains.old origin }
 {
     domains[place].deliver(frame)
+}
+
+/// The same, for whoever doesn't want the record.
+pub(crate) fn complete_at(
+    domains: &mut [Domain],
+    place: usize,
+    frame: Frame,
+) -> Result<(), FrameFault>
+    requires within { place < length domains.old }
+    requires home { IsHome domains.old place frame.domain }
+    ensures ok { OnOk result (made_at domains.old (Deliver frame.number) (Some place) ≡ Some (record { domains = domains.new; sent = None })) }
+    ensures fault { IfErr result (λ fault. IsStray (made_at domains.old (Deliver frame.number) (Some place)) frame fault) }
+    ensures err { OnErr result (domains.new ≡ domains.old) }
+    ensures places { (origin : Origin) → place_of_origin domains.new origin ≡ place_of_origin domains.old origin }
+{
+    domains[place].complete(frame)?;
+    Ok(())
 }

@@ -121,10 +121,7 @@ fn end_at_home<R: Wait>(rt: &R, agents: &mut Agents, frame: Frame) -> Result<(),
 {
     match receipt_at_host(&frame) {
         Receipt::Carry => agents.carry_by_host(rt, frame),
-        Receipt::Deliver => {
-            agents.deliver(frame)?;
-            Ok(())
-        }
+        Receipt::Deliver => agents.complete(frame),
         Receipt::Relay => Err(FrameFault::Stray(frame)),
         Receipt::Nobody => Err(FrameFault::Stray(frame)),
     }
@@ -197,10 +194,7 @@ fn end_at_own<R: Wait>(
 {
     match receipt_at_function(agents, function, &frame) {
         Receipt::Carry => agents.carry_by_function(rt, function, frame),
-        Receipt::Deliver => {
-            agents.deliver(frame)?;
-            Ok(())
-        }
+        Receipt::Deliver => agents.complete(frame),
         Receipt::Relay => Err(FrameFault::Stray(frame)),
         Receipt::Nobody => Err(FrameFault::Stray(frame)),
     }

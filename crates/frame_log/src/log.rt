@@ -5,24 +5,57 @@ use crate::frame::Frame;
 use crate::token::Token;
 use fab_types::{DomainId, Head, NoMemory, PacketBytes};
 use std::alloc::Global;
+use std::marker::Model;
 use std::sync::Wait;
 
-/// A log of packets, shared by all who emit. Entries are added and never changed.
+/// How many domains there may be: their numbers are 1 to 31.
+const DOMAINS: usize = 31;
+
+/// A log of packets, shared by all who emit, in any thread. Entries are added, and stay as they are where they are
+/// until the log ends. Those of a domain stand in a row of their own, so that threads which emit for different domains
+/// share nothing. A contract sees where the rows stand.
 #[derive(Drop)]
 pub struct Log {
     alloc: Global,
+    rows: Vec<boxcar::Vec<TlpEntry>>,
+}
+
+impl Model for Log {
+    ghost use Rattle.std.specs.Prelude.{◌≡◌, List, length};
+    ghost use Rattle.boxcar.specs.Table.{Shelves, shelves_coded};
+    ghost use base.Stored.{coded_list};
+
+    ghost Value = { List Shelves };
+
+    ghost coded = { coded_list shelves_coded };
+
+    ghost view = { λ l. l.rows.items };
+
+    ghost invariant = { λ l. length l.rows.items ≡ 31 };
 }
 
 impl Log {
-    ghost use Rattle.frame_log.specs.Words.{Shown, entry_of};
+    ghost use Rattle.frame_log.specs.Words.{Shown, entry_of, row_of};
 
-    /// A log with no entry.
+    /// A log with no entry. It answers `NoMemory` where memory was refused.
     pub fn new(alloc: Global) -> Result<Log, NoMemory> {
-        Ok(Log { alloc })
+        let mut rows = Vec::with_capacity(alloc, DOMAINS)?;
+        for _ in 0..DOMAINS {
+            rows.push_reserved(boxcar::Vec::new(alloc)?);
+        }
+        Ok(Log { alloc, rows })
+    }
+
+    /// Where the entries of this domain stand.
+    fn row(&self, domain: DomainId) -> &boxcar::Vec<TlpEntry>
+        ensures { result.now ≡ row_of self.now domain }
+    {
+        &self.rows[usize::from(domain.get()) - 1]
     }
 
     /// Adds a packet, of at most 272 bytes: 16 of header and 256 of payload. It answers `NoMemory` where
-    /// memory was refused; then no token names an entry of it.
+    /// memory was refused; then no token names an entry of it. It may have to wait for another thread that is
+    /// making room.
     pub fn emit<R: Wait>(
         &self,
         rt: &R,
@@ -38,22 +71,23 @@ impl Log {
             entry_of r.1 ≡ record { domain = domain; number = number; bytes = bytes.now }) }
         ensures token { IfOk result (λ r. Shown self.now r.1) }
     {
-        // A shared log may have to wait here; this one never does.
-        let _ = rt;
         let bytes = PacketBytes::copy_of(self.alloc, bytes)?;
         let entry = TlpEntry {
             domain,
             number,
             bytes,
         };
-        Ok((Frame::of(domain, number, head), Token { entry }))
+        match self.row(domain).push_shown(rt, entry) {
+            Ok(at) => Ok((Frame::of(domain, number, head), Token { domain, at })),
+            Err(_) => Err(NoMemory),
+        }
     }
 
-    /// Lends the entry that the token names.
-    pub fn lend<'a>(&'a self, token: &'a Token) -> &'a TlpEntry
+    /// Lends the entry that the token names, for as long as the log is lent, whatever becomes of the token.
+    pub fn lend<'a>(&'a self, token: &Token) -> &'a TlpEntry
         requires { Shown self.now token.now }
         ensures { result.now ≡ entry_of token.now }
     {
-        &token.entry
+        self.row(token.domain).value(&token.at)
     }
 }

@@ -1,8 +1,10 @@
 use crate::entry::TlpEntry;
+use boxcar::Pushed;
+use fab_types::DomainId;
 
-/// Names one entry of a log, for as long as it is kept. Only the log that made it lends the entry.
+/// Names one entry of a log, for as long as the log lasts. It holds none of the packet's bytes: the log lends them.
 #[derive(Drop)]
 pub struct Token {
-    // For now the entry stands here.
-    pub(crate) entry: TlpEntry,
+    pub(crate) domain: DomainId,
+    pub(crate) at: Pushed<TlpEntry>,
 }

@@ -1,8 +1,10 @@
-//! Tests of packets, credits and queues by their public calls.
+//! Tests of packets, their log, credits and queues by their public calls.
 #![tactic(auto)]
 
 #[cfg(test)]
 mod credits;
+#[cfg(test)]
+mod entries;
 #[cfg(test)]
 mod ordering_rules;
 #[cfg(test)]

@@ -5,7 +5,7 @@ ghost use Rattle.tlp_view.specs.Costs.{packet_cost};
 ghost use Rattle.request_handling.specs.Heads.{head_of, malformed_cost, packet_header, target_for};
 
 use fab_types::{Answerer, Bdf, Class, Cost, Head, Header, Parties};
-use tlp_view::TlpView;
+use tlp_view::{ReadPacket, TlpView};
 
 /// To which ID a completion is routed: a port's answer goes to the sender of what the port refused,
 /// whatever Requester ID that bore.
@@ -64,12 +64,12 @@ fn malformed_head(parties: Parties) -> Head
     }
 }
 
-/// What ports read of these bytes: the parties, and the cost and header fields of the packet.
-pub fn head_of(parties: Parties, bytes: &[u8]) -> Head
-    ensures { result ≡ head_of (record { parties = parties; bytes = bytes.now }) }
+/// What ports read of a packet: the parties, its cost and its header fields.
+pub fn head_of(parties: Parties, packet: &ReadPacket<'_>) -> Head
+    ensures { result ≡ head_of (record { parties = parties; bytes = packet.now }) }
 {
-    match TlpView::read(bytes) {
-        Ok(view) => packet_head(parties, &view),
-        Err(_) => malformed_head(parties),
+    match packet.view() {
+        Some(view) => packet_head(parties, view),
+        None => malformed_head(parties),
     }
 }

@@ -1,10 +1,10 @@
 -- What a reader of packets keeps of the bytes that it lends.
-use Rattle.std.specs.Prelude.{◌≡◌, ◌+◌, ◌*◌, ◌%◌, ◌≤◌, ℕ, List, length, Option, Some, None, IfSome, if◌then◌else◌}
+use Rattle.std.specs.Prelude.{◌≡◌, ◌+◌, ◌*◌, ◌%◌, ◌≤◌, ℕ, List, length, Option, Some, None, IfSome, IsSome, MatchOption, if◌then◌else◌}
 use Rattle.fab_types.specs.declared.head.AddressType.{AddressType}
 use Rattle.tlp_view.specs.declared.kind.Kind.{Kind}
 use Rattle.tlp_view.specs.Packet.{Packet, dw_count, address_in}
 use Rattle.tlp_view.specs.Kinds.{kind_at, has_data, is_memory, has_length}
-use Rattle.tlp_view.specs.Bytes.{fmt_at, type_at, header_len, HasHeader}
+use Rattle.tlp_view.specs.Bytes.{fmt_at, type_at, header_len, packet_of, HasHeader}
 use Rattle.tlp_view.specs.Malformed.{data_len, malformed}
 
 -- the bytes are a well-formed packet of this kind
@@ -14,6 +14,10 @@ pub record IsView (kind : Kind) (bytes : List ℕ) : Type 0 where
   pub whole : HasHeader bytes
   pub size : length bytes ≡ header_len bytes + data_len kind bytes
   pub small : data_len kind bytes ≤ 256
+
+-- the bytes are this packet, or they are none
+abbrev pub IsWhatIsRead : List ℕ → Option Packet → Type 0
+IsWhatIsRead bytes found = MatchOption found (IsSome (malformed bytes)) (λ t. (malformed bytes ≡ None) × (t ≡ packet_of bytes))
 
 -- Length in DW, where the kind has it
 abbrev pub length_of : Packet → Option ℕ

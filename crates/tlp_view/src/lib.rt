@@ -9,6 +9,7 @@ mod enables;
 mod faults;
 mod kind;
 mod laws;
+mod read_packet;
 mod request;
 mod runs;
 mod view;
@@ -21,6 +22,7 @@ pub use laws::{
     completion_spelled, read_request_spelled, runs_within, spelled_once, well_formed_sound,
     well_formed_spelled, write_request_spelled,
 };
+pub use read_packet::ReadPacket;
 pub use request::{RequestBuf, RequestHead};
 pub use runs::Runs;
 pub use view::{TlpView, cost};

@@ -5,8 +5,8 @@ use Rattle.domain.proofs.EndLemmas.{delivered_so, delivered_waits}
 use Rattle.domain.proofs.Keeping.{end_room, replays_more, room_stays, strays_fit}
 use Rattle.domain.proofs.domain.Domain.end_delivered.Goals as goal
 
-pub deliver-record-requires-clause-counts : goal.deliver-record-requires-clause-counts
-deliver-record-requires-clause-counts c =
+pub deliver-is_recorded-requires-clause-counts : goal.deliver-is_recorded-requires-clause-counts
+deliver-is_recorded-requires-clause-counts c =
     let d = c.self.inside in
     strays_fit d.start d.state d.journal.items c.self.invariant.replays (omega (arith, d.journal.ok, d.journal.small))
 
@@ -23,8 +23,8 @@ invariant_of-self c =
     record {
       share = c.self.invariant.share;
       table = c.self.invariant.table;
-      replays = replays_more d.start d.state c.deliver-record.new.self d.journal.items _ (Deliver c.args.number) None c.self.invariant.replays c.push_reserved.ensures.items
-          (delivered_so d.start d.state c.deliver-record.new.self c.args.number _ c.in-Some.arrival c.in-Some.is c.arrival.ensures c.deliver-record.ensures.state);
+      replays = replays_more d.start d.state c.deliver-is_recorded.new.self d.journal.items _ (Deliver c.args.number) None c.self.invariant.replays c.push_reserved.ensures.items
+          (delivered_so d.start d.state c.deliver-is_recorded.new.self c.args.number _ c.in-Some.arrival c.in-Some.is c.arrival.ensures c.deliver-is_recorded.ensures.state);
       entries = room_stays d.entries d.start.budget d.journal.items _ (Deliver c.args.number) c.push_reserved.ensures.items refl c.self.invariant.entries;
       room = omega (arith, c.self.invariant.room, c.push_reserved.ensures.capacity);
     }

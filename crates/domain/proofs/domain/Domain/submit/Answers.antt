@@ -9,15 +9,15 @@ use Rattle.domain.proofs.domain.Domain.submit.Goals as goal
 pub push_reserved-requires : goal.push_reserved-requires
 push_reserved-requires g c =
     let d = c.self.inside in
-    let none = not_refused (domain_view d) c.args.self.now c.args.function c.args.bytes.now _ c.self.view_is c.in_default.is c.submit_fault.ensures in
+    let none = not_refused (domain_view d) c.args.self.now c.args.function c.args.bytes.now _ c.self.view_is c.in_default.is (rw c.new-packet.ensures at c.submit_fault.ensures) in
     let room : length d.journal.items < 4 * d.start.budget + 3 * aliens_in d.journal.items = journal_room d.start d.state d.journal.items c.args.function c.args.bytes.now c.self.invariant.replays none in
     omega (arith, d.journal.ok, c.self.invariant.room, c.self.invariant.entries, room)
 
 pub invariant_of-self-2 : goal.invariant_of-self-2
 invariant_of-self-2 g c =
     let d = c.self.inside in
-    let none = not_refused (domain_view d) c.args.self.now c.args.function c.args.bytes.now _ c.self.view_is c.in_default.is c.submit_fault.ensures in
-    let legal = submit_legal d.start d.state c.submit.new.self c.args.function c.args.bytes.now none c.in-Ok-submit.ensures.state in
+    let none = not_refused (domain_view d) c.args.self.now c.args.function c.args.bytes.now _ c.self.view_is c.in_default.is (rw c.new-packet.ensures at c.submit_fault.ensures) in
+    let legal = submit_legal d.start d.state c.submit.new.self c.args.function c.args.bytes.now none (rw c.new-packet.ensures at c.in-Ok-submit.ensures.state) in
     let grown = submit_copied d.journal.items _ c.args.function c.args.bytes.now c.in-Ok.copy c.in-Ok.ensures c.push_reserved.ensures.items in
     record {
       share = c.self.invariant.share;
@@ -30,6 +30,6 @@ invariant_of-self-2 g c =
 pub returns-clause-ok : goal.returns-clause-ok
 returns-clause-ok g c =
     let d = c.self.inside in
-    let none = not_refused (domain_view d) c.args.self.now c.args.function c.args.bytes.now _ c.self.view_is c.in_default.is c.submit_fault.ensures in
+    let none = not_refused (domain_view d) c.args.self.now c.args.function c.args.bytes.now _ c.self.view_is c.in_default.is (rw c.new-packet.ensures at c.submit_fault.ensures) in
     let grown = submit_copied d.journal.items _ c.args.function c.args.bytes.now c.in-Ok.copy c.in-Ok.ensures c.push_reserved.ensures.items in
-    makes_seen (domain_view d) c.args.self.now _ _ _ c.self.view_is (makes_submit (domain_view d) _ c.args.function c.args.bytes.now _ none refl c.in-Ok-submit.ensures.state grown (c.in-Ok-submit.ensures.frame ∙ ap (λ (k : ℕ). descriptor_of k (length d.state.flight) (upward c.args.function c.args.bytes.now)) c.domain.ensures))
+    makes_seen (domain_view d) c.args.self.now _ _ _ c.self.view_is (makes_submit (domain_view d) _ c.args.function c.args.bytes.now _ none refl (rw c.new-packet.ensures at c.in-Ok-submit.ensures.state) grown ((rw c.new-packet.ensures at c.in-Ok-submit.ensures.frame) ∙ ap (λ (k : ℕ). descriptor_of k (length d.state.flight) (upward c.args.function c.args.bytes.now)) c.domain-domain.ensures))
