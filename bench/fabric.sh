@@ -103,12 +103,11 @@ echo 'fabrics: fab_types layout script domain fabric_core sweeps' >> "$work/crat
 cat > "$work/crates/fabrics/src/main.rt" <<'PROGRAM'
 #![tactic(auto)]
 
-use fab_types::{Class, NoMemory, Outcome, PacketBytes};
+use fab_types::{Class, Outcome};
 use fabric_core::{Event, Fabric, Station};
 use layout::Layout;
-use script::{Command, Script};
+use script::{Command, Line, Script};
 use sweeps::stations;
-use std::alloc::Global;
 use std::io::Write;
 use std::sync::Wait;
 use std::time::CpuClock;
@@ -171,41 +170,31 @@ fn sweep_up_to<R: Wait>(rt: &R, fabric: &mut Fabric, stations: &[Station], most:
 
 fn make<R: Wait>(
     rt: &R,
-    alloc: Global,
     fabric: &mut Fabric,
     stations: &[Station],
-    command: &Command,
+    command: Command,
     count: &mut Count,
-) -> Result<(), NoMemory> {
+) {
     match command {
         Command::Submit(function, bytes) => {
-            let bytes = PacketBytes::copy_of(alloc, bytes.as_slice())?;
-            step(rt, fabric, &Event::Submit(*function, bytes), count);
+            step(rt, fabric, &Event::Submit(function, bytes), count);
         }
         Command::Tick(function) => {
-            step(rt, fabric, &Event::Tick(*function), count);
+            step(rt, fabric, &Event::Tick(function), count);
         }
         Command::Mmio(domain, access) => {
-            let access = access.try_clone(alloc)?;
-            step(rt, fabric, &Event::Mmio(*domain, access), count);
+            step(rt, fabric, &Event::Mmio(domain, access), count);
         }
-        Command::Sweep(most) => sweep_up_to(rt, fabric, stations, *most, count),
+        Command::Sweep(most) => sweep_up_to(rt, fabric, stations, most, count),
     }
-    Ok(())
 }
 
-fn run<R: Wait>(
-    rt: &R,
-    alloc: Global,
-    fabric: &mut Fabric,
-    stations: &[Station],
-    script: &Script,
-) -> Result<Count, NoMemory> {
+fn run<R: Wait>(rt: &R, fabric: &mut Fabric, stations: &[Station], lines: Vec<Line>) -> Count {
     let mut count = Count { moved: 0, all: 0 };
-    for line in script.lines() {
-        make(rt, alloc, fabric, stations, &line.command, &mut count)?;
+    for line in lines {
+        make(rt, fabric, stations, line.command, &mut count);
     }
-    Ok(count)
+    count
 }
 
 /// The line of the system's on the most memory that the process had.
@@ -242,9 +231,7 @@ fn main(rt: HostRuntime) -> io::Result<()> {
         return writeln!(out, "no memory");
     };
     let before = rt.process_cpu_time()?;
-    let Ok(count) = run(&rt, alloc, &mut fabric, &stations, &script) else {
-        return writeln!(out, "no memory");
-    };
+    let count = run(&rt, &mut fabric, &stations, script.into_lines());
     let time = rt.process_cpu_time()?.saturating_sub(before);
     let status = fs::read_to_string(&rt, "/proc/self/status")?;
     let memory = most_memory(status.as_str());

@@ -9,7 +9,7 @@ ghost use Rattle.commands.specs.Isolated.{IsIsolated};
 ghost use Rattle.reports.specs.Writing.{Wrote};
 
 use crate::fault::Fault;
-use fab_types::{Outcome, PacketBytes};
+use fab_types::Outcome;
 use fabric_core::{Event, Fabric, Station};
 use layout::Layout;
 use reports::write_refusal;
@@ -20,64 +20,60 @@ use std::sync::Wait;
 use sweeps::{stations, sweeps};
 
 /// Runs the fabric of a layout by these lines, from its start. For each begin that is refused, a line is
-/// written at once.
+/// written at once. A line's bytes go into its event, and with that they go.
 pub fn driven<'a, R: Wait, W: Write>(
     rt: &R,
     alloc: Global,
     layout: &Layout,
-    lines: &[Line],
+    lines: Vec<Line>,
     out: &mut W,
 ) -> Result<Fabric, Fault<'a>>
-    ensures ok { IfOk result (λ fabric. Wrote (W.contents out.old) (W.contents out.new) (IsDriven layout.now lines.now fabric)) }
-    ensures isolated { IfOk result (λ fabric. IsIsolated layout.now lines.now fabric) }
+    ensures ok { IfOk result (λ fabric. Wrote (W.contents out.old) (W.contents out.new) (IsDriven layout.now lines.items fabric)) }
+    ensures isolated { IfOk result (λ fabric. IsIsolated layout.now lines.items fabric) }
     ensures fault { IfErr result (λ fault. IsRunFault fault) }
 {
     let mut fabric = Fabric::new(alloc, layout)?;
     let stations = stations(alloc, layout, fabric.domains())?;
-    drive_all(rt, alloc, &mut fabric, &stations, lines, out)?;
+    drive_all(rt, &mut fabric, &stations, lines, out)?;
     Ok(fabric)
 }
 
 fn drive_all<'a, R: Wait, W: Write>(
     rt: &R,
-    alloc: Global,
     fabric: &mut Fabric,
     stations: &[Station],
-    lines: &[Line],
+    lines: Vec<Line>,
     out: &mut W,
 ) -> Result<(), Fault<'a>>
-    ensures ok { OnOk result (Wrote (W.contents out.old) (W.contents out.new) (Drives (flat_map events_at stations.now) fabric.old lines.now fabric.new)) }
+    ensures ok { OnOk result (Wrote (W.contents out.old) (W.contents out.new) (Drives (flat_map events_at stations.now) fabric.old lines.items fabric.new)) }
     ensures fault { IfErr result (λ fault. IsRunFault fault) }
 {
     for line in lines {
-        drive(rt, alloc, fabric, stations, line, out)?;
+        drive(rt, fabric, stations, line, out)?;
     }
     Ok(())
 }
 
 fn drive<'a, R: Wait, W: Write>(
     rt: &R,
-    alloc: Global,
     fabric: &mut Fabric,
     stations: &[Station],
-    line: &Line,
+    line: Line,
     out: &mut W,
 ) -> Result<(), Fault<'a>>
-    ensures ok { OnOk result (Wrote (W.contents out.old) (W.contents out.new) (Does (flat_map events_at stations.now) line.now.number fabric.old line.now.command fabric.new)) }
+    ensures ok { OnOk result (Wrote (W.contents out.old) (W.contents out.new) (Does (flat_map events_at stations.now) line.number fabric.old line.command fabric.new)) }
     ensures fault { IfErr result (λ fault. IsRunFault fault) }
 {
-    let number = line.number;
-    match &line.command {
+    let Line { number, command } = line;
+    match command {
         Command::Submit(function, bytes) => {
-            let bytes = PacketBytes::copy_of(alloc, bytes.as_slice())?;
-            begin(rt, fabric, number, &Event::Submit(*function, bytes), out)
+            begin(rt, fabric, number, &Event::Submit(function, bytes), out)
         }
-        Command::Tick(function) => begin(rt, fabric, number, &Event::Tick(*function), out),
+        Command::Tick(function) => begin(rt, fabric, number, &Event::Tick(function), out),
         Command::Mmio(domain, access) => {
-            let access = access.try_clone(alloc)?;
-            begin(rt, fabric, number, &Event::Mmio(*domain, access), out)
+            begin(rt, fabric, number, &Event::Mmio(domain, access), out)
         }
-        Command::Sweep(most) => Ok(sweeps(rt, fabric, stations, *most)?),
+        Command::Sweep(most) => Ok(sweeps(rt, fabric, stations, most)?),
     }
 }
 

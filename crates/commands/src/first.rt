@@ -63,7 +63,10 @@ pub fn first<'a, R: Wait, W: Write>(
         number: 2,
         command: Command::Sweep(SWEEPS),
     };
-    let fabric = driven(rt, alloc, &layout, &[submit, sweep], out)?;
+    let mut lines = Vec::with_capacity(alloc, 2)?;
+    lines.push_reserved(submit);
+    lines.push_reserved(sweep);
+    let fabric = driven(rt, alloc, &layout, lines, out)?;
     write_memory(out, fabric.domains())?;
     Ok(())
 }

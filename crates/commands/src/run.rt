@@ -35,7 +35,7 @@ pub fn run<'a, R: Wait, F: FileGiver, W: Write>(
 {
     let layout = layout_of(alloc, files, names.layout)?;
     let script = script_of(alloc, files, names.script)?;
-    let fabric = driven(rt, alloc, &layout, script.lines(), out)?;
+    let fabric = driven(rt, alloc, &layout, script.into_lines(), out)?;
     write_report(alloc, out, &fabric)?;
     Ok(())
 }
@@ -52,8 +52,12 @@ pub fn alone<'a, R: Wait, F: FileGiver, W: Write>(
     ensures { OnOk result (Wrote (W.contents out.old) (W.contents out.new) (AlonePrints (F.holds files.now) names.entry.layout.now names.entry.script.now number)) }
 {
     let inputs = inputs_of(alloc, files, names, number)?;
-    let lines = inputs.script.lines();
-    let domain = replayed(rt, alloc, &inputs.layout, lines, &inputs.start)?;
+    let Inputs {
+        layout,
+        script,
+        start,
+    } = inputs;
+    let domain = replayed(rt, alloc, &layout, script.into_lines(), &start)?;
     write_domain(alloc, out, &domain)?;
     Ok(())
 }
@@ -70,9 +74,13 @@ pub fn journal<'a, R: Wait, F: FileGiver, W: Write>(
     ensures { OnOk result (Wrote (W.contents out.old) (W.contents out.new) (JournalPrints (F.holds files.now) names.entry.layout.now names.entry.script.now number)) }
 {
     let inputs = inputs_of(alloc, files, names, number)?;
-    let lines = inputs.script.lines();
-    let fabric = driven(rt, alloc, &inputs.layout, lines, &mut io::sink())?;
-    let Some(domain) = fabric.domain(inputs.start.domain()) else {
+    let Inputs {
+        layout,
+        script,
+        start,
+    } = inputs;
+    let fabric = driven(rt, alloc, &layout, script.into_lines(), &mut io::sink())?;
+    let Some(domain) = fabric.domain(start.domain()) else {
         return Err(Fault::NoDomain { number });
     };
     write_journal(rt, alloc, out, domain)?;
@@ -136,10 +144,10 @@ fn replayed<'a, R: Wait>(
     rt: &R,
     alloc: Global,
     layout: &Layout,
-    lines: &[Line],
+    lines: Vec<Line>,
     start: &Start,
 ) -> Result<Domain, Fault<'a>>
-    ensures { IfOk result (λ domain. IsReplayed layout.now lines.now start.now domain) }
+    ensures { IfOk result (λ domain. IsReplayed layout.now lines.items start.now domain) }
 {
     let fabric = driven(rt, alloc, layout, lines, &mut io::sink())?;
     let number = start.domain();

@@ -65,4 +65,11 @@ impl Script {
     {
         &self.lines
     }
+
+    /// The same, for whoever has no more use of the script than to do what it asks for.
+    pub fn into_lines(self) -> Vec<Line>
+        ensures { result.items ≡ self }
+    {
+        self.lines
+    }
 }

@@ -22,7 +22,7 @@ returns-clause-ok g c =
         sweep =
             subst (λ (ss : List Station). IsSweep platform (world_of platform).agents.domains (flat_map events_at ss)) (sym c.deref.ensures.value)
             (subst (λ (ds : List DomainView). IsSweep platform ds (flat_map events_at c.in_ok-stations.stations.items)) domains c.in_ok-stations.ensures);
-        drives = subst (λ (w : World). Drives (flat_map events_at c.deref.result.now) w c.args.lines.now c.drive_all.new.fabric written.0) c.in_ok-fabric.ensures.start written.1;
+        drives = subst (λ (w : World). Drives (flat_map events_at c.deref.result.now) w c.args.lines.items c.drive_all.new.fabric written.0) c.in_ok-fabric.ensures.start written.1;
       },
       written.2,
     )
@@ -30,4 +30,4 @@ returns-clause-ok g c =
 pub returns-clause-isolated : goal.returns-clause-isolated
 returns-clause-isolated g c =
     let driven = returns-clause-ok g c in
-    isolated_by c.args.layout.now c.args.lines.now c.drive_all.new.fabric driven.0 driven.1 (subst (λ (w : World). is_guarded w ≡ true → NoneCanTell w) c.in_ok-fabric.ensures.start c.in_ok-fabric.ensures.isolated)
+    isolated_by c.args.layout.now c.args.lines.items c.drive_all.new.fabric driven.0 driven.1 (subst (λ (w : World). is_guarded w ≡ true → NoneCanTell w) c.in_ok-fabric.ensures.start c.in_ok-fabric.ensures.isolated)

@@ -16,7 +16,7 @@ returns-clause-printed g c =
         reads = c.in-Ok-read.ensures.exact;
         world = c.in_ok-fabric.fabric;
         refused = written.0;
-        driven = rw c.from_bits.ensures at written.1;
+        driven = rw (c.push_reserved-2.ensures.items, c.push_reserved.ensures.items, c.in_ok-lines.ensures.items, c.from_bits.ensures) at written.1;
         lines = refl;
       },
       joined _ _ _ _ _ written.2 (rw c.domains.ensures at c.in_ok-write_memory.ensures),

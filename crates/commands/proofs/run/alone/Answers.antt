@@ -10,7 +10,7 @@ returns g c =
         share = c.in_ok-inputs.inputs.start;
         inputs = c.in_ok-inputs.ensures;
         domain = c.in_ok-domain.domain;
-        replayed = rw c.lines-lines.ensures at c.in_ok-domain.ensures;
+        replayed = rw c.into_lines.ensures at c.in_ok-domain.ensures;
         part = written.1;
       },
       written.2,

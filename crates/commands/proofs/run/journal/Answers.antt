@@ -16,8 +16,8 @@ returns g c =
         run = record {
           world = c.in_ok-fabric.fabric;
           refused = refused.0;
-          driven = rw c.lines-lines.ensures at refused.1;
-          isolated = rw c.lines-lines.ensures at c.in_ok-fabric.ensures.isolated;
+          driven = rw c.into_lines.ensures at refused.1;
+          isolated = rw c.into_lines.ensures at c.in_ok-fabric.ensures.isolated;
           there = sym (rw c.domain.ensures at c.in-Some.ensures);
         };
         journal = refl;

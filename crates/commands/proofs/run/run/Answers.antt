@@ -15,8 +15,8 @@ returns g c =
         files = record { layout_text = layout.0; layout_file = layout.1; layout = layout.2; script_text = script.0; script_file = script.1; script = script.2 };
         world = c.in_ok-fabric.fabric;
         refused = refused.0;
-        driven = rw c.lines.ensures at refused.1;
-        isolated = rw c.lines.ensures at c.in_ok-fabric.ensures.isolated;
+        driven = rw c.into_lines.ensures at refused.1;
+        isolated = rw c.into_lines.ensures at c.in_ok-fabric.ensures.isolated;
         report = written.0;
         reports = written.1;
         all = refl;
