@@ -23,6 +23,7 @@ cat > "$work/crates/logs/src/main.rt" <<'PROGRAM'
 #![tactic(auto)]
 
 mod exchange;
+mod head;
 mod speed;
 
 use std::io::Write;
@@ -52,6 +53,22 @@ fn main(rt: HostRuntime) -> io::Result<()> {
     }
 }
 PROGRAM
+cat > "$work/crates/logs/src/head.rt" <<'PROGRAM'
+//! What ports would read of each packet here.
+
+use fab_types::{Bdf, Class, Cost, Head, Header, Parties};
+
+pub fn head() -> Head {
+    Head {
+        parties: Parties::Upward(Bdf::from_bits(0x0300)),
+        cost: Cost {
+            class: Class::Posted,
+            data: 0,
+        },
+        header: Header::Malformed,
+    }
+}
+PROGRAM
 cat > "$work/crates/logs/src/exchange.rt" <<'PROGRAM'
 //! Two threads emit, and two others read what the tokens name.
 
@@ -59,8 +76,9 @@ ghost use Rattle.std.specs.Prelude.{◌≤◌, length};
 ghost use Rattle.frame_log.specs.Words.{Shown};
 ghost use Rattle.std.specs.Arc.{arc_value};
 
+use crate::head::head;
 use crossbeam_queue::SegQueue;
-use fab_types::{Bdf, Class, Cost, DomainId, Head, Header, Parties};
+use fab_types::DomainId;
 use frame_log::{Log, Token};
 use std::alloc::Global;
 use std::sync::{Arc, Wait};
@@ -100,17 +118,6 @@ impl Pattern {
         ensures { length result.now ≤ 272 }
     {
         &self.bytes[..self.length.min(272)]
-    }
-}
-
-fn head() -> Head {
-    Head {
-        parties: Parties::Upward(Bdf::from_bits(0x0300)),
-        cost: Cost {
-            class: Class::Posted,
-            data: 0,
-        },
-        header: Header::Malformed,
     }
 }
 
@@ -174,22 +181,12 @@ PROGRAM
 cat > "$work/crates/logs/src/speed.rt" <<'PROGRAM'
 //! Packets that are emitted, and lent at once.
 
-use fab_types::{Bdf, Class, Cost, DomainId, Head, Header, Parties};
+use crate::head::head;
+use fab_types::DomainId;
 use frame_log::Log;
 use std::alloc::Global;
 use std::sync::Wait;
 use std::thread::{Threads, map_indices};
-
-fn head() -> Head {
-    Head {
-        parties: Parties::Upward(Bdf::from_bits(0x0300)),
-        cost: Cost {
-            class: Class::Posted,
-            data: 0,
-        },
-        header: Header::Malformed,
-    }
-}
 
 fn emit_all<R: Wait>(rt: &R, log: &Log, domain: Option<DomainId>, size: usize, count: u64) -> Option<u64> {
     let domain = domain?;
@@ -257,7 +254,8 @@ fn main() {
 PROGRAM
 rustc --edition 2021 -O -o "$work/plain" "$work/plain.rs"
 
-"$work/crates/logs/out/logs"
+"$work/crates/logs/out/logs" | tee "$work/exchange"
+grep -q 'each as it was emitted' "$work/exchange"
 
 packets=1000000
 # timed PROGRAM SIZE THREADS: the best of seven runs, in millions a second, and the sum
