@@ -63,10 +63,10 @@ pub send-some : (class : Class) (s s' : Ledger) (egress egress' wire wire' ingre
 send-some class s s' egress egress' wire wire' ingress range went =
     let f = went.frame in
     let c = link_of s egress wire ingress in
-    let after : spent (left_counters s.credits_consumed s.credit_limit) f.head.cost ≡ left_counters (counted s.credits_consumed f.head.cost) s.credit_limit = left_spent s f.head.cost range went.room in
-    let spends : record s { credits_consumed = counted s.credits_consumed f.head.cost } ≡ s' = sym went.spends in
-    ap (sent_on c) went.taken
-    ∙ (sent_at c f egress' (has_room c.left f.head.cost) refl (room-left s f.head.cost went.room)
+    let after : spent (left_counters s.credits_consumed s.credit_limit) f.head.cost ≡ left_counters (counted s.credits_consumed f.head.cost) s.credit_limit = left_spent s f.head.cost range went.sends.room in
+    let spends : record s { credits_consumed = counted s.credits_consumed f.head.cost } ≡ s' = sym went.sends.spends in
+    ap (sent_on c) went.sends.taken
+    ∙ (sent_at c f egress' (has_room c.left f.head.cost) refl (room-left s f.head.cost went.sends.room)
     ∙ (ap (λ (left : Counters). Some (record c { left = left; egress = egress'; wire = wire ++ f ∷ [] })) after
     ∙ (ap (λ (t : Ledger). Some (link_of t egress' (wire ++ f ∷ []) ingress)) spends
     ∙ ap (λ (w : List Descriptor). Some (link_of s' egress' w ingress)) (sym went.behind))))

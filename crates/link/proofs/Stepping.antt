@@ -1,31 +1,32 @@
 -- The steps of a link, from what each leaves of the parts to what it keeps and what happened.
-use Rattle.std.proofs.Common.{◌≡◌, ◌≢◌, ℕ, ◌+◌, ◌-◌, ◌≤◌, ◌<◌, Bool, true, false, cond, List, [], ◌∷◌, ◌++◌, Option, Some, None, refl, sym, ap, ◌∙◌, subst, arith}
+use Rattle.std.proofs.Common.{◌≡◌, ◌≢◌, ℕ, ◌+◌, ◌-◌, ◌≤◌, Bool, true, false, cond, List, [], ◌∷◌, ◌++◌, Option, Some, None, refl, sym, ap, ◌∙◌, subst, arith}
 use Rattle.std.specs.Prelude.{MatchBool, MatchOption, IfSome, IsSome, is_none, slice_get}
-use Rattle.fab_types.specs.declared.head.Head.{Head}
 use Rattle.frame_log.specs.Descriptor.{Descriptor}
 use Rattle.credit.specs.Kinds.{Class, Cost, Kind, cost_of}
-use Rattle.credit.specs.Limits.{Ledger, Allotment, at, counted, uncounted, zero_counters, left_of, MayStart, left_counters}
+use Rattle.credit.specs.Limits.{Ledger, at, counted, uncounted, zero_counters, left_of, MayStart, left_counters}
 use Rattle.credit.specs.declared.counters.Counters.{Counters}
 use Rattle.credit.proofs.Counting.{covers-all}
-use Rattle.port_queue.specs.Queue.{Queue, count_of}
-use Rattle.lane.specs.Lanes.{class_of, eligible}
-use Rattle.lane.specs.Queues.{Waiting, IsSorted, frames_of, frames_restored}
+use Rattle.port_queue.specs.Queue.{Queue}
+use Rattle.lane.specs.Lanes.{eligible}
+use Rattle.lane.specs.Queues.{frames_of, frames_restored}
 use Rattle.link.specs.Channels.{IsCovered, count_in, send, deliver, update_fc, total}
+use Rattle.link.specs.Ends.{EgressView, IngressView}
 use Rattle.link.specs.Simplexes.{IsCounted, has_place}
 use Rattle.link.specs.Steps.{IsStuck, Delivers, Transmits}
-use Rattle.link.proofs.Totals.{count-total, count_in-total, total-append, total-sent, total-delivered, total-taken, total-restored}
+use Rattle.link.proofs.Totals.{count_in-total, total-append, total-sent, total-delivered, total-taken, total-restored}
 use Rattle.link.proofs.Credits.{at-left, both-true, true-both}
 use Rattle.link.proofs.Keeping.{counted-places, start-counted, moved-counted, spent-counted, told-counted, freed-counted, reclaimed-counted}
 use Rattle.link.proofs.Moving.{link_of, send-some, send-none, deliver-some, deliver-none, update_fc-some, update_fc-none}
 
 -- ---- the start
 
-pub started : (limits : Counters) (s : Ledger) (receiver : Allotment) (wire : List Descriptor) (ingress : Waiting) → MayStart limits
-    → s ≡ record { credits_consumed = zero_counters; credit_limit = limits; start = limits } → receiver ≡ record { credits_received = zero_counters; credits_allocated = limits } → wire ≡ []
-    → ingress ≡ record { queue = record { waiting = []; gap = None }; misses = 0; refusals = 0 }
-    → IsCounted s receiver.credits_allocated (wire ++ frames_of ingress.queue.waiting)
-started limits s receiver wire ingress may sender_is receiver_is wire_is ingress_is =
-    rw (sender_is, receiver_is, wire_is, ingress_is) (start-counted limits may)
+pub started : (limits : Counters) (egress : EgressView) (wire : List Descriptor) (ingress : IngressView) → MayStart limits
+    → egress ≡ record { queue = record { queue = record { waiting = []; gap = None }; misses = 0; refusals = 0 }; sender = record { credits_consumed = zero_counters; credit_limit = limits; start = limits } }
+    → wire ≡ []
+    → ingress ≡ record { queue = record { queue = record { waiting = []; gap = None }; misses = 0; refusals = 0 }; receiver = record { credits_received = zero_counters; credits_allocated = limits } }
+    → IsCounted egress.sender ingress.receiver.credits_allocated (wire ++ frames_of ingress.queue.queue.waiting)
+started limits egress wire ingress may egress_is wire_is ingress_is =
+    rw (egress_is, wire_is, ingress_is) (start-counted limits may)
 
 -- ---- what always holds
 
@@ -72,19 +73,13 @@ pub sent-kept : (class : Class) (answer : Bool) (s s' : Ledger) (limit : Counter
     → IsCounted s' limit (wire' ++ ingress)
 sent-kept class true s s' limit egress egress' wire wire' ingress kept went rests =
     let w = went refl in
-    subst (λ (t : Ledger). IsCounted t limit (wire' ++ ingress)) (sym w.spends)
-    (spent-counted s limit w.frame.head.cost (wire ++ ingress) (wire' ++ ingress) (λ k. ap (λ (x : List Descriptor). total k (x ++ ingress)) w.behind ∙ total-sent k wire ingress w.frame) w.room kept)
+    subst (λ (t : Ledger). IsCounted t limit (wire' ++ ingress)) (sym w.sends.spends)
+    (spent-counted s limit w.frame.head.cost (wire ++ ingress) (wire' ++ ingress) (λ k. ap (λ (x : List Descriptor). total k (x ++ ingress)) w.behind ∙ total-sent k wire ingress w.frame) w.sends.room kept)
 sent-kept class false s s' limit egress egress' wire wire' ingress kept went rests =
     let r = rests refl in
     subst (λ (t : Ledger). IsCounted t limit (wire' ++ ingress)) (sym r.1) (subst (λ (x : List Descriptor). IsCounted s limit (x ++ ingress)) (sym r.2) kept)
 
 -- ---- what arrives
-
-pub full_never : (head : Head) (f : Descriptor) (ws : List (Class × Descriptor)) → head ≡ f.head → IsSorted ws → total (Kind.Headers (class_of f)) (frames_of ws) < 127 → count_of head.cost.class ws ≡ 127 → ⊥
-full_never head f ws e sorted place full =
-    let same : total (Kind.Headers head.cost.class) (frames_of ws) ≡ total (Kind.Headers (class_of f)) (frames_of ws) = ap (λ (h : Head). total (Kind.Headers h.cost.class) (frames_of ws)) e in
-    let counts = count-total head.cost.class ws sorted in
-    omega arith
 
 pub none_waits : (wire wire' : List Descriptor) → slice_get wire 0 ≡ None → wire ≡ wire' → (wire ≡ []) × (wire' ≡ [])
 none_waits [] wire' h e = (refl, sym e)

@@ -20,7 +20,7 @@ abbrev pub channel : SimplexView → Channel
 channel s = record { start = s.start; left = s.left; egress = frames_of s.egress.queue.waiting; wire = s.wire; ingress = frames_of s.ingress.queue.waiting }
 
 abbrev pub simplex_view : Inside → SimplexView
-simplex_view s = record { start = s.sender.start; left = left_counters s.sender.credits_consumed s.sender.credit_limit; egress = s.egress; wire = s.wire; ingress = s.ingress }
+simplex_view s = record { start = s.egress.sender.start; left = left_counters s.egress.sender.credits_consumed s.egress.sender.credit_limit; egress = s.egress.queue; wire = s.wire; ingress = s.ingress.queue }
 
 -- could the receiver take this packet as well, beside the credits that the sender has left?
 abbrev pub has_place : Channel → Cost → Bool
@@ -56,4 +56,4 @@ pub record IsCounted (sender : Ledger) (limit : Counters) (behind : List Descrip
   pub bounded : (k : Kind) → at limit k < size_of k
 
 abbrev pub IsSimplex : Inside → Type 0
-IsSimplex s = IsCounted s.sender s.receiver.credits_allocated (s.wire ++ frames_of s.ingress.queue.waiting)
+IsSimplex s = IsCounted s.egress.sender s.ingress.receiver.credits_allocated (s.wire ++ frames_of s.ingress.queue.queue.waiting)

@@ -2,7 +2,11 @@
 //! and the credits that keep the receiver from being overrun.
 #![tactic(auto)]
 
+mod egress;
+mod ingress;
 mod simplex;
 mod steps;
 
+pub use egress::Egress;
+pub use ingress::Ingress;
 pub use simplex::Simplex;

@@ -10,13 +10,13 @@ ghost use Rattle.link.specs.Channels.{IsCovered, count_in, deliver, send, update
 ghost use Rattle.link.specs.Quiet.{is_quiet, none_eligible};
 ghost use Rattle.link.specs.Simplexes.{channel};
 
-use crate::steps::{
-    accept_update, deliver_oldest, give_back, has_none_eligible, knows, release, transmit,
-};
-use credit::{Limits, Receiver, Sender};
+use crate::egress::Egress;
+use crate::ingress::Ingress;
+use crate::steps::{accept_update, deliver_oldest, transmit};
+use credit::Limits;
 use fab_types::{Class, DomainId, Head};
 use frame_log::Frame;
-use lane::{FrameQueue, LaneIn, LaneOut};
+use lane::{LaneIn, LaneOut};
 use port_queue::Ring;
 use std::marker::Model;
 
@@ -26,11 +26,9 @@ use std::marker::Model;
 /// by `update_fc`. A contract sees a `SimplexView`.
 #[derive(Drop)]
 pub struct Simplex {
-    sender: Sender,
-    egress: FrameQueue<16>,
+    egress: Egress,
     wire: Ring<Frame, 381>,
-    ingress: FrameQueue<127>,
-    receiver: Receiver,
+    ingress: Ingress,
 }
 
 impl Model for Simplex {
@@ -58,11 +56,9 @@ impl Simplex {
     {
         let start = limits;
         Simplex {
-            sender: Sender::new(start),
-            egress: FrameQueue::new(),
+            egress: Egress::new(start),
             wire: Ring::new(),
-            ingress: FrameQueue::new(),
-            receiver: Receiver::new(limits),
+            ingress: Ingress::new(limits),
         }
     }
 
@@ -71,7 +67,7 @@ impl Simplex {
     pub fn send(&mut self, class: Class) -> bool
         ensures { MatchBool result (send class (channel self.old) ≡ Some (channel self.new)) ((send class (channel self.old) ≡ None) × (channel self.new ≡ channel self.old)) }
     {
-        transmit(&mut self.egress, &mut self.sender, &mut self.wire, class)
+        transmit(&mut self.egress, &mut self.wire, class)
     }
 
     /// The oldest packet of the wire reaches the receiver, where there always is a place for it. It
@@ -92,7 +88,7 @@ impl Simplex {
         ensures within { (k : Kind) → at self.now.left k ≤ at self.now.start k }
         ensures places { (class : Class) → count_in class (self.now.wire ++ frames_of self.now.ingress.queue.waiting) ≤ 127 }
     {
-        self.sender.left()
+        self.egress.left()
     }
 
     /// The domain that made the eligible packet of a class at the sender, which the next `send` takes if there are
@@ -124,22 +120,22 @@ impl Simplex {
     pub fn update_fc(&mut self) -> bool
         ensures { MatchBool result (update_fc (channel self.old) ≡ Some (channel self.new)) ((update_fc (channel self.old) ≡ None) × (channel self.new ≡ channel self.old)) }
     {
-        let limits = self.receiver.advert();
-        accept_update(&mut self.sender, limits)
+        let limits = self.ingress.advert();
+        accept_update(&mut self.egress, limits)
     }
 
     /// Does the sender know the receiver's present limits, so that `update_fc` changes nothing?
     fn is_told(&self) -> bool
         ensures { result ≡ is_none (update_fc (channel self.now)) }
     {
-        knows(&self.sender, self.receiver.advert())
+        self.egress.knows(&self.ingress.advert())
     }
 
     /// May no packet leave the receiver, whatever its class?
     pub fn has_none_received(&self) -> bool
         ensures { result ≡ none_eligible (channel self.now).ingress }
     {
-        has_none_eligible(&self.ingress)
+        self.ingress.has_none_eligible()
     }
 
     /// Can nothing happen on this direction, before a packet is put at its sender or taken at its receiver? No packet at
@@ -148,7 +144,7 @@ impl Simplex {
     pub fn is_quiet(&self) -> bool
         ensures { result ≡ is_quiet (channel self.now) }
     {
-        has_none_eligible(&self.egress) && self.wire.front().is_none() && self.is_told()
+        self.egress.has_none_eligible() && self.wire.front().is_none() && self.is_told()
     }
 }
 
@@ -166,15 +162,15 @@ impl LaneIn for Simplex {
     ghost misses = { λ s. s.ingress.misses };
 
     fn head(&mut self, class: Class) -> Option<Head> {
-        self.ingress.head(class)
+        self.ingress.next(class)
     }
 
     fn take(&mut self, class: Class) -> Option<Frame> {
-        release(&mut self.ingress, &mut self.receiver, class)
+        self.ingress.release(class)
     }
 
     fn put_back(&mut self, frame: Frame) {
-        give_back(&mut self.ingress, &mut self.receiver, frame);
+        self.ingress.give_back(frame);
     }
 }
 
@@ -196,14 +192,10 @@ impl LaneOut for Simplex {
     ghost is_sure = { true };
 
     fn is_full(&mut self, class: Class) -> bool {
-        // for the proof: each packet waits under its own class
-        let _ = self.egress.has_no_place(class);
         self.egress.is_full(class)
     }
 
     fn push(&mut self, frame: Frame) -> Result<(), Frame> {
-        // for the proof: each packet waits under its own class
-        let _ = self.egress.has_no_place(frame.head().cost.class);
         self.egress.push(frame)
     }
 }

@@ -5,9 +5,9 @@ use Rattle.link.proofs.simplex.Simplex.update_fc.Goals as goal
 
 pub invariant_of-self : goal.invariant_of-self
 invariant_of-self c = let s = c.self.inside in
-    accepted-kept c.accept_update.result s.sender c.accept_update.new.sender s.receiver.credits_allocated c.advert-limits.result (s.wire ++ frames_of s.ingress.queue.waiting) c.self.invariant c.advert-limits.ensures c.accept_update.ensures.told c.accept_update.ensures.known
+    accepted-kept c.accept_update.result s.egress.sender c.accept_update.new.egress.sender s.ingress.receiver.credits_allocated c.advert-limits.result (s.wire ++ frames_of s.ingress.queue.queue.waiting) c.self.invariant c.advert-limits.ensures c.accept_update.ensures.told c.accept_update.ensures.known
 
 pub returns : goal.returns
 returns c = let s = c.self.inside in
-    rw (← c.self.view_is)
-    (accepted c.accept_update.result s.sender c.accept_update.new.sender s.receiver.credits_allocated c.advert-limits.result (frames_of s.egress.queue.waiting) s.wire (frames_of s.ingress.queue.waiting) c.self.invariant c.advert-limits.ensures c.accept_update.ensures.told c.accept_update.ensures.known)
+    rw (← c.self.view_is, c.accept_update.ensures.queue)
+    (accepted c.accept_update.result s.egress.sender c.accept_update.new.egress.sender s.ingress.receiver.credits_allocated c.advert-limits.result (frames_of s.egress.queue.queue.waiting) s.wire (frames_of s.ingress.queue.queue.waiting) c.self.invariant c.advert-limits.ensures c.accept_update.ensures.told c.accept_update.ensures.known)

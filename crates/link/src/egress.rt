@@ -1,0 +1,134 @@
+//! The sender's end of a direction.
+
+ghost use Rattle.std.specs.Prelude.{◌≡◌, ◌≢◌, [], None, IfSome, MatchBool, false, option_map, true};
+ghost use Rattle.credit.specs.Limits.{IsUpdate, MayStart, left_counters, zero_counters};
+ghost use Rattle.lane.specs.Lanes.{eligible};
+ghost use Rattle.lane.specs.Queues.{frames_of};
+ghost use Rattle.link.specs.Quiet.{none_eligible};
+ghost use Rattle.link.specs.Steps.{IsStuck, Sends};
+
+use crate::steps::has_none_eligible;
+use credit::{Limits, Sender};
+use fab_types::{Class, DomainId};
+use frame_log::Frame;
+use lane::{FrameQueue, LaneIn, LaneOut};
+use std::marker::Model;
+
+/// What waits at the sender of a direction, at most 16 packets of each class, and the credits that the sender knows,
+/// which bound what may leave. It is the lane out of the port that sends. A contract sees an `EgressView`.
+#[derive(Drop)]
+pub struct Egress {
+    queue: FrameQueue<16>,
+    sender: Sender,
+}
+
+impl Model for Egress {
+    ghost use Rattle.link.specs.Ends.{EgressView};
+
+    ghost Value = { EgressView };
+
+    ghost view = { λ e. record { queue = e.queue; sender = e.sender } };
+}
+
+impl Egress {
+    /// Nothing waits, and nothing was sent. These are the credits that the receiver advertises: headers at most 127,
+    /// data at most 2,047.
+    pub fn new(limits: Limits) -> Egress
+        requires { MayStart limits }
+        ensures { result ≡ record {
+          queue = record { queue = record { waiting = []; gap = None }; misses = 0; refusals = 0 };
+          sender = record { credits_consumed = zero_counters; credit_limit = limits; start = limits };
+        } }
+    {
+        Egress {
+            queue: FrameQueue::new(),
+            sender: Sender::new(limits),
+        }
+    }
+
+    /// Takes the eligible packet of the class, and spends its credits. None where no packet is eligible or there are
+    /// too few credits; then nothing changes.
+    pub fn send(&mut self, class: Class) -> Option<Frame>
+        ensures sent { IfSome result (λ frame. Sends class (frames_of self.old.queue.queue.waiting) self.old.sender frame (frames_of self.new.queue.queue.waiting) self.new.sender) }
+        ensures stuck { result ≡ None → IsStuck class (frames_of self.old.queue.queue.waiting) self.old.sender }
+        ensures rests { result ≡ None → (frames_of self.new.queue.queue.waiting ≡ frames_of self.old.queue.queue.waiting) × (self.new.sender ≡ self.old.sender) }
+    {
+        let head = self.queue.head(class)?;
+        if !self.sender.room(head.cost) {
+            return None;
+        }
+        let Some(frame) = self.queue.take(class) else {
+            unreachable!();
+        };
+        self.sender.spend(head.cost);
+        Some(frame)
+    }
+
+    /// Are these the limits that the sender was told last?
+    pub fn knows(&self, limits: &Limits) -> bool
+        ensures { MatchBool result (limits.now ≡ self.now.sender.credit_limit) (limits.now ≢ self.now.sender.credit_limit) }
+    {
+        *limits == self.sender.credit_limit()
+    }
+
+    /// Tells the sender the receiver's limits. Limits that take back what was told, or give more than the start, are
+    /// refused by false, and nothing changes.
+    pub fn update(&mut self, limits: Limits) -> bool
+        ensures told { IsUpdate self.old.sender limits → (result ≡ true) × (self.new.sender ≡ record self.old.sender { credit_limit = limits }) }
+        ensures refused { (IsUpdate self.old.sender limits → ⊥) → (result ≡ false) × (self.new.sender ≡ self.old.sender) }
+        ensures queue { self.new.queue ≡ self.old.queue }
+    {
+        self.sender.update(limits)
+    }
+
+    /// The credits that the sender knows to be left.
+    pub fn left(&self) -> Limits
+        ensures { result ≡ left_counters self.now.sender.credits_consumed self.now.sender.credit_limit }
+    {
+        self.sender.left()
+    }
+
+    /// The domain that made the eligible packet of a class.
+    pub fn home(&self, class: Class) -> Option<DomainId>
+        ensures { result ≡ option_map (λ taken. taken.0.domain) (eligible class (frames_of self.now.queue.queue.waiting)) }
+    {
+        self.queue.home(class)
+    }
+
+    /// May no packet leave, whatever its class and the credits?
+    pub fn has_none_eligible(&self) -> bool
+        ensures { result ≡ none_eligible (frames_of self.now.queue.queue.waiting) }
+    {
+        has_none_eligible(&self.queue)
+    }
+}
+
+impl LaneOut for Egress {
+    ghost use Rattle.std.specs.Prelude.{◌==◌, true};
+    ghost use Rattle.credit.specs.Limits.{Ledger};
+    ghost use Rattle.link.specs.Channels.{count_in};
+
+    ghost Lane = { Ledger };
+
+    ghost lane = { λ e. e.sender };
+
+    ghost sent = { λ e. frames_of e.queue.queue.waiting };
+
+    ghost refusals = { λ e. e.queue.refusals };
+
+    ghost may_refuse = { λ e class. count_in class (frames_of e.queue.queue.waiting) == 16 };
+
+    ghost is_sure = { true };
+
+    fn is_full(&mut self, class: Class) -> bool {
+        // for the proof: each packet waits under its own class
+        let _ = self.queue.has_no_place(class);
+        self.queue.is_full(class)
+    }
+
+    fn push(&mut self, frame: Frame) -> Result<(), Frame> {
+        // for the proof: each packet waits under its own class
+        let _ = self.queue.has_no_place(frame.head().cost.class);
+        self.queue.push(frame)
+    }
+}

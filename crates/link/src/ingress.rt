@@ -1,0 +1,149 @@
+//! The receiver's end of a direction.
+
+ghost use Rattle.std.specs.Prelude.{◌≡◌, ◌≢◌, ◌==◌, ◌++◌, ◌∷◌, [], None, Some, IfSome, IsSome, MatchOption, false, option_map};
+ghost use Rattle.credit.specs.Limits.{counted, uncounted, zero_counters};
+ghost use Rattle.lane.specs.Lanes.{class_of, eligible};
+ghost use Rattle.lane.specs.Queues.{frames_of, frames_restored};
+ghost use Rattle.link.specs.Channels.{count_in};
+ghost use Rattle.link.specs.Quiet.{none_eligible};
+
+use crate::steps::has_none_eligible;
+use credit::{Limits, Receiver};
+use fab_types::{Class, DomainId, Head};
+use frame_log::Frame;
+use lane::{FrameQueue, LaneIn, LaneOut};
+use std::marker::Model;
+
+/// What waits at the receiver of a direction, at most 127 packets of each class, and the credits that it gave. Those of
+/// a packet that leaves are free. It is the lane in of the port that receives. A contract sees an `IngressView`.
+#[derive(Drop)]
+pub struct Ingress {
+    queue: FrameQueue<127>,
+    receiver: Receiver,
+}
+
+impl Model for Ingress {
+    ghost use Rattle.link.specs.Ends.{IngressView};
+
+    ghost Value = { IngressView };
+
+    ghost view = { λ i. record { queue = i.queue; receiver = i.receiver } };
+}
+
+impl Ingress {
+    /// Nothing waits, and these credits are advertised.
+    pub fn new(limits: Limits) -> Ingress
+        ensures { result ≡ record {
+          queue = record { queue = record { waiting = []; gap = None }; misses = 0; refusals = 0 };
+          receiver = record { credits_received = zero_counters; credits_allocated = limits };
+        } }
+    {
+        Ingress {
+            queue: FrameQueue::new(),
+            receiver: Receiver::new(limits),
+        }
+    }
+
+    /// Do 127 packets of the class wait?
+    pub fn has_no_place(&self, class: Class) -> bool
+        ensures { result ≡ (count_in class (frames_of self.now.queue.queue.waiting) == 127) }
+    {
+        self.queue.has_no_place(class)
+    }
+
+    /// A packet comes off the wire, and waits behind all others.
+    pub fn arrive(&mut self, frame: Frame)
+        requires { (count_in (class_of frame) (frames_of self.old.queue.queue.waiting) == 127) ≡ false }
+        ensures waiting { frames_of self.new.queue.queue.waiting ≡ frames_of self.old.queue.queue.waiting ++ frame ∷ [] }
+        ensures receiver { self.new.receiver ≡ self.old.receiver }
+    {
+        // With its answer comes that each packet waits under its own class.
+        if self.queue.has_no_place(frame.head().cost.class) {
+            unreachable!();
+        }
+        if self.queue.push(frame).is_err() {
+            unreachable!();
+        }
+    }
+
+    /// What ports read of the eligible packet of a class. Where there is none, that is counted.
+    pub fn next(&mut self, class: Class) -> Option<Head>
+        ensures found { result ≡ option_map (λ taken. taken.0.head) (eligible class (frames_of self.old.queue.queue.waiting)) }
+        ensures waiting { frames_of self.new.queue.queue.waiting ≡ frames_of self.old.queue.queue.waiting }
+        ensures receiver { self.new.receiver ≡ self.old.receiver }
+        ensures counted { MatchOption result (self.new.queue.misses ≢ self.old.queue.misses) (λ _. self.new.queue.misses ≡ self.old.queue.misses) }
+    {
+        self.queue.head(class)
+    }
+
+    /// Takes the eligible packet of the class, and frees its credits.
+    pub fn release(&mut self, class: Class) -> Option<Frame>
+        ensures taken { MatchOption result ((eligible class (frames_of self.old.queue.queue.waiting) ≡ None) × (frames_of self.new.queue.queue.waiting ≡ frames_of self.old.queue.queue.waiting))
+            (λ frame. eligible class (frames_of self.old.queue.queue.waiting) ≡ Some (frame, frames_of self.new.queue.queue.waiting)) }
+        ensures restores { IfSome result (λ frame. frames_restored self.new.queue.queue frame ≡ Some (frames_of self.old.queue.queue.waiting)) }
+        ensures freed { MatchOption result (self.new.receiver.credits_allocated ≡ self.old.receiver.credits_allocated) (λ frame. self.new.receiver.credits_allocated ≡ counted self.old.receiver.credits_allocated frame.head.cost) }
+        ensures misses { self.new.queue.misses ≡ self.old.queue.misses }
+    {
+        let frame = self.queue.take(class)?;
+        self.receiver.free(frame.head().cost);
+        Some(frame)
+    }
+
+    /// Puts the packet back that was just taken, and takes its credits back.
+    pub fn give_back(&mut self, frame: Frame)
+        requires { IsSome (frames_restored self.old.queue.queue frame) }
+        ensures waiting { frames_restored self.old.queue.queue frame ≡ Some (frames_of self.new.queue.queue.waiting) }
+        ensures reclaimed { self.new.receiver.credits_allocated ≡ uncounted self.old.receiver.credits_allocated frame.head.cost }
+        ensures misses { self.new.queue.misses ≡ self.old.queue.misses }
+    {
+        self.receiver.reclaim(frame.head().cost);
+        self.queue.put_back(frame);
+    }
+
+    /// The limits that the sender may be told.
+    pub fn advert(&self) -> Limits
+        ensures { result ≡ self.now.receiver.credits_allocated }
+    {
+        self.receiver.advert()
+    }
+
+    /// The domain that made the eligible packet of a class.
+    pub fn home(&self, class: Class) -> Option<DomainId>
+        ensures { result ≡ option_map (λ taken. taken.0.domain) (eligible class (frames_of self.now.queue.queue.waiting)) }
+    {
+        self.queue.home(class)
+    }
+
+    /// May no packet leave, whatever its class?
+    pub fn has_none_eligible(&self) -> bool
+        ensures { result ≡ none_eligible (frames_of self.now.queue.queue.waiting) }
+    {
+        has_none_eligible(&self.queue)
+    }
+}
+
+impl LaneIn for Ingress {
+    ghost use Rattle.std.specs.Prelude.{ℕ};
+
+    ghost Lane = { ℕ };
+
+    ghost lane = { λ _. 0 };
+
+    ghost waiting = { λ i. frames_of i.queue.queue.waiting };
+
+    ghost restored = { λ i f. frames_restored i.queue.queue f };
+
+    ghost misses = { λ i. i.queue.misses };
+
+    fn head(&mut self, class: Class) -> Option<Head> {
+        self.next(class)
+    }
+
+    fn take(&mut self, class: Class) -> Option<Frame> {
+        self.release(class)
+    }
+
+    fn put_back(&mut self, frame: Frame) {
+        self.give_back(frame);
+    }
+}
