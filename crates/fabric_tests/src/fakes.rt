@@ -90,6 +90,10 @@ pub struct Place {
 }
 
 impl Reporter for Place {
+    ghost Line = { ⊤ };
+
+    ghost line = { λ _. tt };
+
     ghost reported = { λ p. p.reports.violations };
 
     ghost refusals = { λ p. p.refused };

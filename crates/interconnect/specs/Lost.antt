@@ -1,16 +1,16 @@
 -- What a port is about to lose: the eligible packet of a class that came into it and that it has no case for.
-use Rattle.std.specs.Prelude.{ℕ, List, slice_index_or, Option, Some, None}
+use Rattle.std.specs.Prelude.{ℕ, List, slice_index_or, Option, Some, None, option_map}
 use Rattle.bridge.specs.Bridges.{Routes}
 use Rattle.fab_types.specs.declared.head.Head.{Head}
-use Rattle.fab_types.specs.declared.place.Place.TheVariants.{Ingress}
 use Rattle.frame_log.specs.Descriptor.{Descriptor}
 use Rattle.link.specs.Channels.{Channel}
-use Rattle.port.specs.Configs.{Config, direction_in}
-use Rattle.port.specs.Courses.{course_of, report_elsewhere}
+use Rattle.port.specs.Configs.{Config}
+use Rattle.port.specs.Courses.{course_of}
+use Rattle.port.specs.Losses.{loss_of}
 use Rattle.lane.specs.Lanes.{Class, eligible}
 use Rattle.port.specs.Turns.{PortView}
 use Rattle.port.specs.declared.course.Forwarding.{Forwarding}
-use Rattle.port.specs.declared.course.Forwarding.TheVariants.{To, Stop, NoCase}
+use Rattle.port.specs.declared.loss.Loss.{Loss}
 use Rattle.topology.specs.Topologies.{Tree}
 use Rattle.topology.specs.declared.nodes.LinkEnd.{LinkEnd}
 use Rattle.topology.specs.declared.places.PortPlace.{PortPlace}
@@ -23,16 +23,12 @@ use Rattle.interconnect.specs.Views.{InterconnectView, channels}
 abbrev pub own_end : ℕ → Config → LinkEnd
 own_end node config = record { node = node; output = config.own }
 
--- a packet with this head, which came into the port from this end, is lost where its course is none
+abbrev pub lost_with : ℕ → LinkEnd → Config → Loss → Lost
+lost_with node input config loss = record { input = input; own = own_end node config; place = loss.place; report = loss.report }
+
+-- a packet with this head, which came into the port from this end, if the port has no case for it
 abbrev pub lost_by : ℕ → LinkEnd → Config → Head → Forwarding → Option Lost
-lost_by node input config head (To output) = None
-lost_by node input config head (Stop report) = None
-lost_by node input config head NoCase = Some (record {
-  input = input;
-  own = own_end node config;
-  place = Ingress (direction_in config);
-  report = report_elsewhere config head;
-})
+lost_by node input config head course = option_map (lost_with node input config) (loss_of config head course)
 
 abbrev pub lost_of : Routes → ℕ → LinkEnd → Config → Option (Descriptor × List Descriptor) → Option Lost
 lost_of routes node input config None = None

@@ -6,7 +6,7 @@ ghost use Rattle.interconnect.specs.Lost.{lost_by, own_end};
 
 use bridge::Bridge;
 use fab_types::{Head, Place, Violation};
-use port::{Forwarding, Port};
+use port::Port;
 use topology::LinkEnd;
 
 /// A packet that came into a port and that the port has no case for.
@@ -44,14 +44,11 @@ pub(crate) fn lost_by(
     ensures input { IfSome result (λ lost. lost.input ≡ input) }
     ensures own { IfSome result (λ lost. (lost.own.node ≡ node) × (lost.own.output ≤ length port.now.config.exits)) }
 {
-    match port.course(bridge, head) {
-        Forwarding::To(_) => None,
-        Forwarding::Stop(_) => None,
-        Forwarding::NoCase => Some(Lost {
-            input,
-            own: own_end(port, node),
-            place: Place::Ingress(port.direction_in()),
-            report: port.report_elsewhere(head),
-        }),
-    }
+    let loss = port.loss(bridge, head)?;
+    Some(Lost {
+        input,
+        own: own_end(port, node),
+        place: loss.place,
+        report: loss.report,
+    })
 }

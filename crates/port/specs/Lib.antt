@@ -1,6 +1,7 @@
 pub mod Vetted
 pub mod Configs
 pub mod Courses
+pub mod Losses
 pub mod Steps
 pub mod Reports
 pub mod Turns

@@ -5,6 +5,7 @@
 mod config;
 mod course;
 mod desk;
+mod loss;
 mod port;
 mod reporter;
 mod reports;
@@ -16,6 +17,7 @@ mod vetted;
 pub use config::Exit;
 pub use course::Forwarding;
 pub use desk::Desk;
+pub use loss::Loss;
 pub use port::Port;
 pub use reporter::Reporter;
 pub use reports::Reports;

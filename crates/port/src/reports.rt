@@ -1,6 +1,6 @@
 //! Reports of violations in a list.
 
-ghost use Rattle.std.specs.Prelude.{◌≡◌, [], true};
+ghost use Rattle.std.specs.Prelude.{◌≡◌, ⊤, [], true};
 
 use crate::reporter::Reporter;
 use fab_types::{NoMemory, Violation};
@@ -43,6 +43,10 @@ impl Reports {
 }
 
 impl Reporter for Reports {
+    ghost Line = { ⊤ };
+
+    ghost line = { λ _. tt };
+
     ghost reported = { λ r. r.violations };
 
     ghost refusals = { λ r. r.refusals };

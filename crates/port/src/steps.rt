@@ -22,6 +22,7 @@ pub(crate) fn tell<R: Reporter>(reporter: &mut R, held: &mut Option<Violation>) 
     ensures cause { result ≡ Outcome.Idle → (held.old ≡ None) ⊎ (R.refusals reporter.new ≢ R.refusals reporter.old) }
     ensures memory { result ≢ Outcome.NoMemory }
     ensures answer { IsOfTurn result }
+    ensures same_line { R.line reporter.new ≡ R.line reporter.old }
 {
     let Some(violation) = held.take() else {
         return Outcome::Idle;
@@ -44,6 +45,7 @@ pub(crate) fn prepare<R: Reporter>(
     ensures counted { R.refusals reporter.new ≡ R.refusals reporter.old }
     ensures room { R.is_sure ≡ true → OnOk result (IfSome report.now (λ _. R.has_room reporter.new ≡ true)) }
     ensures memory { OnErr result (IsSome report.now) }
+    ensures same_line { R.line reporter.new ≡ R.line reporter.old }
 {
     match report {
         Some(_) => reporter.prepare_report(),
@@ -60,6 +62,7 @@ pub(crate) fn report_or_hold<R: Reporter>(
     requires { held.old ≡ None }
     ensures told { R.reported reporter.old ++ option_to_list report ≡ R.reported reporter.new ++ option_to_list held.new }
     ensures room { IfSome report (λ _. R.has_room reporter.old ≡ true) → held.new ≡ None }
+    ensures same_line { R.line reporter.new ≡ R.line reporter.old }
 {
     let Some(violation) = report else {
         return;

@@ -65,6 +65,7 @@ fn stop<W: Wait, I: LaneIn, O: LaneOut, D: Desk, R: Reporter>(
     ensures answer { IsOfTurn result }
     ensures config { port.new.config ≡ port.old.config }
     ensures same_lanes { (I.lane input.new ≡ I.lane input.old) × (map O.lane outs.new ≡ map O.lane outs.old) }
+    ensures same_line { R.line reporter.new ≡ R.line reporter.old }
 {
     // Only where the packet can be refused is memory asked for.
     if answer_waits_at(outs, port.own, class) {
@@ -119,6 +120,7 @@ fn proceed<W: Wait, I: LaneIn, O: LaneOut, D: Desk, R: Reporter>(
     ensures answer { IsOfTurn result }
     ensures config { port.new.config ≡ port.old.config }
     ensures same_lanes { (I.lane input.new ≡ I.lane input.old) × (map O.lane outs.new ≡ map O.lane outs.old) }
+    ensures same_line { R.line reporter.new ≡ R.line reporter.old }
 {
     let Some(head) = input.head(class) else {
         return Outcome::Idle;
@@ -165,6 +167,7 @@ fn advance<W: Wait, I: LaneIn, O: LaneOut, D: Desk, R: Reporter>(
     ensures answer { IsOfTurn result }
     ensures config { port.new.config ≡ port.old.config }
     ensures same_lanes { (I.lane input.new ≡ I.lane input.old) × (map O.lane outs.new ≡ map O.lane outs.old) }
+    ensures same_line { R.line reporter.new ≡ R.line reporter.old }
 {
     if port.held.is_some() {
         return tell(reporter, &mut port.held);
@@ -214,6 +217,7 @@ impl Port {
         ensures answer { IsOfTurn result }
         ensures config { self.new.config ≡ self.old.config }
         ensures same_lanes { (I.lane parts.new.input.now ≡ I.lane parts.old.input.now) × (map O.lane parts.new.outs.now ≡ map O.lane parts.old.outs.now) }
+        ensures same_line { R.line parts.new.reporter.now ≡ R.line parts.old.reporter.now }
         ensures same_input { parts.new.input.ghost_name ≡ parts.old.input.ghost_name }
         ensures same_outs { parts.new.outs.ghost_name ≡ parts.old.outs.ghost_name }
         ensures same_desk { parts.new.desk.ghost_name ≡ parts.old.desk.ghost_name }

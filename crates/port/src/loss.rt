@@ -1,0 +1,35 @@
+//! What a port has no case for.
+
+ghost use Rattle.std.specs.Prelude.{◌≡◌};
+ghost use Rattle.port.specs.Courses.{course_of};
+ghost use Rattle.port.specs.Losses.{loss_of};
+
+use crate::course::Forwarding;
+use crate::port::Port;
+use bridge::Bridge;
+use fab_types::{Head, Place, Violation};
+
+/// A packet that came into a port which has no case for it. In a layout that isn't guarded it ends there, by an
+/// entry of a domain; in a guarded one none comes so far.
+#[derive(Clone, Copy, Debug, PartialEq, Eq)]
+pub struct Loss {
+    /// Where it waits, as an entry names it.
+    pub place: Place,
+    /// The violation that the port finds, if it finds one (PCIe 4.0, 6.12.1.1).
+    pub report: Option<Violation>,
+}
+
+impl Port {
+    /// What is lost of a packet with this head that came into the port, if the port has no case for it.
+    pub fn loss(&self, bridge: &Bridge, head: &Head) -> Option<Loss>
+        ensures { result ≡ loss_of self.now.config head.now (course_of bridge.now self.now.config head.now) }
+    {
+        match self.course(bridge, head) {
+            Forwarding::To(_) | Forwarding::Stop(_) => None,
+            Forwarding::NoCase => Some(Loss {
+                place: Place::Ingress(self.direction_in()),
+                report: self.report_elsewhere(head),
+            }),
+        }
+    }
+}
