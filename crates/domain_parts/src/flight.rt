@@ -21,11 +21,13 @@ struct InFlight {
 }
 
 /// The packets in flight by their numbers, and the log that has their bytes, which others may share. A contract sees
-/// the list.
+/// the list. The place of a packet that ended stays, empty, since no number is given out twice: so what is in flight
+/// stands in a box of its own, and a place is small.
 #[derive(Drop)]
 pub struct Flight {
+    alloc: Global,
     log: Arc<Log>,
-    slots: Vec<Option<InFlight>>,
+    slots: Vec<Option<Box<InFlight>>>,
 }
 
 impl Model for Flight {
@@ -41,7 +43,7 @@ impl Model for Flight {
     ghost invariant = { λ f. AreSlots f };
 }
 
-fn clear(slots: &mut [Option<InFlight>], index: usize)
+fn clear(slots: &mut [Option<Box<InFlight>>], index: usize)
     ensures { slots.new ≡ slice_set slots.old index None }
 {
     if index < slots.len() {
@@ -56,6 +58,7 @@ impl Flight {
         ensures { IfOk result (λ flight. flight ≡ []) }
     {
         Ok(Flight {
+            alloc,
             log,
             slots: Vec::with_capacity(alloc, room)?,
         })
@@ -107,7 +110,8 @@ impl Flight {
         let these = parties;
         let head = head_of(these, packet);
         let (frame, token) = self.log.emit(rt, domain, number, head, packet.bytes())?;
-        self.slots.push_reserved(Some(InFlight { parties, token }));
+        let slot = Box::new(self.alloc, InFlight { parties, token })?;
+        self.slots.push_reserved(Some(slot));
         Ok(frame)
     }
 
