@@ -1,0 +1,84 @@
+//! A ring of frames as the lane out of a port.
+
+use fab_types::{Bdf, Class, Cost, DomainId, Head, Header, Parties};
+use frame_log::{Frame, Log};
+use lane::LaneOut;
+use std::alloc::Global;
+use std::sync::Wait;
+use std::test::Fail;
+use wiring::{InEnd, OutEnd, Wire, are_within, deal, lay};
+
+const WIRES: [Wire; 1] = [Wire {
+    from: 0,
+    to: 1,
+    places: 1,
+}];
+
+fn frame<R: Wait>(rt: &R, log: &Log, number: u64) -> Option<Frame> {
+    let head = Head {
+        parties: Parties::Upward(Bdf::from_bits(0x0300)),
+        cost: Cost {
+            class: Class::Posted,
+            data: 1,
+        },
+        header: Header::Malformed,
+    };
+    let domain = DomainId::new(1)?;
+    let (frame, token) = log.emit(rt, domain, number, head, &[0x40]).ok()?;
+    drop(token);
+    Some(frame)
+}
+
+fn both_ends(alloc: Global) -> Option<(OutEnd<Frame>, InEnd<Frame>)> {
+    if !are_within(2, &WIRES) {
+        return None;
+    }
+    let rings = lay(alloc, &WIRES).ok()?;
+    let mut workers = deal(alloc, 2, rings).ok()?;
+    let mut receiver = workers.pop()?;
+    let mut sender = workers.pop()?;
+    Some((sender.outs.pop()?, receiver.ins.pop()?))
+}
+
+/// How often the lane said no: when it is asked, and when it gives the second frame back.
+fn refusals(out: &mut OutEnd<Frame>, first: Frame, second: Frame) -> Option<u64> {
+    if out.is_full(Class::Posted) || out.push(first).is_err() {
+        return None;
+    }
+    if !out.is_full(Class::Posted) || out.push(second).is_ok() {
+        return None;
+    }
+    Some(out.refusals)
+}
+
+/// The number of the frame that waits first, and that of the frame that is taken.
+fn numbers(input: &mut InEnd<Frame>) -> Option<(u64, u64)> {
+    if !input.has_item() {
+        return None;
+    }
+    let first = input.front().number();
+    let frame = input.take_known();
+    Some((first, frame.number()))
+}
+
+/// Is there a place again, for one frame?
+fn has_one_place(out: &mut OutEnd<Frame>, frame: Frame) -> bool {
+    if !out.has_place() {
+        return false;
+    }
+    out.put_reserved(frame);
+    !out.has_place()
+}
+
+#[test]
+fn a_ring_is_a_lane_that_counts_how_often_it_was_full(rt: HostRuntime) -> Result<(), Fail> {
+    let log = Log::new(rt.alloc())?;
+    let (mut out, mut input) = both_ends(rt.alloc()).ok_or("no ends")?;
+    let first = frame(&rt, &log, 7).ok_or("no frame")?;
+    let second = frame(&rt, &log, 8).ok_or("no frame")?;
+    let third = frame(&rt, &log, 9).ok_or("no frame")?;
+    assert_eq!(rt; refusals(&mut out, first, second), Some(2));
+    assert_eq!(rt; numbers(&mut input), Some((7, 7)));
+    assert!(rt; has_one_place(&mut out, third));
+    Ok(())
+}

@@ -1,0 +1,5 @@
+pub mod Dealt
+pub mod Flows
+pub mod Numbered
+pub mod Undone
+pub mod Used

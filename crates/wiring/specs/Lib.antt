@@ -1,0 +1,4 @@
+pub mod Moved
+pub mod Names
+pub mod Returned
+pub mod Wired

@@ -1,0 +1,23 @@
+//! Rings for any table of wires: laid, dealt out to workers by their ends, and told once the ends are back.
+#![tactic(auto)]
+
+mod dealing;
+mod ends;
+mod in_end;
+mod laid;
+mod out_end;
+mod out_lane;
+mod ring;
+mod told;
+mod undoing;
+mod wire;
+
+pub use dealing::deal;
+pub use ends::Ends;
+pub use in_end::InEnd;
+pub use laid::{Laid, lay};
+pub use out_end::OutEnd;
+pub use ring::Ring;
+pub use told::Told;
+pub use undoing::undo;
+pub use wire::{Wire, are_within};
