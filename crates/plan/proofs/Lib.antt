@@ -1,0 +1,10 @@
+pub mod AtEnds
+pub mod Counted
+pub mod Laid
+pub mod Lanes
+pub mod Named
+pub mod Numbered
+pub mod Parts
+pub mod Ported
+pub mod Routed
+pub mod Within

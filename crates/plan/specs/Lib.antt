@@ -1,0 +1,4 @@
+pub mod Workers
+pub mod Routes
+pub mod Plans
+pub mod Nodes

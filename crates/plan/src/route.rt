@@ -1,0 +1,43 @@
+//! Ways between workers.
+
+ghost use Rattle.std.specs.Prelude.{◌≡◌, IfOk, map};
+ghost use Rattle.plan.specs.Routes.{back, route};
+
+use crew::WorkerId;
+use fab_types::NoMemory;
+use std::alloc::Global;
+
+/// Who puts items into a ring, and who takes them out.
+#[derive(Clone, Copy, Debug, PartialEq, Eq)]
+pub(crate) struct Route {
+    pub from: WorkerId,
+    pub to: WorkerId,
+}
+
+impl Route {
+    pub fn between(from: &WorkerId, to: &WorkerId) -> Route
+        ensures { result ≡ route from.now to.now }
+    {
+        Route {
+            from: *from,
+            to: *to,
+        }
+    }
+
+    /// The other way.
+    pub fn back(&self) -> Route
+        ensures { result ≡ back self.now }
+    {
+        Route {
+            from: self.to,
+            to: self.from,
+        }
+    }
+}
+
+/// The same routes, each the other way.
+pub(crate) fn turned(alloc: Global, routes: &[Route]) -> Result<Vec<Route>, NoMemory>
+    ensures { IfOk result (λ turned. turned.items ≡ map back routes.now) }
+{
+    Ok(routes.iter().map(|route| route.back()).collect(alloc)?)
+}
