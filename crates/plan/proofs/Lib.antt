@@ -1,5 +1,6 @@
 pub mod AtEnds
 pub mod Counted
+pub mod Dealing
 pub mod Laid
 pub mod Lanes
 pub mod Named

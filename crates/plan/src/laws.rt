@@ -1,6 +1,6 @@
 //! Laws of every plan. Each is the contract of a function that does nothing.
 
-ghost use Rattle.std.specs.Prelude.{◌≡◌, ◌+◌, ◌*◌, ◌<◌, ℕ, All, Some, length, map, slice_index_or};
+ghost use Rattle.std.specs.Prelude.{◌≡◌, ◌+◌, ◌*◌, ◌<◌, ℕ, All, List, Some, length, map, slice_index_or};
 ghost use Rattle.layout.specs.Laws.{IsPlatform};
 ghost use Rattle.platform.specs.declared.parts.Switch.{Switch};
 ghost use Rattle.platform.specs.Platform.{Platform};
@@ -8,6 +8,8 @@ ghost use Rattle.crew.specs.declared.worker_id.WorkerId.{WorkerId};
 ghost use Rattle.topology.specs.Links.{links_of};
 ghost use Rattle.topology.specs.Nodes.{outputs_of_switch};
 ghost use Rattle.topology.specs.WellPlaced.{IsWellPlaced};
+ghost use Rattle.wiring.specs.Names.{RingName};
+ghost use Rattle.wiring.specs.Wired.{dealt, no_tags};
 ghost use Rattle.wiring.specs.declared.wire.Wire.{Wire};
 ghost use Rattle.plan.specs.declared.route.Route.{Route};
 ghost use Rattle.plan.specs.Nodes.{worker_at};
@@ -63,6 +65,15 @@ pub fn a_port_has_rings_for_its_lanes()
         → length (wires_from n (plan_of platform).pairs) ≡ outputs_of_switch platform.ports switch }
     ensures many_into { (platform : Platform) (switch : Switch) (worker : WorkerId) (n : ℕ) → IsPlatform platform → IsWellPlaced platform → IsPortOf platform switch worker n
         → length (wires_into n (plan_of platform).pairs) ≡ outputs_of_switch platform.ports switch }
+{}
+
+/// Whatever rings are laid for `pairs`, the worker of a port is dealt as many ends to put into, and as many to take from,
+/// as outputs lead out of its switch.
+pub fn a_port_is_dealt_an_end_for_each_lane()
+    ensures outs { (platform : Platform) (switch : Switch) (worker : WorkerId) (n : ℕ) (table : List (Wire × RingName)) → IsPlatform platform → IsWellPlaced platform → IsPortOf platform switch worker n
+        → map (λ r. r.0) table ≡ (plan_of platform).pairs → length (slice_index_or (dealt (length (workers_of platform)) table) n no_tags).outs ≡ outputs_of_switch platform.ports switch }
+    ensures ins { (platform : Platform) (switch : Switch) (worker : WorkerId) (n : ℕ) (table : List (Wire × RingName)) → IsPlatform platform → IsWellPlaced platform → IsPortOf platform switch worker n
+        → map (λ r. r.0) table ≡ (plan_of platform).pairs → length (slice_index_or (dealt (length (workers_of platform)) table) n no_tags).ins ≡ outputs_of_switch platform.ports switch }
 {}
 
 /// The worker of a port is found at its own place: upstream ports come first, then downstream ports, and no two ports

@@ -3,3 +3,4 @@ pub mod Flows
 pub mod Numbered
 pub mod Undone
 pub mod Used
+pub mod Shares

@@ -1,5 +1,6 @@
 -- Which ends a worker has, by the numbers of their rings in a table.
-use Rattle.std.specs.Prelude.{ℕ, ◌+◌, ◌<◌, replicate, slice_set, slice_index_or, List, [], ◌∷◌, ◌++◌, map, All}
+use Rattle.std.specs.Prelude.{ℕ, ◌+◌, ◌==◌, ◌<◌, replicate, slice_set, slice_index_or, List, [], ◌∷◌, ◌++◌, map, All}
+use Rattle.std.specs.List.{filter}
 use Rattle.wiring.specs.Names.{RingName, out_name, in_name}
 use Rattle.wiring.specs.declared.ends.Ends.{Ends}
 use Rattle.wiring.specs.declared.in_end.InEnd.{InEnd}
@@ -68,6 +69,13 @@ numbered_from n (r ∷ rs) = (n, r) ∷ numbered_from (n + 1) rs
 
 abbrev pub numbered : List (Wire × RingName) → List Row
 numbered table = numbered_from 0 table
+
+-- the rows whose rings lead from a worker, and those whose rings lead to it
+abbrev pub rows_from : ℕ → List Row → List Row
+rows_from worker rows = filter (λ row. row.1.0.from == worker) rows
+
+abbrev pub rows_to : ℕ → List Row → List Row
+rows_to worker rows = filter (λ row. row.1.0.to == worker) rows
 
 -- each wire joins two of so many workers
 abbrev pub AreWithin : ℕ → List Wire → Type 0
