@@ -296,7 +296,7 @@ keeps-frames p count h none = record {
   unshared = h.unshared;
 }
 
-no-switches : (p : Platform) (id : ℕ) → None ≡ root_fault p id → length p.switches ≡ 0
+pub no-switches : (p : Platform) (id : ℕ) → None ≡ root_fault p id → length p.switches ≡ 0
 unfolding root_fault
 no-switches p id none = eqb-true (length p.switches) 0 (not-false (length p.switches == 0) (or-second (not (id == id_of 1 0 0)) (not (length p.switches == 0)) (none-first _ _ _ none)))
 
@@ -332,6 +332,6 @@ pub kept : (p q : Platform) → p ≡ q → IsPlatform q → IsPlatform p
 kept p q e h = rw e h
 
 -- and if memory for the line was refused, nothing changed
-pub kept-either : {X : Type 0} (b : Bool) (old new items : List X) (f : List X → Platform) → items ≡ cond b new old → IsPlatform (f old) → IsPlatform (f new) → IsPlatform (f items)
-kept-either true old new items f e was is = rw e is
-kept-either false old new items f e was is = rw e was
+pub kept-either : {X : Type 0} (holds : Platform → Type 0) (b : Bool) (old new items : List X) (f : List X → Platform) → items ≡ cond b new old → holds (f old) → holds (f new) → holds (f items)
+kept-either holds true old new items f e was is = rw e is
+kept-either holds false old new items f e was is = rw e was

@@ -9,5 +9,6 @@ pub mod FrameOwners
 pub mod Alone
 pub mod Free
 pub mod Keeping
+pub mod Places
 pub mod Ranges
 pub mod Reached

@@ -1,6 +1,7 @@
 -- What a clause sees of a `Layout`.
 use Rattle.platform.specs.Platform.{Platform}
 use Rattle.layout.specs.Laws.{IsPlatform}
+use Rattle.layout.specs.Places.{IsWellPlaced}
 use Rattle.layout.specs.declared.layout.Layout.TheInside.{Inside}
 
 abbrev pub platform_of : Inside → Platform
@@ -16,3 +17,4 @@ platform_of s = record {
 
 pub record IsLayout (s : Inside) : Type 0 where
   pub platform : IsPlatform (platform_of s)
+  pub places : IsWellPlaced (platform_of s)

@@ -3,6 +3,7 @@ pub mod Additions
 pub mod Reading
 pub mod Views
 pub mod Laws
+pub mod Places
 pub mod Layouts
 pub mod Reach
 pub mod Tables

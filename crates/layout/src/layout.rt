@@ -35,6 +35,7 @@ impl Model for Layout {
 
 impl Layout {
     ghost use Rattle.layout.specs.Laws.{IsPlatform, is_good_budget};
+    ghost use Rattle.layout.specs.Places.{IsWellPlaced};
 
     /// The platform of no lines.
     pub(crate) fn empty(alloc: Global) -> Layout
@@ -62,6 +63,7 @@ impl Layout {
     pub fn switches(&self) -> &[Switch]
         ensures value { result.now ≡ self.now.switches }
         ensures laws { IsPlatform self.now }
+        ensures places { IsWellPlaced self.now }
     {
         &self.switches
     }
@@ -70,6 +72,7 @@ impl Layout {
     pub fn ports(&self) -> &[DownstreamPort]
         ensures value { result.now ≡ self.now.ports }
         ensures laws { IsPlatform self.now }
+        ensures places { IsWellPlaced self.now }
     {
         &self.ports
     }
@@ -78,6 +81,7 @@ impl Layout {
     pub fn functions(&self) -> &[EndpointFunction]
         ensures value { result.now ≡ self.now.functions }
         ensures laws { IsPlatform self.now }
+        ensures places { IsWellPlaced self.now }
     {
         &self.functions
     }

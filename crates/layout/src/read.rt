@@ -4,6 +4,7 @@ ghost use Rattle.std.specs.Prelude.{◌≡◌, IfOk};
 ghost use Rattle.text.specs.Text.{pieces};
 ghost use Rattle.platform.specs.Platform.{no_lines};
 ghost use Rattle.layout.specs.Laws.{IsPlatform};
+ghost use Rattle.layout.specs.Places.{IsWellPlaced};
 ghost use Rattle.layout.specs.Reading.{ended, read_from, reading, IsReading};
 
 use crate::layout::Layout;
@@ -16,6 +17,7 @@ use text::{cut, is_keyword};
 fn ended(layout: Layout, line: u32, rest: &[u8]) -> Result<Layout, LayoutFault>
     ensures value { result ≡ ended layout line rest.now }
     ensures laws { IfOk result (λ layout. IsPlatform layout) }
+    ensures places { IfOk result (λ layout. IsWellPlaced layout) }
 {
     if is_keyword(rest, "") && has_root(layout.switches()) {
         return Ok(layout);
@@ -27,6 +29,7 @@ fn ended(layout: Layout, line: u32, rest: &[u8]) -> Result<Layout, LayoutFault>
 fn read_lines(alloc: Global, text: &[u8]) -> Result<Layout, LayoutFault>
     ensures exact { IsReading (read_from no_lines 2 (pieces text.now)) result }
     ensures laws { IfOk result (λ layout. IsPlatform layout) }
+    ensures places { IfOk result (λ layout. IsWellPlaced layout) }
 {
     let mut layout = Layout::empty(alloc);
     let mut line: u32 = 2;
@@ -52,6 +55,7 @@ impl Layout {
     pub fn read(alloc: Global, text: &str) -> Result<Layout, LayoutFault>
         ensures exact { IsReading (reading text.now) result }
         ensures laws { IfOk result (λ layout. IsPlatform layout) }
+        ensures places { IfOk result (λ layout. IsWellPlaced layout) }
     {
         match cut(text.as_bytes(), b'\n') {
             Some(first) => {

@@ -2,11 +2,11 @@
 use Rattle.std.proofs.Common.{◌≡◌, ℕ, ◌==◌, List, map, length, get_or, sym, ap, ◌∙◌, subst}
 use Rattle.std.specs.List.{filter}
 use Rattle.layout.specs.Laws.{IsPlatform}
+use Rattle.layout.specs.Places.{IsWellPlaced}
 use Rattle.platform.specs.declared.parts.Switch.{Switch}
 use Rattle.platform.specs.Platform.{Platform}
 use Rattle.crew.specs.declared.worker_id.WorkerId.{WorkerId}
 use Rattle.topology.specs.Nodes.{outputs_of_switch}
-use Rattle.topology.specs.WellPlaced.{IsWellPlaced}
 use Rattle.wiring.specs.declared.wire.Wire.{Wire}
 use Rattle.wiring.specs.Names.{RingName}
 use Rattle.wiring.specs.Wired.{AreWithin, dealt, no_tags}

@@ -6,6 +6,7 @@ use Rattle.std.proofs.lemmas.List.Concat.{flat_map_single}
 use Rattle.std.proofs.lemmas.List.Sums.{list_all-from_AllPass}
 use Rattle.fab_types.specs.Id.{bus_of}
 use Rattle.layout.specs.Laws.{IsPlatform, are_apart, each_pair}
+use Rattle.layout.specs.Places.{IsWellPlaced, have_other_ids}
 use Rattle.layout.proofs.Bools.{and-both, and-first}
 use Rattle.platform.specs.declared.parts.DownstreamPort.{DownstreamPort}
 use Rattle.platform.specs.declared.parts.Switch.{Switch}
@@ -14,7 +15,6 @@ use Rattle.platform.specs.Tree.{internal_bus, is_on_bus}
 use Rattle.crew.specs.declared.worker_id.WorkerId.{WorkerId}
 use Rattle.crew.specs.declared.worker_id.WorkerId.TheVariants.{Port}
 use Rattle.topology.specs.Nodes.{ports_on}
-use Rattle.topology.specs.WellPlaced.{IsWellPlaced, have_other_ids}
 use Rattle.topology.proofs.Members.{cases_contained, kept_from, mapped_from, pairs_kept, pairs_mapped}
 use Rattle.topology.proofs.Standing.{ids_apart, switch_id}
 use Rattle.plan.specs.declared.route.Route.{Route}

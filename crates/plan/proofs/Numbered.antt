@@ -7,13 +7,13 @@ use Rattle.std.proofs.lemmas.List.{length-map}
 use Rattle.std.proofs.lemmas.List.Elements.{All-head, All-tail}
 use Rattle.std.proofs.lemmas.List.Sums.{length-filter}
 use Rattle.layout.specs.Laws.{IsPlatform}
+use Rattle.layout.specs.Places.{IsWellPlaced}
 use Rattle.platform.specs.declared.parts.Switch.{Switch}
 use Rattle.platform.specs.Platform.{Platform}
 use Rattle.platform.specs.Tree.{internal_bus, is_on_bus}
 use Rattle.crew.specs.declared.worker_id.WorkerId.{WorkerId}
 use Rattle.crew.specs.declared.worker_id.WorkerId.TheVariants.{Root}
 use Rattle.topology.specs.Nodes.{outputs_of_switch, ports_on}
-use Rattle.topology.specs.WellPlaced.{IsWellPlaced}
 use Rattle.wiring.specs.declared.wire.Wire.{Wire}
 use Rattle.plan.specs.declared.route.Route.{Route}
 use Rattle.plan.specs.Plans.{plan_of, route_of, routes_of, wire_between, wire_of, wires_from, wires_into, wires_of}

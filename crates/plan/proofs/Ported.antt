@@ -3,13 +3,13 @@ use Rattle.std.proofs.Common.{◌≡◌, ℕ, ◌+◌, ◌<◌, inr, true, List,
 use Rattle.std.specs.Prelude.{Contains}
 use Rattle.std.proofs.lemmas.List.{get_or_append_left, length-append, length-map}
 use Rattle.layout.specs.Laws.{IsPlatform, are_apart, each_pair}
+use Rattle.layout.specs.Places.{IsWellPlaced, have_other_ids}
 use Rattle.layout.proofs.Bools.{and-first}
 use Rattle.platform.specs.declared.parts.DownstreamPort.{DownstreamPort}
 use Rattle.platform.specs.declared.parts.Switch.{Switch}
 use Rattle.platform.specs.Platform.{Platform}
 use Rattle.crew.specs.declared.worker_id.WorkerId.{WorkerId}
 use Rattle.crew.specs.declared.worker_id.WorkerId.TheVariants.{Port, Root}
-use Rattle.topology.specs.WellPlaced.{IsWellPlaced, have_other_ids}
 use Rattle.topology.proofs.Members.{mapped_from, pair_at, pairs_appended, pairs_mapped, position_is}
 use Rattle.topology.proofs.Standing.{ids_apart}
 use Rattle.plan.specs.Workers.{downstream_worker, function_worker, number_of, same_worker, upstream_worker, workers_of}

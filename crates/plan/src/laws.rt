@@ -2,12 +2,12 @@
 
 ghost use Rattle.std.specs.Prelude.{◌≡◌, ◌+◌, ◌*◌, ◌<◌, ℕ, All, List, Some, length, map, slice_index_or};
 ghost use Rattle.layout.specs.Laws.{IsPlatform};
+ghost use Rattle.layout.specs.Places.{IsWellPlaced};
 ghost use Rattle.platform.specs.declared.parts.Switch.{Switch};
 ghost use Rattle.platform.specs.Platform.{Platform};
 ghost use Rattle.crew.specs.declared.worker_id.WorkerId.{WorkerId};
 ghost use Rattle.topology.specs.Links.{links_of};
 ghost use Rattle.topology.specs.Nodes.{outputs_of_switch};
-ghost use Rattle.topology.specs.WellPlaced.{IsWellPlaced};
 ghost use Rattle.wiring.specs.Names.{RingName};
 ghost use Rattle.wiring.specs.Wired.{dealt, no_tags};
 ghost use Rattle.wiring.specs.declared.wire.Wire.{Wire};

@@ -6,6 +6,7 @@ use Rattle.std.proofs.lemmas.List.Elements.{Contains-append_cases, Contains-appe
 use Rattle.platform.specs.declared.parts.DownstreamPort.{DownstreamPort}
 use Rattle.platform.specs.declared.parts.Switch.{Switch}
 use Rattle.layout.specs.Laws.{IsPlatform, are_apart, each_pair}
+use Rattle.layout.specs.Places.{IsWellPlaced, have_other_ids}
 use Rattle.platform.specs.Platform.{Platform}
 use Rattle.platform.specs.Tree.{port_above}
 use Rattle.layout.proofs.Bools.{and-first}
@@ -13,7 +14,6 @@ use Rattle.topology.specs.declared.places.PortPlace.{PortPlace}
 use Rattle.topology.specs.Links.{end_above}
 use Rattle.topology.specs.Nodes.{upstream_end}
 use Rattle.topology.specs.Places.{downstream_place, place_at, places_of, upstream_place}
-use Rattle.topology.specs.WellPlaced.{IsWellPlaced, have_other_ids}
 use Rattle.topology.proofs.Buses.{IsAbove, IsTop, one_below, switch_above}
 use Rattle.topology.proofs.Members.{found_alone, mapped, mapped_from, pair_at, pairs_appended, pairs_mapped, position_is}
 use Rattle.topology.proofs.OwnEnds.{one_id}

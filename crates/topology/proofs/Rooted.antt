@@ -8,11 +8,11 @@ use Rattle.fab_types.specs.declared.place.Way.TheVariants.{Up, Down}
 use Rattle.platform.specs.declared.parts.DownstreamPort.{DownstreamPort}
 use Rattle.platform.specs.declared.parts.Switch.{Switch}
 use Rattle.layout.specs.Laws.{IsPlatform}
+use Rattle.layout.specs.Places.{IsWellPlaced, is_top_first}
 use Rattle.platform.specs.Platform.{Platform}
 use Rattle.platform.specs.Tree.{has_root, port_at}
 use Rattle.topology.specs.Links.{end_above, link_at, link_of_switch, links_of, sender_of, sending_end}
 use Rattle.topology.specs.Nodes.{upstream_end, upstream_end_at}
-use Rattle.topology.specs.WellPlaced.{IsWellPlaced, is_top_first}
 use Rattle.topology.proofs.Buses.{IsAbove, IsTop, switch_above}
 use Rattle.topology.proofs.Members.{here, passing, position_is}
 use Rattle.topology.proofs.Standing.{link_found, link_of_listed}

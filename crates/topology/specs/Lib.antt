@@ -3,4 +3,3 @@ pub mod Links
 pub mod Places
 pub mod FirstIndexes
 pub mod Topologies
-pub mod WellPlaced

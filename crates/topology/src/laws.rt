@@ -10,6 +10,7 @@ ghost use Rattle.platform.specs.declared.parts.EndpointFunction.{EndpointFunctio
 ghost use Rattle.platform.specs.declared.parts.DownstreamPort.{DownstreamPort};
 ghost use Rattle.platform.specs.declared.parts.Switch.{Switch};
 ghost use Rattle.layout.specs.Laws.{IsPlatform};
+ghost use Rattle.layout.specs.Places.{IsWellPlaced};
 ghost use Rattle.platform.specs.Platform.{Platform};
 ghost use Rattle.platform.specs.Tree.{has_root, id_below, internal_bus, is_taken};
 ghost use Rattle.topology.specs.declared.links.Link.{Link};
@@ -18,7 +19,6 @@ ghost use Rattle.topology.specs.declared.places.PortPlace.{PortPlace};
 ghost use Rattle.topology.specs.Links.{link_at, links_of, sending_end, sender_of};
 ghost use Rattle.topology.specs.Nodes.{downstream_end, ports_on, upstream_end};
 ghost use Rattle.topology.specs.Places.{downstream_place, place_at, places_of, upstream_place};
-ghost use Rattle.topology.specs.WellPlaced.{IsWellPlaced};
 
 /// Each link of a platform is the one of its lower ID, and no two directions are sent from one end.
 pub fn links_have_ends_of_their_own()
