@@ -8,7 +8,9 @@ pub mod EndLemmas
 pub mod AlienLemmas
 pub mod Replaying
 pub mod Leaving
+pub mod CompletionsRead
 pub mod PortAnswers
+pub mod PortHeaders
 pub mod Joining
 pub mod Consuming
 pub mod ConsumedInOrder

@@ -1,5 +1,5 @@
 -- What answers a packet at a port is a completion.
-use Rattle.std.proofs.Common.{◌≡◌, ℕ, Bool, true, false, cond, List, [], Option, Some, None, refl, ap, subst, arith}
+use Rattle.std.proofs.Common.{◌≡◌, ℕ, Bool, true, false, cond, List, Option, Some, None, ap, subst}
 use Rattle.std.specs.Option.{IfSome}
 use Rattle.fab_types.specs.declared.class.Class.TheVariants.{Completion}
 use Rattle.fab_types.specs.declared.faults.malformed.Malformed.{Malformed}
@@ -9,14 +9,12 @@ use Rattle.fab_types.specs.declared.place.Place.{Place}
 use Rattle.fab_types.specs.declared.status.Status.{Status}
 use Rattle.platform.specs.declared.parts.DownstreamPort.{DownstreamPort}
 use Rattle.platform.specs.Share.{Share}
-use Rattle.tlp_view.specs.declared.completion.CompletionHead.{CompletionHead}
 use Rattle.tlp_view.specs.Bytes.{packet_of}
 use Rattle.tlp_view.specs.Completions.{completion_bytes, refusal}
 use Rattle.tlp_view.specs.Costs.{cost_of, cost_unless}
 use Rattle.tlp_view.specs.Kinds.{kind_at}
 use Rattle.tlp_view.specs.Malformed.{malformed}
 use Rattle.tlp_view.specs.Packet.{Packet}
-use Rattle.tlp_view.proofs.Completed.{completion_well_formed}
 use Rattle.request_handling.specs.declared.fate.Fate.{Fate}
 use Rattle.request_handling.specs.declared.fate.Fate.TheVariants.{Vanish, Refused, ToHost}
 use Rattle.domain.specs.declared.receive.Reception.{Reception}
@@ -31,24 +29,14 @@ use Rattle.request_handling.specs.Fates.{fate_at}
 use Rattle.request_handling.specs.Emissions.{Emission}
 use Rattle.domain_parts.specs.State.{Alone, Change}
 use Rattle.request_handling.specs.Takers.{is_at_port, is_port, taker_of}
+use Rattle.domain.proofs.CompletionsRead.{refusal_well}
 
 some_is : {A : Type 0} (x y : A) → Some x ≡ Some y → x ≡ y
 some_is x y e = cc
 
 pub answer_class : (completer : ℕ) (status : Status) (t : Packet) → (cost_of (completion_bytes (refusal completer status t))).class ≡ Completion
 unfolding kind_at
-answer_class completer status t =
-    let head : CompletionHead = record {
-      completer = completer;
-      status = status;
-      byte_count = 4;
-      requester = t.requester;
-      tag = t.tag;
-      lower_address = 0;
-      attributes = t.attributes;
-    } in
-    let fine : malformed (completion_bytes (refusal completer status t)) ≡ None = completion_well_formed head [] (record { byte_count = omega arith; lower_address = omega arith }) 0 (omega arith) refl in
-    ap (λ (m : Option Malformed). (cost_unless m (completion_bytes (refusal completer status t))).class) fine
+answer_class completer status t = ap (λ (m : Option Malformed). (cost_unless m (completion_bytes (refusal completer status t))).class) (refusal_well completer status t)
 
 abbrev pub IsReply : Option Emission → Type 0
 IsReply reply = IfSome reply (λ e. (cost_of e.bytes).class ≡ Completion)

@@ -1,6 +1,7 @@
 //! The end of a packet: at its sender's first port, at its completer, or at the one that it answers.
 
-ghost use Rattle.std.specs.Prelude.{◌≡◌, Some, None, IfOk, IfErr, OnErr, OnOk, option_map};
+ghost use Rattle.std.specs.Prelude.{◌≡◌, Some, None, IfOk, IfErr, IfSome, OnErr, OnOk, option_map};
+ghost use Rattle.frame_log.specs.Descriptor.{IsCompletion};
 ghost use Rattle.domain_parts.specs.Ends.{conclude};
 
 use crate::deliver::Record;
@@ -144,6 +145,7 @@ impl Domain {
         port: PortId,
     ) -> Result<Option<Frame>, FrameFault>
         ensures ok { IfOk result (λ sent. (frame.domain ≡ (self.old.share).domain) × Makes self.old (Refuse frame.number) self.new sent) }
+        ensures reply { IfOk result (λ sent. IfSome sent IsCompletion) }
         ensures fault { IfErr result (λ fault. IsRefused self.old (Refuse frame.number) frame fault) }
         ensures err { OnErr result (self.new ≡ self.old) }
     {

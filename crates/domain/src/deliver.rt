@@ -4,6 +4,7 @@ ghost use Rattle.std.specs.Prelude.{◌≡◌, ◌≤◌, length, None};
 ghost use Rattle.tlp_view.specs.Malformed.{malformed};
 ghost use Rattle.domain.specs.Deliveries.{arrival_at, arrival_for, delivery_of, is_awaited, is_port};
 
+use crate::copies::copied;
 use arrayvec::ArrayVec;
 use fab_types::{Answerer, Origin, Status};
 use function::{OpenTag, is_open};
@@ -75,17 +76,6 @@ impl Record {
             bytes: copied(self.bytes.as_slice()),
         }
     }
-}
-
-fn copied(bytes: &[u8]) -> ArrayVec<u8, 272>
-    requires { length bytes.now ≤ 272 }
-    ensures { result.items ≡ bytes.now }
-{
-    let mut copy = ArrayVec::new();
-    if copy.try_extend_from_slice(bytes).is_err() {
-        unreachable!();
-    }
-    copy
 }
 
 /// A completion that is to be delivered, and whether its addressee waits for it.

@@ -5,6 +5,7 @@ mod alien;
 mod begin;
 mod conclude;
 mod consume;
+mod copies;
 mod deliver;
 mod domain;
 mod entry;
@@ -20,6 +21,7 @@ mod taker;
 mod tick;
 
 pub use consume::EntryFault;
+pub use copies::copied;
 pub use deliver::Record;
 pub use domain::Domain;
 pub use domain_parts::Counts;

@@ -8,8 +8,7 @@ ghost use Rattle.domains.specs.Indexes.{place_of_origin};
 ghost use Rattle.domains.specs.Domains.{made_at};
 
 use crate::places::place_of;
-use arrayvec::ArrayVec;
-use domain::Domain;
+use domain::{Domain, copied};
 use fab_types::{DomainId, Parties, Place};
 use frame_log::{Frame, FrameFault};
 use std::sync::Wait;
@@ -21,18 +20,6 @@ fn flown(domains: &[Domain], domain: DomainId, number: u64) -> Option<&[u8]>
 {
     let home = place_of(domains, domain)?;
     domains[home].bytes(number)
-}
-
-/// A copy of the bytes, for their home may be the domain that changes.
-fn copied(bytes: &[u8]) -> ArrayVec<u8, 272>
-    requires { length bytes.now ≤ 272 }
-    ensures { result.items ≡ bytes.now }
-{
-    let mut copy = ArrayVec::new();
-    if copy.try_extend_from_slice(bytes).is_err() {
-        unreachable!();
-    }
-    copy
 }
 
 /// The domain at this place of the list gets a packet of these bytes.
@@ -78,6 +65,7 @@ pub(crate) fn alien_at<R: Wait>(
     let Some(bytes) = flown(domains, frame.domain(), frame.number()) else {
         return Err(FrameFault::Stray(frame));
     };
+    // a copy, for their home may be the domain that changes
     let bytes = copied(bytes);
     taken_at(rt, domains, at, place, frame, bytes.as_slice())
 }

@@ -6,6 +6,7 @@ ghost use Rattle.std.specs.Result.{IsOkUnless};
 ghost use Rattle.fab_types.specs.declared.faults.begin.SubmitFault.{SubmitFault};
 ghost use Rattle.fab_types.specs.declared.faults.begin.TickFault.{TickFault};
 ghost use Rattle.fab_types.specs.declared.faults.begin.MmioFault.{MmioFault};
+ghost use Rattle.frame_log.specs.Descriptor.{IsCompletion};
 ghost use Rattle.domains.specs.Aliens.{IsUntaken, aliened, answers, owner_of_frame};
 ghost use Rattle.domains.specs.Domains.{Emits, IsGivenBack, IsHome, IsStray, delivered, domain_at, made, made_at, mmio_refusal, place_of, place_of_function, submit_refusal, starting_domains, tick_refusal};
 
@@ -166,6 +167,7 @@ impl Domains {
         port: PortId,
     ) -> Result<Option<Frame>, FrameFault>
         ensures ok { IfOk result (λ sent. made self.old frame.domain (Refuse frame.number) ≡ Some (record { domains = self.new; sent = sent })) }
+        ensures reply { IfOk result (λ sent. IfSome sent IsCompletion) }
         ensures fault { IfErr result (λ fault. IsGivenBack (made self.old frame.domain (Refuse frame.number)) frame fault) }
         ensures stray { made self.old frame.domain (Refuse frame.number) ≡ None → result ≡ Err (FrameFault.Stray frame) }
         ensures err { OnErr result (self.new ≡ self.old) }

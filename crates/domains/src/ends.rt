@@ -1,7 +1,8 @@
 //! Ends of packets of the domain at a place.
 
-ghost use Rattle.std.specs.Prelude.{◌≡◌, ◌<◌, IfErr, IfOk, None, OnErr, OnOk, Some, length, slice_get};
+ghost use Rattle.std.specs.Prelude.{◌≡◌, ◌<◌, IfErr, IfOk, IfSome, None, OnErr, OnOk, Some, length, slice_get};
 ghost use Rattle.fab_types.specs.declared.origin.Origin.{Origin};
+ghost use Rattle.frame_log.specs.Descriptor.{IsCompletion};
 ghost use Rattle.domain.specs.declared.entry.Entry.TheVariants.{Carry, Deliver, Refuse};
 ghost use Rattle.domains.specs.Indexes.{place_of_origin};
 ghost use Rattle.domains.specs.Domains.{IsGivenBack, IsHome, IsStray, made_at, record_by};
@@ -22,6 +23,7 @@ pub(crate) fn refuse_at<R: Wait>(
     requires within { place < length domains.old }
     requires home { IsHome domains.old place frame.domain }
     ensures ok { IfOk result (λ sent. made_at domains.old (Refuse frame.number) (Some place) ≡ Some (record { domains = domains.new; sent = sent })) }
+    ensures reply { IfOk result (λ sent. IfSome sent IsCompletion) }
     ensures fault { IfErr result (λ fault. IsGivenBack (made_at domains.old (Refuse frame.number) (Some place)) frame fault) }
     ensures err { OnErr result (domains.new ≡ domains.old) }
     ensures places { (origin : Origin) → place_of_origin domains.new origin ≡ place_of_origin domains.old origin }

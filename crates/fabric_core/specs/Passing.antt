@@ -10,7 +10,7 @@ use Rattle.link.specs.Channels.{Channel, is_full}
 use Rattle.port.specs.Configs.{Config}
 use Rattle.port.specs.Courses.{course_of}
 use Rattle.port.specs.Turns.{PortView}
-use Rattle.port.specs.Vetted.{may_go_on, requester_owner}
+use Rattle.vetted.specs.Vetted.{may_go_on}
 use Rattle.port.specs.declared.course.Forwarding.{Forwarding}
 use Rattle.port.specs.declared.course.Forwarding.TheVariants.{To, Stop, NoCase}
 use Rattle.domains.specs.Domains.{Made, made}
@@ -55,14 +55,11 @@ strayed w site t = record {
   strays = w.strays;
 }
 
-abbrev pub may_pass : World → Site → Descriptor → Bool
-may_pass w site frame = may_go_on site.config.is_guarded (requester_owner w.routes.ports frame.head.header) frame
-
 -- it goes on in an output, if that has a place for it
 abbrev pub forwarded : World → Site → Class → ℕ → Taken → Option World
 forwarded w site class output t =
     if is_full_at w site output class then None
-    else (if may_pass w site t.frame then Some (with_channels w (put_at t.channels (output_end site output) t.frame))
+    else (if may_go_on w.routes.ports t.frame then Some (with_channels w (put_at t.channels (output_end site output) t.frame))
     else Some (strayed w site t))
 
 -- ---- stopped

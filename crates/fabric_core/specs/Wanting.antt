@@ -13,7 +13,8 @@ use Rattle.interconnect.specs.Passes.{index_of, no_place}
 use Rattle.fabric_core.specs.declared.event.Event.{Event}
 use Rattle.fabric_core.specs.declared.event.Event.TheVariants.{Submit, Tick, Mmio, Enter, Pass, Send, Take, Credit, Root, Arrive}
 use Rattle.fabric_core.specs.Receipts.{Receipt, Relay, Carry, Deliver, Nobody, Taken, receipt_at_function, receipt_at_host, taken, taken_at, to_function, to_host}
-use Rattle.fabric_core.specs.Passing.{Site, may_pass, site_at}
+use Rattle.vetted.specs.Vetted.{may_go_on}
+use Rattle.fabric_core.specs.Passing.{Site, site_at}
 use Rattle.fabric_core.specs.Settling.{EntryWants, entry_by_function, entry_by_host}
 use Rattle.fabric_core.specs.World.{World}
 
@@ -25,7 +26,7 @@ OfTaken wants (Some t) = wants t
 -- ---- at a port: for an answer, for a report, or for a packet that is kept
 
 abbrev pub CourseWants : World → Site → Taken → Forwarding → Type 0
-CourseWants w site t (To output) = may_pass w site t.frame ≡ false
+CourseWants w site t (To output) = may_go_on w.routes.ports t.frame ≡ false
 CourseWants w site t (Stop None) = EntryWants (made w.agents.domains t.frame.domain (entry.Refuse t.frame.number))
 CourseWants w site t (Stop (Some report)) = ⊤
 CourseWants w site t NoCase = ⊤

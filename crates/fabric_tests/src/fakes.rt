@@ -10,6 +10,7 @@ use frame_log::{Frame, FrameFault};
 use lane::{FrameQueue, LaneOut};
 use port::{Desk, Reporter, Reports};
 use std::sync::Wait;
+use vetted::VettedFrame;
 
 /// A desk with one domain.
 #[derive(Drop)]
@@ -63,21 +64,16 @@ impl LaneOut for Giving {
         false
     }
 
-    fn push(&mut self, frame: Frame) -> Result<(), Frame> {
-        if self.left == 0 {
+    fn push(&mut self, packet: VettedFrame) -> Result<(), VettedFrame> {
+        if self.left == 0 || self.queue.has_no_place(packet.frame().head().cost.class) {
             self.refused = self.refused.wrapping_add(1);
-            return Err(frame);
+            return Err(packet);
         }
-        match self.queue.push(frame) {
-            Ok(()) => {
-                self.left -= 1;
-                Ok(())
-            }
-            Err(frame) => {
-                self.refused = self.refused.wrapping_add(1);
-                Err(frame)
-            }
+        if self.queue.put(packet.into_frame()).is_err() {
+            unreachable!();
         }
+        self.left -= 1;
+        Ok(())
     }
 }
 

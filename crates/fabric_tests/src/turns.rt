@@ -6,7 +6,7 @@ use bridge::Bridge;
 use fab_types::Class::{Completion, NonPosted, Posted};
 use fab_types::{Bdf, Class, Outcome, PortId};
 use frame_log::Frame;
-use lane::{FrameQueue, LaneIn, LaneOut};
+use lane::{FrameQueue, LaneIn};
 use layout::Layout;
 use layout_tests::EXAMPLE;
 use port::{Port, Reports, TurnParts};
@@ -70,7 +70,7 @@ impl Scene {
     /// A function submits the packet of these bytes, which comes into the port.
     fn submit<R: Wait>(&mut self, rt: &R, function: u16, word: &str) -> bool {
         match self.submitted(rt, function, word) {
-            Some(frame) => self.input.push(frame).is_ok(),
+            Some(frame) => self.input.put(frame).is_ok(),
             None => false,
         }
     }

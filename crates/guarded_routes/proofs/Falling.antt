@@ -17,7 +17,7 @@ use Rattle.bridge.specs.Routes.{holder_on, holds_target, switch_at as switch_by,
 use Rattle.port.specs.declared.course.Forwarding.TheVariants.{To}
 use Rattle.port.specs.Configs.{exits_of, upstream_config, lane_to}
 use Rattle.port.specs.Courses.{course_of}
-use Rattle.port.specs.Vetted.{may_go_on, requester_owner}
+use Rattle.vetted.specs.Vetted.{is_own, requester_owner}
 use Rattle.guarded_routes.specs.Guarded.{IsFunctionOf, IsGuarded, holds_if_any}
 use Rattle.guarded_routes.specs.Sound.{Falling, IsMeantFor}
 use Rattle.guarded_routes.specs.Ways.{GoesOn, PassesDown, down_from}
@@ -42,7 +42,7 @@ held_target p (Some q) f (Some x) e h = record { x = x; is = refl; held = subst 
 
 module _ (platform : Platform) (g : IsGuarded platform) where
   -- what falls may go on
-  pub owned : (d f : ℕ) (frame : Descriptor) (h : Header) → frame.domain ≡ d → frame.head.header ≡ h → IsFunctionOf platform d f → IsMeantFor platform d f frame.head.parties h → may_go_on true (requester_owner platform.ports frame.head.header) frame ≡ true
+  pub owned : (d f : ℕ) (frame : Descriptor) (h : Header) → frame.domain ≡ d → frame.head.header ≡ h → IsFunctionOf platform d f → IsMeantFor platform d f frame.head.parties h → is_own (requester_owner platform.ports frame.head.header) frame ≡ true
   owned d f frame header.Malformed home same own meant = absurd meant
   owned d f frame (header.OtherRequest requester) home same own meant = absurd meant
   owned d f frame (header.Memory requester address_type address) home same own meant = owned_memory platform g frame (header.Memory requester address_type address) requester address address_type refl same (reached_owner platform g d f requester meant.1 own meant.2 ∙ ap some (sym home))

@@ -59,7 +59,8 @@ use Rattle.guarded_routes.proofs.Nodes.{At}
 use Rattle.guarded_routes.proofs.Passing.{below, first_port_of, holds_first, reply_falls}
 use Rattle.guarded_routes.proofs.Reaching.{reach_is}
 use Rattle.guarded_routes.proofs.Taking.{home_at, meant_at}
-use Rattle.guarded_routes.proofs.Spelled.{completion_read, refusal_read, request_read}
+use Rattle.domain.proofs.CompletionsRead.{refusal_read}
+use Rattle.guarded_routes.proofs.Spelled.{completion_read, request_read}
 
 -- what an ending makes it replies with
 pub replied_with : {A : Type 0} (f : A → Change) (r : A → Option Emission) (o : Option A) (c : Change) (e : Emission) → ((a : A) → (f a).emission ≡ r a) → option_map f o ≡ Some c → c.emission ≡ Some e → option_and_then r o ≡ Some e

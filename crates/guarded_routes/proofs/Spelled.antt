@@ -1,7 +1,7 @@
 -- The header of a packet that a domain makes, as it is read from the packet's bytes.
 use Rattle.std.proofs.Common.{◌≡◌, ℕ, ◌+◌, ◌*◌, ◌/◌, ◌%◌, ◌^◌, ◌<◌, Bool, true, false, cond, List, Option, Some, None, refl, sym, ap, ◌∙◌, arith, nat_lt}
 use Rattle.std.specs.Option.{unwrap_or}
-use Rattle.std.proofs.lemmas.Bool.{cond-true, cond-false, ltb-true, false≢true}
+use Rattle.std.proofs.lemmas.Bool.{cond-false, ltb-true, false≢true}
 use Rattle.std.proofs.lemmas.Nat.{from_be_bytes-to_be_bytes_4, from_be_bytes-to_be_bytes_8}
 use Rattle.fab_types.specs.declared.faults.malformed.Malformed.{Malformed}
 use Rattle.fab_types.specs.declared.head.AddressType.{AddressType}
@@ -12,9 +12,9 @@ use Rattle.fab_types.specs.declared.status.Status.TheVariants.{SC}
 use Rattle.tlp_view.specs.declared.attributes.Attributes.{Attributes}
 use Rattle.tlp_view.specs.declared.enables.Enables.{Enables}
 use Rattle.tlp_view.specs.declared.kind.Kind.{Kind}
-use Rattle.tlp_view.specs.declared.kind.Kind.TheVariants.{MRd, MWr, Cpl, CplD}
+use Rattle.tlp_view.specs.declared.kind.Kind.TheVariants.{MRd, MWr, CplD}
 use Rattle.tlp_view.specs.Bytes.{address_at, packet_of, packet_of_kind, be_u16_at}
-use Rattle.tlp_view.specs.Completions.{completion_bytes, data_body, read_completion, refusal}
+use Rattle.tlp_view.specs.Completions.{completion_bytes, data_body, read_completion}
 use Rattle.tlp_view.specs.Kinds.{has_form, is_completion, is_memory}
 use Rattle.tlp_view.specs.Malformed.{malformed}
 use Rattle.tlp_view.specs.Packet.{Body, Memory, Completion, Packet, address_in, dw_count, enables_in}
@@ -22,25 +22,16 @@ use Rattle.tlp_view.specs.Requests.{is_high, packet_bytes}
 use Rattle.tlp_view.proofs.Again.{address_narrow, address_wide, body_memory}
 use Rattle.tlp_view.proofs.KindFacts.{kind_again, memory_no_completion, wide_again}
 use Rattle.request_handling.specs.Heads.{header_unless, packet_header, target_for}
+use Rattle.domain.proofs.CompletionsRead.{read, reply_read, word_again}
 use Rattle.guarded_routes.specs.Sound.{is_reply}
-
-word_again : (n : ℕ) → n / 256 * 256 + n % 256 ≡ n
-word_again n = omega arith
 
 form_memory : (kind : Kind) (wide : Bool) → is_memory kind ≡ true → has_form kind wide ≡ true
 form_memory MRd wide e = refl
 form_memory MWr wide e = refl
 form_memory _ wide e = absurd cc
 
--- what is read, where the bytes are of this kind and well formed
-read : (p : Parties) (bytes : List ℕ) (q : Packet) → malformed bytes ≡ None → packet_of bytes ≡ q → header_unless (malformed bytes) p bytes ≡ packet_header p q
-read p bytes q well is = ap (λ (m : Option Malformed). header_unless m p bytes) well ∙ ap (packet_header p) is
-
 memory_header : (p : Parties) (q : Packet) → is_completion q.kind ≡ false → is_memory q.kind ≡ true → packet_header p q ≡ header.Memory q.requester q.address_type (unwrap_or (address_in q.body) 0)
 memory_header p q other memory = rw (other, memory) refl
-
-reply_header : (p : Parties) (q : Packet) → is_completion q.kind ≡ true → packet_header p q ≡ header.Completion (target_for p q.requester) q.attributes.relaxed_ordering
-reply_header p q is = rw is refl
 
 -- ---- requests
 
@@ -94,21 +85,7 @@ abbrev pub reply : Kind → Attributes → AddressType → ℕ → ℕ → ℕ �
 reply kind attributes at length requester tag completer status count lower payload =
     record { kind = kind; has_4dw_header = false; attributes = attributes; address_type = at; length = length; requester = requester; tag = tag; body = Completion completer status count lower; payload = payload }
 
-reply_read : (kind : Kind) (p : Parties) (bytes : List ℕ) (requester : ℕ) → is_completion kind ≡ true → packet_of bytes ≡ packet_of_kind kind bytes → be_u16_at bytes 8 ≡ requester → malformed bytes ≡ None
-    → (relaxed_ordering : Bool) × (header_unless (malformed bytes) p bytes ≡ header.Completion (target_for p requester) relaxed_ordering)
-reply_read kind p bytes requester is same word well =
-    let q = packet_of_kind kind bytes in
-    let requester_is : q.requester ≡ requester = cond-true (is_completion kind) (be_u16_at bytes 8) (be_u16_at bytes 4) is ∙ word in
-    (q.attributes.relaxed_ordering, read p bytes q well same ∙ (reply_header p q is ∙ ap (λ (r : ℕ). header.Completion (target_for p r) q.attributes.relaxed_ordering) requester_is))
-
--- a refusal keeps the Requester ID of what it answers
-pub refusal_read : (p : Parties) (completer : ℕ) (status : Status) (t : Packet) → malformed (completion_bytes (refusal completer status t)) ≡ None
-    → (relaxed_ordering : Bool) × (header_unless (malformed (completion_bytes (refusal completer status t))) p (completion_bytes (refusal completer status t)) ≡ header.Completion (target_for p t.requester) relaxed_ordering)
-refusal_read p completer status t well =
-    let bytes = completion_bytes (refusal completer status t) in
-    reply_read Cpl p bytes t.requester refl (ap (λ (k : Option Kind). packet_of_kind (unwrap_or k MRd) bytes) (kind_again Cpl false 0 refl (omega arith))) (word_again t.requester) well
-
--- so does a completion with data
+-- a completion with data keeps the Requester ID of what it answers
 data_is : (completer count : ℕ) (enables : Option Enables) (address : Option ℕ) → (bytes lower : ℕ) × (data_body completer count enables address ≡ Completion completer SC bytes lower)
 data_is completer count (Some enables) (Some address) = (_, _, refl)
 data_is completer count None address = (_, _, refl)

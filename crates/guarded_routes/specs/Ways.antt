@@ -13,7 +13,7 @@ use Rattle.platform.specs.declared.parts.Switch.{Switch}
 use Rattle.platform.specs.Platform.{Platform}
 use Rattle.platform.specs.Tree.{id_below, internal_bus, switch_on}
 use Rattle.topology.specs.Nodes.{ports_on}
-use Rattle.port.specs.Vetted.{may_go_on, requester_owner}
+use Rattle.vetted.specs.Vetted.{is_own, requester_owner}
 use Rattle.port.specs.declared.course.Forwarding.{Forwarding}
 use Rattle.port.specs.declared.course.Forwarding.TheVariants.{To, Stop, NoCase}
 use Rattle.guarded_routes.specs.Sound.{IsSound}
@@ -35,7 +35,7 @@ pub record GoesOn (platform : Platform) (switch : Switch) (frame : Descriptor) (
   pub direction : Direction
   pub leads : direction_out platform switch output ≡ Some direction
   pub sound : IsSound platform direction frame
-  pub owned : may_go_on true (requester_owner platform.ports frame.head.header) frame ≡ true
+  pub owned : is_own (requester_owner platform.ports frame.head.header) frame ≡ true
 
 -- only a completion with Relaxed Ordering may go to another port of the switch
 abbrev pub IsRelaxed : Header → Type 0

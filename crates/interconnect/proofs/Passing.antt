@@ -5,13 +5,13 @@ use Rattle.fab_types.specs.declared.outcome.Outcome.{Outcome}
 use Rattle.fab_types.specs.declared.violation.Violation.{Violation}
 use Rattle.frame_log.specs.Descriptor.{Descriptor}
 use Rattle.bridge.specs.Bridges.{Routes}
-use Rattle.link.specs.Channels.{Channel}
+use Rattle.link.specs.Channels.{Channel, with_egress}
 use Rattle.link.specs.Simplexes.{SimplexView, channel}
 use Rattle.lane.specs.Lanes.{Class}
 use Rattle.port.specs.Turns.{PortView, sight_with}
 use Rattle.topology.specs.declared.nodes.LinkEnd.{LinkEnd}
 use Rattle.topology.specs.Topologies.{IsEnd}
-use Rattle.interconnect.specs.Moves.{channel_at, left_at, with_egress}
+use Rattle.interconnect.specs.Moves.{channel_at, left_at}
 use Rattle.interconnect.specs.Passes.{NodesTurned, Turned, before, egress_of, may_refuse_of, passed_over, received_by, refused_by, sent_by, sight_at, with_sent}
 use Rattle.interconnect.specs.Views.{channels_of}
 use Rattle.interconnect.proofs.Reaching.{Reached, at_receiver, at_sender, channel_is, left, many, never, same_lengths, with_output}

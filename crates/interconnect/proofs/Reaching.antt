@@ -6,13 +6,13 @@ use Rattle.std.specs.Result.{MatchResult, is_err}
 use Rattle.std.proofs.lemmas.List.{map-set, get_or-map, get_or-set_same, get_or_default, get_or_read, set-get_or, length-map, length-set}
 use Rattle.credit.specs.Limits.{zero_counters}
 use Rattle.frame_log.specs.Descriptor.{Descriptor}
-use Rattle.link.specs.Channels.{Channel}
+use Rattle.link.specs.Channels.{Channel, with_egress}
 use Rattle.link.specs.Simplexes.{Before, Behind, SimplexView, channel, simplex_restored}
 use Rattle.lane.specs.Lanes.{Class, eligible}
 use Rattle.lane.specs.Queues.{frames_of}
 use Rattle.topology.specs.declared.nodes.LinkEnd.{LinkEnd}
 use Rattle.topology.specs.Topologies.{IsEnd}
-use Rattle.interconnect.specs.Moves.{channel_at, left_at, no_channel, on_channel, put_at, with_channel, with_egress, with_ingress}
+use Rattle.interconnect.specs.Moves.{channel_at, left_at, no_channel, on_channel, put_at, with_channel, with_ingress}
 use Rattle.interconnect.specs.Passes.{before, behind}
 use Rattle.interconnect.specs.Views.{channels_of, simplex_at, unused}
 
@@ -135,8 +135,3 @@ module _ (nodes : List (List SimplexView)) (end : LinkEnd) (node : List SimplexV
   restored frame s same h waiting e =
       let there : ◌≡◌ {A = Option (List Descriptor)} (Some (channel s).ingress) (Some waiting) = sym h ∙ (ap (λ (x : SimplexView). simplex_restored x frame) (sym simplex_was) ∙ e) in
       left s waiting (at_receiver output s waiting same cc)
-
--- a call that gave nothing back did what it does
-pub given : {T E : Type 0} (result : Result T E) (P : Type 0) (Q : E → Type 0) → is_err result ≡ false → MatchResult result (λ _. P) Q → P
-given (Ok x) P Q e h = h
-given (Err x) P Q e h = absurd cc

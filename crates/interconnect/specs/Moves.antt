@@ -2,7 +2,7 @@
 use Rattle.std.specs.Prelude.{List, [], ◌∷◌, ◌++◌, slice_index_or, slice_set, Option, Some, None, option_map}
 use Rattle.credit.specs.Limits.{zero_counters}
 use Rattle.frame_log.specs.Descriptor.{Descriptor}
-use Rattle.link.specs.Channels.{Channel}
+use Rattle.link.specs.Channels.{Channel, with_egress}
 use Rattle.topology.specs.declared.nodes.LinkEnd.{LinkEnd}
 
 abbrev pub no_channel : Channel
@@ -19,9 +19,6 @@ with_channel nodes end c = slice_set nodes end.node (slice_set (slice_index_or n
 abbrev pub on_channel : List (List Channel) → Option LinkEnd → (Channel → Option Channel) → Option (List (List Channel))
 on_channel nodes None step = None
 on_channel nodes (Some end) step = option_map (with_channel nodes end) (step (channel_at nodes end))
-
-abbrev pub with_egress : Channel → List Descriptor → Channel
-with_egress c egress = record { start = c.start; left = c.left; egress = egress; wire = c.wire; ingress = c.ingress }
 
 abbrev pub with_ingress : Channel → List Descriptor → Channel
 with_ingress c ingress = record { start = c.start; left = c.left; egress = c.egress; wire = c.wire; ingress = ingress }

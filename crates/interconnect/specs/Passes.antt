@@ -7,7 +7,7 @@ use Rattle.fab_types.specs.declared.outcome.Outcome.TheVariants.{Idle, Moved, No
 use Rattle.fab_types.specs.declared.violation.Violation.{Violation}
 use Rattle.frame_log.specs.Descriptor.{Descriptor}
 use Rattle.bridge.specs.Bridges.{Routes}
-use Rattle.link.specs.Channels.{Channel, is_full}
+use Rattle.link.specs.Channels.{Channel, is_full, with_egress}
 use Rattle.link.specs.Simplexes.{Before, Behind, SimplexView, channel}
 use Rattle.port.specs.Blocked.{is_blocked, may_refuse_at}
 use Rattle.lane.specs.Lanes.{Class, class_of}
@@ -18,7 +18,7 @@ use Rattle.port.specs.Wants.{WantsMemory}
 use Rattle.topology.specs.declared.nodes.LinkEnd.{LinkEnd}
 use Rattle.topology.specs.declared.places.PortPlace.{PortPlace}
 use Rattle.interconnect.specs.Views.{InterconnectView, IsSameRest, channels}
-use Rattle.interconnect.specs.Moves.{channel_at, left_at, with_egress}
+use Rattle.interconnect.specs.Moves.{channel_at, left_at}
 
 -- all but what waits at the receiver
 abbrev pub behind : SimplexView → Behind
@@ -90,7 +90,7 @@ passed_over nodes node input waiting outs = left_at (slice_set nodes node (with_
 -- ---- the port of an ID
 
 abbrev pub no_port : PortView
-no_port = record { config = record { id = 0; line = None; exits = []; own = 0; is_guarded = false }; held = None; kept = None; strays = [] }
+no_port = record { config = record { id = 0; line = None; exits = []; own = 0 }; held = None; kept = None; strays = [] }
 
 abbrev pub port_at : InterconnectView → ℕ → PortView
 port_at h i = slice_index_or h.ports i no_port

@@ -156,7 +156,5 @@ pub(crate) fn put_at(nodes: &mut [Node], end: LinkEnd, frame: Frame)
     ensures outputs { map length nodes.new ≡ map length nodes.old }
 {
     let node = &mut nodes[end.node];
-    if node.outputs[end.output].push(frame).is_err() {
-        unreachable!();
-    }
+    node.outputs[end.output].put(frame);
 }

@@ -7,6 +7,7 @@ ghost use Rattle.lane.specs.Lanes.{Class, class_of, eligible};
 
 use fab_types::{Class, Head};
 use frame_log::Frame;
+use vetted::VettedFrame;
 
 /// A place that packets are taken from.
 pub trait LaneIn {
@@ -49,7 +50,7 @@ pub trait LaneIn {
         ensures counted { misses self.new ≡ misses self.old };
 }
 
-/// A place that packets are put into.
+/// A place that a port puts packets into, which passed its tests.
 pub trait LaneOut {
     /// What tells one lane from another.
     ghost Lane: { Type 0 };
@@ -79,9 +80,9 @@ pub trait LaneOut {
         ensures same { (other : Class) → may_refuse self.new other ≡ may_refuse self.old other };
 
     /// Puts a packet behind the others of its class, or gives it back.
-    fn push(&mut self, frame: Frame) -> Result<(), Frame>
+    fn push(&mut self, packet: VettedFrame) -> Result<(), VettedFrame>
         ensures lane { lane self.new ≡ lane self.old }
-        ensures put { MatchResult result (λ _. (sent self.new ≡ sent self.old ++ frame ∷ []) × (refusals self.new ≡ refusals self.old))
-            (λ back. (back ≡ frame) × (sent self.new ≡ sent self.old) × (refusals self.new ≢ refusals self.old)) }
-        ensures full { OnErr result (may_refuse self.old (class_of frame) ≡ true) };
+        ensures put { MatchResult result (λ _. (sent self.new ≡ sent self.old ++ packet.frame ∷ []) × (refusals self.new ≡ refusals self.old))
+            (λ back. (back ≡ packet) × (sent self.new ≡ sent self.old) × (refusals self.new ≢ refusals self.old)) }
+        ensures full { OnErr result (may_refuse self.old (class_of packet.frame) ≡ true) };
 }

@@ -1,11 +1,11 @@
 //! Lanes that are queues in memory.
 
-ghost use Rattle.std.specs.Prelude.{◌≡◌, ◌<◌, ◌^◌, ◌==◌, ℕ, [], None, true, IsTrue, ◌↔◌, option_map};
+ghost use Rattle.std.specs.Prelude.{◌≡◌, ◌≢◌, ◌<◌, ◌^◌, ◌==◌, ◌++◌, ◌∷◌, ℕ, [], None, IsTrue, MatchBool, MatchResult, ◌↔◌, false, option_map, true};
 ghost use Rattle.port_queue.specs.Queue.{count_of};
-ghost use Rattle.lane.specs.Lanes.{eligible};
+ghost use Rattle.lane.specs.Lanes.{class_of, eligible};
 ghost use Rattle.lane.specs.Queues.{frames_of, frames_restored, IsSorted};
 
-use crate::lanes::{LaneIn, LaneOut};
+use crate::lanes::LaneIn;
 use fab_types::{Class, DomainId, Head};
 use frame_log::Frame;
 use port_queue::PortQueue;
@@ -51,6 +51,38 @@ impl<const CAP: usize> FrameQueue<CAP> {
         self.queue.is_full(class)
     }
 
+    /// Do `CAP` packets of the class wait? If so, that is counted.
+    pub fn is_full(&mut self, class: Class) -> bool
+        ensures exact { result ≡ (count_of class self.old.queue.waiting == CAP) }
+        ensures queue { self.new.queue ≡ self.old.queue }
+        ensures misses { self.new.misses ≡ self.old.misses }
+        ensures counted { MatchBool result (self.new.refusals ≢ self.old.refusals) (self.new.refusals ≡ self.old.refusals) }
+    {
+        let is_full = self.queue.is_full(class);
+        if is_full {
+            self.refusals = self.refusals.wrapping_add(1);
+        }
+        is_full
+    }
+
+    /// Puts a packet behind the others of its class. Where `CAP` packets of that class wait it is given back, and that is
+    /// counted.
+    pub fn put(&mut self, frame: Frame) -> Result<(), Frame>
+        ensures put { MatchResult result
+            (λ _. (frames_of self.new.queue.waiting ≡ frames_of self.old.queue.waiting ++ frame ∷ []) × (self.new.refusals ≡ self.old.refusals))
+            (λ back. (back ≡ frame) × (self.new.queue ≡ self.old.queue) × (self.new.refusals ≢ self.old.refusals)) }
+        ensures full { MatchResult result (λ _. (count_of (class_of frame) self.old.queue.waiting == CAP) ≡ false) (λ _. (count_of (class_of frame) self.old.queue.waiting == CAP) ≡ true) }
+        ensures misses { self.new.misses ≡ self.old.misses }
+    {
+        let class = frame.head().cost.class;
+        if self.queue.is_full(class) {
+            self.refusals = self.refusals.wrapping_add(1);
+            return Err(frame);
+        }
+        self.queue.put(class, frame);
+        Ok(())
+    }
+
     /// The domain that made the eligible packet of a class (PCIe 4.0, 2.4.1), if one is eligible.
     pub fn home(&self, class: Class) -> Option<DomainId>
         ensures { result ≡ option_map (λ taken. taken.0.domain) (eligible class (frames_of self.now.queue.waiting)) }
@@ -90,37 +122,5 @@ impl<const CAP: usize> LaneIn for FrameQueue<CAP> {
     fn put_back(&mut self, frame: Frame) {
         let class = frame.head().cost.class;
         self.queue.put_back(class, frame);
-    }
-}
-
-impl<const CAP: usize> LaneOut for FrameQueue<CAP> {
-    ghost Lane = { ℕ };
-
-    ghost lane = { λ _. 0 };
-
-    ghost sent = { λ q. frames_of q.queue.waiting };
-
-    ghost refusals = { λ q. q.refusals };
-
-    ghost may_refuse = { λ q class. count_of class q.queue.waiting == CAP };
-
-    ghost is_sure = { true };
-
-    fn is_full(&mut self, class: Class) -> bool {
-        let is_full = self.queue.is_full(class);
-        if is_full {
-            self.refusals = self.refusals.wrapping_add(1);
-        }
-        is_full
-    }
-
-    fn push(&mut self, frame: Frame) -> Result<(), Frame> {
-        let class = frame.head().cost.class;
-        if self.queue.is_full(class) {
-            self.refusals = self.refusals.wrapping_add(1);
-            return Err(frame);
-        }
-        self.queue.put(class, frame);
-        Ok(())
     }
 }

@@ -2,7 +2,7 @@
 use Rattle.std.proofs.Common.{◌≡◌, ℕ, ◌==◌, ◌<◌, Bool, true, false, List, Result, Ok, Err, refl, sym, ap, ◌∙◌, arith}
 use Rattle.std.specs.Prelude.{◌↔◌, IsTrue}
 use Rattle.std.specs.Bool.{OnTrue}
-use Rattle.std.specs.Result.{OnErr}
+use Rattle.std.specs.Result.{MatchResult}
 use Rattle.std.proofs.lemmas.Bool.{eqb-true, eq-eqb}
 use Rattle.fab_types.specs.declared.head.Head.{Head}
 use Rattle.frame_log.specs.Descriptor.{Descriptor}
@@ -23,9 +23,12 @@ pub full_where : (full : Bool) (sure : Bool) → full ≡ sure → OnTrue full (
 full_where true sure e = sym e
 full_where false sure e = tt
 
-pub given_back : {T E : Type 0} (most : ℕ) (class : Class) (result : Result T E) (ws : List (Class × Descriptor)) → IsSorted ws → OnErr result ((count_of class ws == most) ≡ true) → OnErr result ((count_in class (frames_of ws) == most) ≡ true)
-given_back most class (Ok x) ws sorted e = tt
-given_back most class (Err x) ws sorted e = sym (same_count most class ws sorted) ∙ e
+-- what a put answers
+pub put_or_full : {T E : Type 0} (most : ℕ) (class : Class) (result : Result T E) (ws : List (Class × Descriptor)) → IsSorted ws
+    → MatchResult result (λ _. (count_of class ws == most) ≡ false) (λ _. (count_of class ws == most) ≡ true)
+    → MatchResult result (λ _. (count_in class (frames_of ws) == most) ≡ false) (λ _. (count_in class (frames_of ws) == most) ≡ true)
+put_or_full most class (Ok x) ws sorted e = sym (same_count most class ws sorted) ∙ e
+put_or_full most class (Err x) ws sorted e = sym (same_count most class ws sorted) ∙ e
 
 -- ---- a test for equal numbers
 

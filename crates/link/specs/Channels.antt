@@ -17,6 +17,10 @@ pub record Channel : Type 0 where
   pub wire : List Descriptor  -- what is on the link
   pub ingress : List Descriptor  -- what waits at the receiver
 
+-- with other packets at the sender
+abbrev pub with_egress : Channel → List Descriptor → Channel
+with_egress c egress = record { start = c.start; left = c.left; egress = egress; wire = c.wire; ingress = c.ingress }
+
 -- ---- credits
 
 -- are a header and so many data credits there?

@@ -1,9 +1,10 @@
 //! The sender's end of a direction.
 
-ghost use Rattle.std.specs.Prelude.{◌≡◌, ◌≢◌, [], None, IfSome, MatchBool, false, option_map, true};
+ghost use Rattle.std.specs.Prelude.{◌≡◌, ◌≢◌, ◌==◌, ◌++◌, ◌∷◌, [], None, IfSome, MatchBool, MatchResult, false, option_map, true};
 ghost use Rattle.credit.specs.Limits.{IsUpdate, MayStart, left_counters, zero_counters};
-ghost use Rattle.lane.specs.Lanes.{eligible};
+ghost use Rattle.lane.specs.Lanes.{class_of, eligible};
 ghost use Rattle.lane.specs.Queues.{frames_of};
+ghost use Rattle.link.specs.Channels.{count_in};
 ghost use Rattle.link.specs.Quiet.{none_eligible};
 ghost use Rattle.link.specs.Steps.{IsStuck, Sends};
 
@@ -13,6 +14,7 @@ use fab_types::{Class, DomainId};
 use frame_log::Frame;
 use lane::{FrameQueue, LaneIn, LaneOut};
 use std::marker::Model;
+use vetted::VettedFrame;
 
 /// What waits at the sender of a direction, at most 16 packets of each class, and the credits that the sender knows,
 /// which bound what may leave. It is the lane out of the port that sends. A contract sees an `EgressView`.
@@ -44,6 +46,20 @@ impl Egress {
             queue: FrameQueue::new(),
             sender: Sender::new(limits),
         }
+    }
+
+    /// Puts a packet behind the others of its class, as a function or the host sends it. Where 16 packets of that class wait
+    /// it is given back, and that is counted.
+    pub fn put(&mut self, frame: Frame) -> Result<(), Frame>
+        ensures put { MatchResult result
+            (λ _. (frames_of self.new.queue.queue.waiting ≡ frames_of self.old.queue.queue.waiting ++ frame ∷ []) × (self.new.queue.refusals ≡ self.old.queue.refusals))
+            (λ back. (back ≡ frame) × (frames_of self.new.queue.queue.waiting ≡ frames_of self.old.queue.queue.waiting) × (self.new.queue.refusals ≢ self.old.queue.refusals)) }
+        ensures full { MatchResult result (λ _. (count_in (class_of frame) (frames_of self.old.queue.queue.waiting) == 16) ≡ false) (λ _. (count_in (class_of frame) (frames_of self.old.queue.queue.waiting) == 16) ≡ true) }
+        ensures sender { self.new.sender ≡ self.old.sender }
+    {
+        // for the proof: each packet waits under its own class
+        let _ = self.queue.has_no_place(frame.head().cost.class);
+        self.queue.put(frame)
     }
 
     /// Takes the eligible packet of the class, and spends its credits. None where no packet is eligible or there are
@@ -126,9 +142,13 @@ impl LaneOut for Egress {
         self.queue.is_full(class)
     }
 
-    fn push(&mut self, frame: Frame) -> Result<(), Frame> {
-        // for the proof: each packet waits under its own class
-        let _ = self.queue.has_no_place(frame.head().cost.class);
-        self.queue.push(frame)
+    fn push(&mut self, packet: VettedFrame) -> Result<(), VettedFrame> {
+        if self.is_full(packet.frame().head().cost.class) {
+            return Err(packet);
+        }
+        if self.put(packet.into_frame()).is_err() {
+            unreachable!();
+        }
+        Ok(())
     }
 }

@@ -11,7 +11,7 @@ use crate::steps::has_none_eligible;
 use credit::{Limits, Receiver};
 use fab_types::{Class, DomainId, Head};
 use frame_log::Frame;
-use lane::{FrameQueue, LaneIn, LaneOut};
+use lane::{FrameQueue, LaneIn};
 use std::marker::Model;
 
 /// What waits at the receiver of a direction, at most 127 packets of each class, and the credits that it gave. Those of
@@ -61,7 +61,7 @@ impl Ingress {
         if self.queue.has_no_place(frame.head().cost.class) {
             unreachable!();
         }
-        if self.queue.push(frame).is_err() {
+        if self.queue.put(frame).is_err() {
             unreachable!();
         }
     }

@@ -1,12 +1,12 @@
 //! One direction of a link.
 
-ghost use Rattle.std.specs.Prelude.{◌≡◌, ◌≤◌, ◌++◌, [], None, Some, MatchBool, is_none, option_map, slice_get};
+ghost use Rattle.std.specs.Prelude.{◌≡◌, ◌≤◌, ◌++◌, ◌∷◌, [], None, Some, MatchBool, false, is_none, option_map, slice_get};
 ghost use Rattle.fab_types.specs.declared.class.Class.{Class};
 ghost use Rattle.credit.specs.Kinds.{Kind};
 ghost use Rattle.credit.specs.Limits.{MayStart, at};
-ghost use Rattle.lane.specs.Lanes.{eligible};
+ghost use Rattle.lane.specs.Lanes.{class_of, eligible};
 ghost use Rattle.lane.specs.Queues.{frames_of};
-ghost use Rattle.link.specs.Channels.{IsCovered, count_in, deliver, send, update_fc};
+ghost use Rattle.link.specs.Channels.{IsCovered, count_in, deliver, is_full, send, update_fc, with_egress};
 ghost use Rattle.link.specs.Quiet.{is_quiet, none_eligible};
 ghost use Rattle.link.specs.Simplexes.{channel};
 
@@ -19,6 +19,7 @@ use frame_log::Frame;
 use lane::{LaneIn, LaneOut};
 use port_queue::Ring;
 use std::marker::Model;
+use vetted::VettedFrame;
 
 /// One direction of a link, which is dual simplex (PCIe 4.0, 1.2): what waits at its sender, travels, and
 /// waits at its receiver, and the credits of both. It is the lane out of its sender and the lane in of
@@ -59,6 +60,17 @@ impl Simplex {
             egress: Egress::new(start),
             wire: Ring::new(),
             ingress: Ingress::new(limits),
+        }
+    }
+
+    /// Puts a packet behind the others of its class at the sender, as a function or the host sends it, where fewer than 16
+    /// packets of that class wait.
+    pub fn put(&mut self, frame: Frame)
+        requires { is_full (class_of frame) (channel self.old) ≡ false }
+        ensures { channel self.new ≡ with_egress (channel self.old) ((channel self.old).egress ++ frame ∷ []) }
+    {
+        if self.egress.put(frame).is_err() {
+            unreachable!();
         }
     }
 
@@ -195,7 +207,7 @@ impl LaneOut for Simplex {
         self.egress.is_full(class)
     }
 
-    fn push(&mut self, frame: Frame) -> Result<(), Frame> {
-        self.egress.push(frame)
+    fn push(&mut self, packet: VettedFrame) -> Result<(), VettedFrame> {
+        self.egress.push(packet)
     }
 }

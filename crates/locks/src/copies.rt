@@ -1,24 +1,13 @@
 //! The bytes of a packet in flight, copied under its home's lock.
 
-ghost use Rattle.std.specs.Prelude.{◌≡◌, ◌≤◌, IsNone, IsSome, MatchOption, None, length};
+ghost use Rattle.std.specs.Prelude.{◌≡◌, IsNone, IsSome, MatchOption, None};
 ghost use Rattle.locks.specs.Locks.{AbsentThere, FlyingThere, place_of};
 
 use crate::locks::Locks;
 use arrayvec::ArrayVec;
-use domain::Domain;
+use domain::{Domain, copied};
 use frame_log::Frame;
 use std::sync::Wait;
-
-fn copied(bytes: &[u8]) -> ArrayVec<u8, 272>
-    requires { length bytes.now ≤ 272 }
-    ensures { result.items ≡ bytes.now }
-{
-    let mut copy = ArrayVec::new();
-    if copy.try_extend_from_slice(bytes).is_err() {
-        unreachable!();
-    }
-    copy
-}
 
 /// Copies what a domain that is lent has in flight under a packet's number, if it is the packet's home.
 fn bytes_there(domain: &Domain, frame: &Frame) -> Option<ArrayVec<u8, 272>>

@@ -1,6 +1,7 @@
 //! The end of a packet, in its home and under the home's lock.
 
-ghost use Rattle.std.specs.Prelude.{◌≡◌, Err, IfErr, IfOk, IsSome, None, OnErr, OnOk};
+ghost use Rattle.std.specs.Prelude.{◌≡◌, Err, IfErr, IfOk, IfSome, IsSome, None, OnErr, OnOk};
+ghost use Rattle.frame_log.specs.Descriptor.{IsCompletion};
 ghost use Rattle.frame_log.specs.Faults.{fault_frame};
 ghost use Rattle.frame_log.specs.declared.fault.FrameFault.TheVariants as fault;
 ghost use Rattle.domain.specs.declared.entry.Entry.TheVariants.{Carry, Deliver, Refuse};
@@ -22,6 +23,7 @@ fn refuse_there<R: Wait>(
 ) -> Result<Option<Frame>, FrameFault>
     ensures made { IfOk result (λ answer. MadeThere frame.domain (Refuse frame.number) answer) }
     ensures step { IfOk result (λ answer. Makes domain.old (Refuse frame.number) domain.new answer) }
+    ensures reply { IfOk result (λ answer. IfSome answer IsCompletion) }
     ensures given { IfErr result (λ f. fault_frame f ≡ frame) }
     ensures stray { IfErr result (λ f. f ≡ fault.Stray frame → IllegalThere frame.domain (Refuse frame.number)) }
     ensures memory { IfErr result (λ f. f ≡ fault.NoMemory frame → WantedThere frame.domain (Refuse frame.number)) }
@@ -79,6 +81,7 @@ impl Locks {
         port: PortId,
     ) -> Result<Option<Frame>, FrameFault>
         ensures made { IfOk result (λ answer. MadeThere frame.domain (Refuse frame.number) answer) }
+        ensures reply { IfOk result (λ answer. IfSome answer IsCompletion) }
         ensures given { IfErr result (λ f. fault_frame f ≡ frame) }
         ensures stray { IfErr result (λ f. f ≡ fault.Stray frame → IsSome (place_of self.now frame.domain) → IllegalThere frame.domain (Refuse frame.number)) }
         ensures no_lock { place_of self.now frame.domain ≡ None → result ≡ Err (fault.Stray frame) }

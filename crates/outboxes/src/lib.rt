@@ -8,4 +8,5 @@ mod origin_box;
 mod outboxes;
 mod starts;
 
+pub use origin_box::OriginBox;
 pub use outboxes::Outboxes;

@@ -12,7 +12,7 @@ use std::marker::Model;
 
 /// What one function or host has emitted and no link has taken yet. Each packet waits under its own class.
 #[derive(Drop)]
-pub(crate) struct OriginBox {
+pub struct OriginBox {
     origin: Origin,
     outbox: Outbox<Frame>,
 }
@@ -39,6 +39,7 @@ impl OriginBox {
         })
     }
 
+    /// The function or the domain's host whose outbox it is.
     pub fn origin(&self) -> Origin
         ensures { result ≡ self.now.origin }
     {

@@ -48,6 +48,15 @@ impl Outboxes {
         })
     }
 
+    /// The boxes apart: one of each function, in the order of the layout's lines, and then of each host, by rising number
+    /// of its domain.
+    pub fn into_boxes(self) -> Vec<OriginBox>
+        ensures { result.items ≡ self }
+    {
+        let Outboxes { boxes, index: _ } = self;
+        boxes
+    }
+
     /// The place of the box of this origin.
     fn place(&self, origin: Origin) -> Option<usize>
         ensures value { result ≡ box_place self.now origin }

@@ -1,7 +1,7 @@
 -- A port of a switch, as a layout has it (PCIe 4.0, 7.5.1.3), and the lanes of its switch.
 use Rattle.std.specs.Prelude.{ℕ, suc, ◌==◌, Bool, ◌&&◌, List, map, Option, Some, None, option_map}
 use Rattle.std.specs.Option.{option_map_or}
-use Rattle.std.specs.List.{filter, position, list_all}
+use Rattle.std.specs.List.{filter, position}
 use Rattle.fab_types.specs.Id.{bus_of}
 use Rattle.fab_types.specs.declared.place.Direction.{Direction}
 use Rattle.fab_types.specs.declared.place.Way.TheVariants.{Up, Down}
@@ -9,7 +9,6 @@ use Rattle.platform.specs.declared.parts.DownstreamPort.{DownstreamPort}
 use Rattle.platform.specs.declared.parts.Switch.{Switch}
 use Rattle.platform.specs.Tree.{is_on_bus}
 use Rattle.platform.specs.Tree.{port_at, id_below, internal_bus, is_taken}
-use Rattle.platform.specs.Share.{is_guarded_port}
 use Rattle.platform.specs.Platform.{Platform}
 use Rattle.bridge.specs.Routes.{switch_at}
 use Rattle.port.specs.declared.config.Exit.{Exit}
@@ -20,7 +19,6 @@ pub record Config : Type 0 where
   pub line : Option DownstreamPort  -- of a downstream port
   pub exits : List Exit  -- the downstream ports of its switch
   pub own : ℕ  -- the lane out of this port
-  pub is_guarded : Bool  -- are all five controls set on each port of the layout?
 
 -- does anything stand below the port?
 abbrev pub exit_of : Platform → DownstreamPort → Exit
@@ -49,7 +47,6 @@ downstream_config platform line = let exits = exits_of platform (bus_of line.id)
   line = Some line;
   exits = exits;
   own = own_lane exits line.id;
-  is_guarded = list_all is_guarded_port platform.ports;
 }
 
 abbrev pub upstream_config : Platform → Switch → Config
@@ -58,7 +55,6 @@ upstream_config platform switch = record {
   line = None;
   exits = exits_of platform (internal_bus switch);
   own = 0;
-  is_guarded = list_all is_guarded_port platform.ports;
 }
 
 abbrev pub config_unless_below : Platform → ℕ → Option DownstreamPort → Option Config

@@ -1,4 +1,3 @@
-pub mod Vetted
 pub mod Configs
 pub mod Courses
 pub mod Losses

@@ -7,7 +7,7 @@ use Rattle.bridge.specs.Bridges.{Routes}
 use Rattle.port.specs.declared.turn.TurnParts.{TurnParts}
 use Rattle.port.specs.declared.course.Forwarding.TheVariants.{To, Stop, NoCase}
 use Rattle.lane.specs.Lanes.{eligible}
-use Rattle.port.specs.Vetted.{requester_owner, may_go_on}
+use Rattle.vetted.specs.Vetted.{may_go_on}
 use Rattle.port.specs.Configs.{Config}
 use Rattle.port.specs.Courses.{course_of}
 use Rattle.port.specs.Steps.{with_put}
@@ -56,7 +56,7 @@ module _ {K : Type 0} where
     pub frame : Descriptor
     pub taken : eligible class s.waiting ≡ Some (frame, t.waiting)
     pub course : course_of tree config frame.head ≡ To lane
-    pub own : may_go_on config.is_guarded (requester_owner tree.ports frame.head.header) frame ≡ true
+    pub own : may_go_on tree.ports frame ≡ true
     pub put : t.outs ≡ with_put s.outs lane (frame ∷ [])
     pub same : (t.known ≡ s.known) × (t.reported ≡ s.reported) × (t.held ≡ s.held) × (t.kept ≡ s.kept) × (t.strays ≡ s.strays)
 
@@ -80,7 +80,7 @@ module _ {K : Type 0} where
   abbrev pub IsStray : (K → Descriptor → ℕ → Type 0) → Routes → Config → K → Descriptor → Type 0
   IsStray unknown tree config known frame =
       (course_of tree config frame.head ≡ NoCase)
-      ⊎ (((lane : ℕ) × (course_of tree config frame.head ≡ To lane) × (may_go_on config.is_guarded (requester_owner tree.ports frame.head.header) frame ≡ false))
+      ⊎ (((lane : ℕ) × (course_of tree config frame.head ≡ To lane) × (may_go_on tree.ports frame ≡ false))
       ⊎ ((report : Option Violation) × (course_of tree config frame.head ≡ Stop report) × unknown known frame config.id))
 
   -- the eligible packet is kept as one that the port has no case for

@@ -9,7 +9,7 @@ use Rattle.port.specs.declared.course.Forwarding.TheVariants.{To, Stop, NoCase}
 use Rattle.port.specs.Configs.{Config}
 use Rattle.port.specs.Courses.{course_of}
 use Rattle.lane.specs.Lanes.{eligible}
-use Rattle.port.specs.Vetted.{may_go_on, requester_owner}
+use Rattle.vetted.specs.Vetted.{may_go_on}
 
 -- a packet of the class is eligible, and it is such a one
 pub record Awaits (class : Class) (waiting : List Descriptor) (such : Descriptor → Type 0) : Type 0 where
@@ -22,7 +22,7 @@ module _ {K : Type 0} (wants unknown : K → Descriptor → ℕ → Type 0) (tre
   -- What a packet on this course wants memory for: to be kept, as one that may not go on or that nobody has a case for; a
   -- place for its report; or an answer.
   abbrev pub CourseWants : K → Descriptor → Forwarding → Type 0
-  CourseWants known frame (To lane) = may_go_on config.is_guarded (requester_owner tree.ports frame.head.header) frame ≡ false
+  CourseWants known frame (To lane) = may_go_on tree.ports frame ≡ false
   CourseWants known frame (Stop None) = wants known frame config.id ⊎ unknown known frame config.id
   CourseWants known frame (Stop (Some report)) = ⊤
   CourseWants known frame NoCase = ⊤

@@ -1,7 +1,7 @@
 //! Whom a port asks to refuse a packet.
 
-ghost use Rattle.std.specs.Prelude.{◌≡◌, ℕ, Option, MatchResult, IfErr, OnErr};
-ghost use Rattle.frame_log.specs.Descriptor.{Descriptor};
+ghost use Rattle.std.specs.Prelude.{◌≡◌, ℕ, Option, MatchResult, IfErr, IfOk, IfSome, OnErr};
+ghost use Rattle.frame_log.specs.Descriptor.{Descriptor, IsCompletion};
 ghost use Rattle.frame_log.specs.Faults.{fault_frame};
 ghost use Rattle.frame_log.specs.declared.fault.FrameFault.TheVariants as fault;
 
@@ -38,5 +38,6 @@ pub trait Desk {
         ensures refused { MatchResult result (λ answer. refuses (known self.old) frame port answer (known self.new)) (λ fault. fault_frame fault ≡ frame) }
         ensures stray { IfErr result (λ f. f ≡ fault.Stray frame → unknown (known self.old) frame port) }
         ensures memory { IfErr result (λ f. f ≡ fault.NoMemory frame → wants (known self.old) frame port) }
-        ensures err { OnErr result (known self.new ≡ known self.old) };
+        ensures err { OnErr result (known self.new ≡ known self.old) }
+        ensures reply { IfOk result (λ answer. IfSome answer IsCompletion) };
 }

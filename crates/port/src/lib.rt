@@ -12,7 +12,6 @@ mod reports;
 mod slots;
 mod steps;
 mod turn;
-mod vetted;
 
 pub use config::Exit;
 pub use course::Forwarding;
@@ -22,4 +21,3 @@ pub use port::Port;
 pub use reporter::Reporter;
 pub use reports::Reports;
 pub use turn::TurnParts;
-pub use vetted::VettedFrame;

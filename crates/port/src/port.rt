@@ -1,8 +1,6 @@
 //! A port of a switch.
 
-ghost use Rattle.std.specs.Prelude.{◌≡◌, ◌+◌, ◌≤◌, IfOk, option_map, None, [], length};
-ghost use Rattle.std.specs.List.{list_all};
-ghost use Rattle.platform.specs.Share.{is_guarded_port};
+ghost use Rattle.std.specs.Prelude.{◌≡◌, ◌+◌, ◌≤◌, IfOk, option_map, None, Some, [], length};
 ghost use Rattle.port.specs.Configs.{config_of, direction_in, downstream_config, upstream_config};
 
 use crate::config::{Exit, exits_of, own_lane, switch_at};
@@ -12,6 +10,7 @@ use layout::Layout;
 use platform::{DownstreamPort, Switch, id_below, internal_bus, port_at};
 use std::alloc::Global;
 use std::marker::Model;
+use vetted::VettedFrame;
 
 /// A port of a switch: a downstream port, or the upstream port. A contract sees a `PortView`.
 #[derive(Drop)]
@@ -20,22 +19,22 @@ pub struct Port {
     pub(crate) line: Option<DownstreamPort>,
     pub(crate) exits: Vec<Exit>,
     pub(crate) own: usize,
-    pub(crate) is_guarded: bool,
     pub(crate) held: Option<Violation>,
-    pub(crate) kept: Option<Frame>,
+    pub(crate) kept: Option<VettedFrame>,
     pub(crate) strays: Vec<Frame>,
 }
 
 impl Model for Port {
     ghost use Rattle.std.specs.Prelude.{◌≤◌, length};
     ghost use Rattle.port.specs.Turns.{PortView};
+    ghost use Rattle.vetted.specs.Vetted.{frame_in};
 
     ghost Value = { PortView };
 
     ghost view = { λ p. record {
-      config = record { id = p.id; line = p.line; exits = p.exits.items; own = p.own; is_guarded = p.is_guarded };
+      config = record { id = p.id; line = p.line; exits = p.exits.items; own = p.own };
       held = p.held;
-      kept = p.kept;
+      kept = frame_in p.kept;
       strays = p.strays.items;
     } };
 
@@ -62,7 +61,7 @@ impl Port {
         ensures { IfOk result (λ port. port ≡ record { config = upstream_config layout.now switch.now; held = None; kept = None; strays = [] }) }
     {
         let exits = exits_of(alloc, layout, internal_bus(switch))?;
-        Ok(Port::of(alloc, layout, PortId::new(switch.id), None, exits, 0))
+        Ok(Port::of(alloc, PortId::new(switch.id), None, exits, 0))
     }
 
     /// A downstream port of the layout. It answers `NoMemory` where memory was refused.
@@ -75,26 +74,24 @@ impl Port {
     {
         let exits = exits_of(alloc, layout, u16::from(line.id.id().bus()))?;
         let own = own_lane(&exits, line.id);
-        Ok(Port::of(alloc, layout, line.id, Some(*line), exits, own))
+        Ok(Port::of(alloc, line.id, Some(*line), exits, own))
     }
 
     fn of(
         alloc: Global,
-        layout: &Layout,
         id: PortId,
         line: Option<DownstreamPort>,
         exits: Vec<Exit>,
         own: usize,
     ) -> Port
         requires { own ≤ length exits.items }
-        ensures { result ≡ record { config = record { id = id; line = line; exits = exits.items; own = own; is_guarded = list_all is_guarded_port layout.now.ports }; held = None; kept = None; strays = [] } }
+        ensures { result ≡ record { config = record { id = id; line = line; exits = exits.items; own = own }; held = None; kept = None; strays = [] } }
     {
         Port {
             id,
             line,
             exits,
             own,
-            is_guarded: layout.is_guarded(),
             held: None,
             kept: None,
             strays: Vec::new(alloc),
@@ -139,6 +136,14 @@ impl Port {
         ensures { result.now ≡ self.now.strays }
     {
         &self.strays
+    }
+
+    /// Holds a report that a reporter gave back, where none is held: the next turn tries it first.
+    pub fn hold(&mut self, report: Violation)
+        requires { self.old.held ≡ None }
+        ensures { self.new ≡ record self.old { held = Some report } }
+    {
+        self.held = Some(report);
     }
 
     /// The report that there was no place for yet.

@@ -4,16 +4,17 @@ ghost use Rattle.std.specs.Prelude.{◌≡◌, ◌≢◌, ◌⊎◌, ◌++◌, �
 ghost use Rattle.port.specs.Blocked.{may_refuse_answer};
 ghost use Rattle.lane.specs.Lanes.{Class, class_of, eligible};
 ghost use Rattle.port.specs.Steps.{Forwards, IsOfTurn, Refuses, Strays};
-ghost use Rattle.port.specs.Vetted.{may_go_on};
+ghost use Rattle.vetted.specs.Vetted.{frame_in, may_go_on};
 ghost use Rattle.port.specs.Wants.{Awaits};
 
 use crate::desk::Desk;
 use crate::reporter::Reporter;
-use crate::vetted::VettedFrame;
-use fab_types::{Class, DomainId, NoMemory, Outcome, PortId, Violation};
+use bridge::Bridge;
+use fab_types::{Class, NoMemory, Outcome, PortId, Violation};
 use frame_log::{Frame, FrameFault};
 use lane::{LaneIn, LaneOut};
 use std::sync::Wait;
+use vetted::VettedFrame;
 
 /// Reports what there was no place for before.
 pub(crate) fn tell<R: Reporter>(reporter: &mut R, held: &mut Option<Violation>) -> Outcome
@@ -73,20 +74,20 @@ pub(crate) fn report_or_hold<R: Reporter>(
 }
 
 /// Puts the answer that was kept, if there is one. It answers false where the lane gave it back.
-pub(crate) fn settle<O: LaneOut>(back: &mut O, kept: &mut Option<Frame>) -> bool
-    ensures put { result ≡ true → (kept.new ≡ None) × (O.sent back.new ≡ O.sent back.old ++ option_to_list kept.old) }
+pub(crate) fn settle<O: LaneOut>(back: &mut O, kept: &mut Option<VettedFrame>) -> bool
+    ensures put { result ≡ true → (kept.new ≡ None) × (O.sent back.new ≡ O.sent back.old ++ option_to_list (frame_in kept.old)) }
     ensures rests { result ≡ false → (kept.new ≡ kept.old) × (O.sent back.new ≡ O.sent back.old) × (O.refusals back.new ≢ O.refusals back.old) }
     ensures counted { result ≡ true → O.refusals back.new ≡ O.refusals back.old }
     ensures nothing_kept { kept.old ≡ None → back.new ≡ back.old }
     ensures lane { O.lane back.new ≡ O.lane back.old }
 {
-    let Some(frame) = kept.take() else {
+    let Some(answer) = kept.take() else {
         return true;
     };
-    match back.push(frame) {
+    match back.push(answer) {
         Ok(()) => true,
-        Err(frame) => {
-            *kept = Some(frame);
+        Err(answer) => {
+            *kept = Some(answer);
             false
         }
     }
@@ -111,22 +112,20 @@ fn keep_stray<I: LaneIn>(input: &mut I, strays: &mut Vec<Frame>, frame: Frame) -
     }
 }
 
-/// Moves the eligible packet of a class, whose Requester ID has this owner. One that may not go on is
-/// kept.
+/// Moves the eligible packet of a class. One that may not go on is kept.
 pub(crate) fn forward<I: LaneIn, O: LaneOut>(
     input: &mut I,
     out: &mut O,
     strays: &mut Vec<Frame>,
-    owner: Option<DomainId>,
-    is_guarded: bool,
+    bridge: &Bridge,
     class: Class,
 ) -> Outcome
-    ensures moved { result ≡ Outcome.Moved → Forwards class (may_go_on is_guarded owner) (I.waiting input.old) (O.sent out.old) strays.old.items (I.waiting input.new) (O.sent out.new) strays.new.items }
+    ensures moved { result ≡ Outcome.Moved → Forwards class (may_go_on bridge.now.ports) (I.waiting input.old) (O.sent out.old) strays.old.items (I.waiting input.new) (O.sent out.new) strays.new.items }
     ensures rests { result ≢ Outcome.Moved → (I.waiting input.new ≡ I.waiting input.old) × (O.sent out.new ≡ O.sent out.old) × (strays.new.items ≡ strays.old.items) }
     ensures cause { result ≡ Outcome.Idle → (I.misses input.new ≢ I.misses input.old) ⊎ (O.refusals out.new ≢ O.refusals out.old) }
     ensures blocked { result ≡ Outcome.Idle → (eligible class (I.waiting input.old) ≡ None) ⊎ (O.may_refuse out.old class ≡ true) }
     ensures free { O.is_sure ≡ true → result ≢ Outcome.Idle → O.may_refuse out.old class ≡ false }
-    ensures memory { result ≡ Outcome.NoMemory → Awaits class (I.waiting input.old) (λ f. may_go_on is_guarded owner f ≡ false) }
+    ensures memory { result ≡ Outcome.NoMemory → Awaits class (I.waiting input.old) (λ f. may_go_on bridge.now.ports f ≡ false) }
     ensures answer { IsOfTurn result }
     ensures input_lane { I.lane input.new ≡ I.lane input.old }
     ensures lane { O.lane out.new ≡ O.lane out.old }
@@ -139,11 +138,11 @@ pub(crate) fn forward<I: LaneIn, O: LaneOut>(
         let _ = input.head(class);
         return Outcome::Idle;
     };
-    match VettedFrame::new(frame, owner, is_guarded) {
-        Ok(vetted) => match out.push(vetted.into_frame()) {
+    match VettedFrame::new(frame, bridge) {
+        Ok(packet) => match out.push(packet) {
             Ok(()) => Outcome::Moved,
-            Err(frame) => {
-                input.put_back(frame);
+            Err(packet) => {
+                input.put_back(packet.into_frame());
                 Outcome::Idle
             }
         },
@@ -199,20 +198,21 @@ pub(crate) fn refuse<W: Wait, I: LaneIn, O: LaneOut, D: Desk>(
     input: &mut I,
     back: &mut O,
     desk: &mut D,
-    kept: &mut Option<Frame>,
+    bridge: &Bridge,
+    kept: &mut Option<VettedFrame>,
     strays: &mut Vec<Frame>,
     port: PortId,
     class: Class,
 ) -> Refusal
     requires { kept.old ≡ None }
-    ensures refused { result ≡ Refusal.Refused → (Refuses class (λ f a. D.refuses (D.known desk.old) f port a (D.known desk.new)) (I.waiting input.old) (O.sent back.old) (I.waiting input.new) (O.sent back.new) kept.new) × (strays.new.items ≡ strays.old.items) }
+    ensures refused { result ≡ Refusal.Refused → (Refuses class (λ f a. D.refuses (D.known desk.old) f port a (D.known desk.new)) (I.waiting input.old) (O.sent back.old) (I.waiting input.new) (O.sent back.new) (frame_in kept.new)) × (strays.new.items ≡ strays.old.items) }
     ensures strayed { result ≡ Refusal.Strayed → (Strays class (λ f. D.unknown (D.known desk.old) f port) (I.waiting input.old) strays.old.items (I.waiting input.new) strays.new.items) × (O.sent back.new ≡ O.sent back.old) × (D.known desk.new ≡ D.known desk.old) × (kept.new ≡ None) }
     ensures idle { result ≡ Refusal.Idle → (I.waiting input.new ≡ I.waiting input.old) × (O.sent back.new ≡ O.sent back.old) × (D.known desk.new ≡ D.known desk.old) × (kept.new ≡ None) × (strays.new.items ≡ strays.old.items) }
     ensures memory { result ≡ Refusal.NoMemory → (I.waiting input.new ≡ I.waiting input.old) × (O.sent back.new ≡ O.sent back.old) × (D.known desk.new ≡ D.known desk.old) × (kept.new ≡ None) × (strays.new.items ≡ strays.old.items) }
     ensures wants { result ≡ Refusal.NoMemory → Awaits class (I.waiting input.old) (λ f. D.wants (D.known desk.old) f port ⊎ D.unknown (D.known desk.old) f port) }
     ensures cause { result ≡ Refusal.Idle → I.misses input.new ≢ I.misses input.old }
     ensures blocked { result ≡ Refusal.Idle → eligible class (I.waiting input.old) ≡ None }
-    ensures kept { IfSome kept.new (λ answer. O.may_refuse back.old (class_of answer) ≡ true) }
+    ensures kept { IfSome (frame_in kept.new) (λ answer. O.may_refuse back.old (class_of answer) ≡ true) }
     ensures input_lane { I.lane input.new ≡ I.lane input.old }
     ensures lane { O.lane back.new ≡ O.lane back.old }
 {
@@ -224,7 +224,7 @@ pub(crate) fn refuse<W: Wait, I: LaneIn, O: LaneOut, D: Desk>(
     match desk.refuse(rt, frame, port) {
         Ok(None) => Refusal::Refused,
         Ok(Some(answer)) => {
-            if let Err(answer) = back.push(answer) {
+            if let Err(answer) = back.push(VettedFrame::of_completion(answer, bridge)) {
                 *kept = Some(answer);
             }
             Refusal::Refused

@@ -2,7 +2,6 @@
 
 ghost use Rattle.std.specs.Prelude.{◌≡◌, ◌≢◌, ◌⊎◌, ◌+◌, ◌≤◌, Some, None, IfSome, IsSome, true, false, length, map};
 ghost use Rattle.fab_types.specs.declared.violation.Violation.{Violation};
-ghost use Rattle.port.specs.Vetted.{requester_owner};
 ghost use Rattle.lane.specs.Lanes.{class_of, eligible};
 ghost use Rattle.port.specs.Steps.{IsOfTurn};
 ghost use Rattle.port.specs.Blocked.{course_is_blocked, is_blocked, may_refuse_at};
@@ -15,9 +14,8 @@ use crate::port::Port;
 use crate::reporter::Reporter;
 use crate::slots::{answer_waits_at, forward_at, refuse_at, settle_at};
 use crate::steps::{Refusal, prepare, report_or_hold, stray, tell};
-use acs::requester_of;
 use bridge::Bridge;
-use fab_types::{Class, DomainId, Header, Outcome, Violation};
+use fab_types::{Class, Outcome, Violation};
 use lane::{LaneIn, LaneOut};
 use std::sync::Wait;
 
@@ -33,19 +31,13 @@ pub struct TurnParts<'a, I, O, D, R> {
     pub reporter: &'a mut R,
 }
 
-fn requester_owner(bridge: &Bridge, header: &Header) -> Option<DomainId>
-    ensures { result ≡ requester_owner bridge.now.ports header.now }
-{
-    let requester = requester_of(header)?;
-    bridge.owner(requester)
-}
-
 /// Has the eligible packet refused, and a violation reported.
 fn stop<W: Wait, I: LaneIn, O: LaneOut, D: Desk, R: Reporter>(
     port: &mut Port,
     rt: &W,
     class: Class,
     report: Option<Violation>,
+    bridge: &Bridge,
     input: &mut I,
     outs: &mut [O],
     desk: &mut D,
@@ -80,6 +72,7 @@ fn stop<W: Wait, I: LaneIn, O: LaneOut, D: Desk, R: Reporter>(
         outs,
         port.own,
         desk,
+        bridge,
         &mut port.kept,
         &mut port.strays,
         port.id,
@@ -127,18 +120,11 @@ fn proceed<W: Wait, I: LaneIn, O: LaneOut, D: Desk, R: Reporter>(
     };
     match port.course(bridge, &head) {
         Forwarding::To(lane) => {
-            let owner = requester_owner(bridge, &head.header);
-            forward_at(
-                input,
-                outs,
-                lane,
-                &mut port.strays,
-                owner,
-                port.is_guarded,
-                class,
-            )
+            forward_at(input, outs, lane, &mut port.strays, bridge, class)
         }
-        Forwarding::Stop(report) => stop(port, rt, class, report, input, outs, desk, reporter),
+        Forwarding::Stop(report) => stop(
+            port, rt, class, report, bridge, input, outs, desk, reporter,
+        ),
         Forwarding::NoCase => stray(input, &mut port.strays, class),
     }
 }

@@ -1,12 +1,17 @@
-//! A ring of frames as the lane out of a port.
+//! A ring of packets as the lane out of a port.
 
+use bridge::Bridge;
 use fab_types::{Bdf, Class, Cost, DomainId, Head, Header, Parties};
-use frame_log::{Frame, Log};
+use frame_log::Log;
 use lane::LaneOut;
+use layout::Layout;
 use std::alloc::Global;
 use std::sync::Wait;
 use std::test::Fail;
+use vetted::VettedFrame;
 use wiring::{InEnd, OutEnd, Wire, are_within, deal, lay};
+
+const ONE_SWITCH: &str = "pciefab 1\nswitch 01:00.0 root\n";
 
 const WIRES: [Wire; 1] = [Wire {
     from: 0,
@@ -14,7 +19,7 @@ const WIRES: [Wire; 1] = [Wire {
     places: 1,
 }];
 
-fn frame<R: Wait>(rt: &R, log: &Log, number: u64) -> Option<Frame> {
+fn packet<R: Wait>(rt: &R, bridge: &Bridge, log: &Log, number: u64) -> Option<VettedFrame> {
     let head = Head {
         parties: Parties::Upward(Bdf::from_bits(0x0300)),
         cost: Cost {
@@ -26,10 +31,10 @@ fn frame<R: Wait>(rt: &R, log: &Log, number: u64) -> Option<Frame> {
     let domain = DomainId::new(1)?;
     let (frame, token) = log.emit(rt, domain, number, head, &[0x40]).ok()?;
     drop(token);
-    Some(frame)
+    VettedFrame::new(frame, bridge).ok()
 }
 
-fn both_ends(alloc: Global) -> Option<(OutEnd<Frame>, InEnd<Frame>)> {
+fn both_ends(alloc: Global) -> Option<(OutEnd<VettedFrame>, InEnd<VettedFrame>)> {
     if !are_within(2, &WIRES) {
         return None;
     }
@@ -40,8 +45,12 @@ fn both_ends(alloc: Global) -> Option<(OutEnd<Frame>, InEnd<Frame>)> {
     Some((sender.outs.pop()?, receiver.ins.pop()?))
 }
 
-/// How often the lane said no: when it is asked, and when it gives the second frame back.
-fn refusals(out: &mut OutEnd<Frame>, first: Frame, second: Frame) -> Option<u64> {
+/// How often the lane said no: when it is asked, and when it gives the second packet back.
+fn refusals(
+    out: &mut OutEnd<VettedFrame>,
+    first: VettedFrame,
+    second: VettedFrame,
+) -> Option<u64> {
     if out.is_full(Class::Posted) || out.push(first).is_err() {
         return None;
     }
@@ -51,32 +60,34 @@ fn refusals(out: &mut OutEnd<Frame>, first: Frame, second: Frame) -> Option<u64>
     Some(out.refusals)
 }
 
-/// The number of the frame that waits first, and that of the frame that is taken.
-fn numbers(input: &mut InEnd<Frame>) -> Option<(u64, u64)> {
+/// The number of the packet that waits first, and that of the one that is taken.
+fn numbers(input: &mut InEnd<VettedFrame>) -> Option<(u64, u64)> {
     if !input.has_item() {
         return None;
     }
-    let first = input.front().number();
-    let frame = input.take_known();
-    Some((first, frame.number()))
+    let first = input.front().frame().number();
+    let packet = input.take_known();
+    Some((first, packet.frame().number()))
 }
 
-/// Is there a place again, for one frame?
-fn has_one_place(out: &mut OutEnd<Frame>, frame: Frame) -> bool {
+/// Is there a place again, for one packet?
+fn has_one_place(out: &mut OutEnd<VettedFrame>, packet: VettedFrame) -> bool {
     if !out.has_place() {
         return false;
     }
-    out.put_reserved(frame);
+    out.put_reserved(packet);
     !out.has_place()
 }
 
 #[test]
 fn a_ring_is_a_lane_that_counts_how_often_it_was_full(rt: HostRuntime) -> Result<(), Fail> {
     let log = Log::new(rt.alloc())?;
+    let layout = Layout::read(rt.alloc(), ONE_SWITCH).map_err(|_| "no layout")?;
+    let bridge = Bridge::new(rt.alloc(), &layout)?;
     let (mut out, mut input) = both_ends(rt.alloc()).ok_or("no ends")?;
-    let first = frame(&rt, &log, 7).ok_or("no frame")?;
-    let second = frame(&rt, &log, 8).ok_or("no frame")?;
-    let third = frame(&rt, &log, 9).ok_or("no frame")?;
+    let first = packet(&rt, &bridge, &log, 7).ok_or("no packet")?;
+    let second = packet(&rt, &bridge, &log, 8).ok_or("no packet")?;
+    let third = packet(&rt, &bridge, &log, 9).ok_or("no packet")?;
     assert_eq!(rt; refusals(&mut out, first, second), Some(2));
     assert_eq!(rt; numbers(&mut input), Some((7, 7)));
     assert!(rt; has_one_place(&mut out, third));

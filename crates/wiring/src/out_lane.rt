@@ -4,11 +4,11 @@ ghost use Rattle.std.specs.Prelude.{◌≡◌};
 
 use crate::out_end::OutEnd;
 use fab_types::Class;
-use frame_log::Frame;
 use lane::LaneOut;
+use vetted::VettedFrame;
 
-impl LaneOut for OutEnd<Frame> {
-    ghost use Rattle.std.specs.Prelude.{true, false};
+impl LaneOut for OutEnd<VettedFrame> {
+    ghost use Rattle.std.specs.Prelude.{false, map, true};
     ghost use Rattle.rtrb.specs.Ring.{sent};
     ghost use Rattle.wiring.specs.Wired.{Tag, out_tag};
 
@@ -16,7 +16,7 @@ impl LaneOut for OutEnd<Frame> {
 
     ghost lane = { λ l. out_tag l };
 
-    ghost sent = { λ l. sent l.producer };
+    ghost sent = { λ l. map (λ packet. packet.frame) (sent l.producer) };
 
     ghost refusals = { λ l. l.refusals };
 
@@ -28,7 +28,7 @@ impl LaneOut for OutEnd<Frame> {
         !self.has_place()
     }
 
-    fn push(&mut self, frame: Frame) -> Result<(), Frame> {
-        self.put(frame)
+    fn push(&mut self, packet: VettedFrame) -> Result<(), VettedFrame> {
+        self.put(packet)
     }
 }

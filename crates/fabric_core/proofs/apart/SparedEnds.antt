@@ -23,7 +23,8 @@ use Rattle.interconnect.specs.Passes.{index_of, no_place}
 use Rattle.fabric_core.specs.Receipts.{Carry, Deliver, Receipt, Nobody, Relay, Taken, arrive, arrived, arrived_by, ended, receipt_at_function, receipt_at_host, agents_by_host, from_host, own_by_function, own_by_host, relayed, root, rooted, rooted_by, taken, taken_at, taken_from, to_function, to_host}
 use Rattle.fabric_core.specs.Isolation.{home_of_taken, home_passed, is_number}
 use Rattle.fabric_core.specs.Losing.{pass}
-use Rattle.fabric_core.specs.Passing.{Site, answer_waits, answered_at, is_full_at, output_end, may_pass, passed, passed_by, passed_number, refused_by, site_at, strayed}
+use Rattle.vetted.specs.Vetted.{may_go_on}
+use Rattle.fabric_core.specs.Passing.{Site, answer_waits, answered_at, is_full_at, output_end, passed, passed_by, passed_number, refused_by, site_at, strayed}
 use Rattle.fabric_core.specs.Soundness.{IsGuardedFabric}
 use Rattle.fabric_core.specs.World.{World, with_channels}
 use Rattle.fabric_core.proofs.soundness.GuardedAliens.{home_at_function, home_at_host, passes_as_turned}
@@ -173,7 +174,7 @@ module _ (w w' : World) (site : Site) (class : Class) (t : Taken) (links : Links
   stopped_spares report false is = subst (Spares w (Some t.frame.domain)) (same_Some _ w' is) (refused_spares w site report t (made w.agents.domains t.frame.domain (entry.Refuse t.frame.number)) links refl)
 
   course_spares : (course : Forwarding) → passed_by w site class t course ≡ Some w' → Spares w (Some t.frame.domain) w'
-  course_spares (To output) is = forward_spares output (is_full_at w site output class) (may_pass w site t.frame) is
+  course_spares (To output) is = forward_spares output (is_full_at w site output class) (may_go_on w.routes.ports t.frame) is
   course_spares (Stop report) is = stopped_spares report (answer_waits w site class) is
   course_spares NoCase is = subst (Spares w (Some t.frame.domain)) (same_Some (strayed w site t) w' is) (strayed_spares w site t links)
 

@@ -3,11 +3,11 @@ use Rattle.std.proofs.Common.{◌≡◌, ◌≢◌, ℕ, zero, suc, ◌<◌, Lis
 use Rattle.std.proofs.lemmas.List.{append-nil, get_or-set_other, set-get_or, set_comm}
 use Rattle.fab_types.specs.declared.class.Class.{Class}
 use Rattle.frame_log.specs.Descriptor.{Descriptor}
-use Rattle.link.specs.Channels.{Channel, is_full}
+use Rattle.link.specs.Channels.{Channel, is_full, with_egress}
 use Rattle.port.specs.Blocked.{may_refuse_at}
 use Rattle.port.specs.Steps.{with_put}
 use Rattle.topology.specs.declared.nodes.LinkEnd.{LinkEnd}
-use Rattle.interconnect.specs.Moves.{channel_at, left_at, no_channel, put_at, with_egress, with_ingress}
+use Rattle.interconnect.specs.Moves.{channel_at, left_at, no_channel, put_at, with_ingress}
 use Rattle.interconnect.specs.Passes.{egress_of, passed_over, refused_by, with_sent}
 
 -- ---- what an output may refuse

@@ -28,7 +28,8 @@ use Rattle.interconnect.specs.Moves.{channel_at, left_at, put_at}
 use Rattle.interconnect.specs.Passes.{HasTurn, egress_of, no_port, passed_over, port_at, refused_by, sight_at}
 use Rattle.interconnect.specs.Views.{InterconnectView, channels}
 use Rattle.fabric_core.specs.Receipts.{Taken, taken_at, taken_from}
-use Rattle.fabric_core.specs.Passing.{Site, answer_waits, answered_at, kept_by, output_end, may_pass, passed, passed_by, refused_by as ended_by, strayed}
+use Rattle.vetted.specs.Vetted.{may_go_on}
+use Rattle.fabric_core.specs.Passing.{Site, answer_waits, answered_at, kept_by, output_end, passed, passed_by, refused_by as ended_by, strayed}
 use Rattle.fabric_core.specs.Places.{IsFlown}
 use Rattle.fabric_core.specs.Settling.{EntryWants}
 use Rattle.fabric_core.specs.Wanting.{CourseWants, OfTaken, TurnWants}
@@ -206,7 +207,7 @@ module _ (h new : InterconnectView) (agents agents' : AgentsView) (violations vi
       (t.passed ∙ (ap (λ (o : List (List Descriptor)). passed_over (channels h) node input seen'.waiting o) f.put ∙ passed_put (channels h) node f.lane input seen'.waiting f.frame apart)) in
       effect_of f.frame seen'.waiting f.taken
       ∙ (ap (passed_by here site class (taken f.frame seen'.waiting)) f.course
-      ∙ (ap (λ (b : Bool). cond b None (cond (may_pass here site f.frame) (Some (of_parts h.tree h.routes (put_at (left_at (channels h) input seen'.waiting) (output_end site f.lane) f.frame) h.ports agents violations strays)) (Some (strayed here site (taken f.frame seen'.waiting))))) full
+      ∙ (ap (λ (b : Bool). cond b None (cond (may_go_on here.routes.ports f.frame) (Some (of_parts h.tree h.routes (put_at (left_at (channels h) input seen'.waiting) (output_end site f.lane) f.frame) h.ports agents violations strays)) (Some (strayed here site (taken f.frame seen'.waiting))))) full
       ∙ (ap (λ (b : Bool). cond b (Some (of_parts h.tree h.routes (put_at (left_at (channels h) input seen'.waiting) (output_end site f.lane) f.frame) h.ports agents violations strays)) (Some (strayed here site (taken f.frame seen'.waiting)))) f.own
       ∙ ap (λ (w : World). Some w) (sym (over_parts h new (put_at (left_at (channels h) input seen'.waiting) (output_end site f.lane) f.frame) h.ports agents agents' violations violations' strays t.tree t.routes cs (same_ports port) same.0 same.1)))))
 

@@ -13,12 +13,12 @@ use Rattle.request_handling.specs.Heads.{descriptor_of}
 use Rattle.domain.specs.Machine.{change}
 use Rattle.domain_parts.specs.State.{Change}
 use Rattle.agents.specs.Agents.{AgentsView, carried_by_function, carried_by_host, delivered, emitted_if, is_function_of, is_of_domain, joined, outbox_place}
-use Rattle.link.specs.Channels.{is_full}
+use Rattle.link.specs.Channels.{is_full, with_egress}
 use Rattle.lane.specs.Lanes.{Class}
 use Rattle.domains.specs.Domains.{Made, domain_at, made, place_of, place_of_function}
 use Rattle.topology.specs.Links.{sender_of}
 use Rattle.topology.specs.declared.nodes.LinkEnd.{LinkEnd}
-use Rattle.interconnect.specs.Moves.{channel_at, put_at, with_egress}
+use Rattle.interconnect.specs.Moves.{channel_at, put_at}
 use Rattle.fabric_core.specs.Aliens.{alien_at_function, alien_at_host, or_else, receiver_at_host}
 use Rattle.fabric_core.specs.Receipts.{Carry, Deliver, Receipt, Nobody, Relay, Taken, arrive, arrived, arrived_by, agents_by_host, ended, receipt_at_function, receipt_at_host, from_host, relayed, root, rooted, rooted_by, taken, to_function, to_host}
 use Rattle.fabric_core.specs.Invariant.{IsConsistent}

@@ -6,11 +6,11 @@ use Rattle.fab_types.specs.declared.place.Direction.{Direction}
 use Rattle.fab_types.specs.declared.origin.Origin.{Origin}
 use Rattle.frame_log.specs.Descriptor.{Descriptor}
 use Rattle.agents.specs.Agents.{AgentsView, IsSettled, outbox_place, taken_from, waiting_of}
-use Rattle.link.specs.Channels.{Channel, has_room, is_full, received_of, deliver, same_counters, send, sent_on, spent, update_fc, unspent}
+use Rattle.link.specs.Channels.{Channel, deliver, has_room, is_full, received_of, same_counters, send, sent_on, spent, unspent, update_fc, with_egress}
 use Rattle.lane.specs.Lanes.{Class, class_of, eligible}
 use Rattle.topology.specs.Links.{sender_of}
 use Rattle.topology.specs.declared.nodes.LinkEnd.{LinkEnd}
-use Rattle.interconnect.specs.Moves.{channel_at, on_channel, put_at, with_channel, with_egress}
+use Rattle.interconnect.specs.Moves.{channel_at, on_channel, put_at, with_channel}
 use Rattle.fabric_core.specs.Events.{enter, entered_at, link_of}
 use Rattle.fabric_core.specs.Invariant.{IsConsistent}
 use Rattle.fabric_core.specs.Places.{frames_on, frames_of}

@@ -10,12 +10,12 @@ use Rattle.fab_types.specs.declared.origin.Origin.{Origin}
 use Rattle.frame_log.specs.Descriptor.{Descriptor}
 use Rattle.agents.specs.Agents.{Outbox, joined, outbox_place, waiting_at, waiting_in as waiting_found, with_waiting_at, with_waiting_in}
 use Rattle.fab_types.specs.Origins.{same_origin}
-use Rattle.link.specs.Channels.{Channel}
+use Rattle.link.specs.Channels.{Channel, with_egress}
 use Rattle.lane.specs.Lanes.{Class, class_of, eligible}
 use Rattle.port.specs.Turns.{PortView}
 use Rattle.topology.specs.Topologies.{IsEnd}
 use Rattle.topology.specs.declared.nodes.LinkEnd.{LinkEnd}
-use Rattle.interconnect.specs.Moves.{channel_at, left_at, no_channel, put_at, with_channel, with_egress, with_ingress}
+use Rattle.interconnect.specs.Moves.{channel_at, left_at, no_channel, put_at, with_channel, with_ingress}
 use Rattle.interconnect.specs.Passes.{no_port}
 use Rattle.fabric_core.specs.Passing.{kept_by}
 use Rattle.fabric_core.specs.Places.{frames_from, frames_on, strays_of, waiting_in}

@@ -21,11 +21,13 @@ use Rattle.domains.specs.Domains.{Made, made, place_of}
 use Rattle.topology.specs.Topologies.{IsEnd, IsFromElsewhere, IsPlace}
 use Rattle.topology.specs.declared.nodes.LinkEnd.{LinkEnd}
 use Rattle.topology.specs.declared.places.PortPlace.{PortPlace}
-use Rattle.interconnect.specs.Moves.{channel_at, put_at, with_egress}
+use Rattle.link.specs.Channels.{with_egress}
+use Rattle.interconnect.specs.Moves.{channel_at, put_at}
 use Rattle.interconnect.specs.Passes.{index_of, no_place, no_port}
 use Rattle.fabric_core.specs.Receipts.{Taken, taken_at}
 use Rattle.fabric_core.specs.Invariant.{IsFree, IsConsistent, IsPlaced}
-use Rattle.fabric_core.specs.Passing.{Site, answer_waits, answered_at, is_full_at, kept_by, output_end, may_pass, passed, passed_at, passed_by, passed_number, port_number, refused_by, site_at, strayed, turned}
+use Rattle.vetted.specs.Vetted.{may_go_on}
+use Rattle.fabric_core.specs.Passing.{Site, answer_waits, answered_at, is_full_at, kept_by, output_end, passed, passed_at, passed_by, passed_number, port_number, refused_by, site_at, strayed, turned}
 use Rattle.fabric_core.specs.Places.{frames_from, frames_of}
 use Rattle.fabric_core.specs.World.{World, with_channels}
 use Rattle.fabric_core.proofs.invariant.Changing.{Changed, then_back, then_gained, unchanged}
@@ -138,7 +140,7 @@ stopped_by w w' site report t kept is out false e = subst IsConsistent (some_is 
 -- ---- by its course
 
 passed_as : (w w' : World) (site : Site) (class : Class) (t : Taken) (course : Forwarding) → IsConsistent w → IsSite w site → TakenOut w t → IsWithin (length site.config.exits) course → passed_by w site class t course ≡ Some w' → IsConsistent w'
-passed_as w w' site class t (To output) kept is out less e = forwarded_by w w' site output t kept is out less (is_full_at w site output class) (may_pass w site t.frame) e
+passed_as w w' site class t (To output) kept is out less e = forwarded_by w w' site output t kept is out less (is_full_at w site output class) (may_go_on w.routes.ports t.frame) e
 passed_as w w' site class t (Stop report) kept is out less e = stopped_by w w' site report t kept is out (answer_waits w site class) e
 passed_as w w' site class t NoCase kept is out less e = subst IsConsistent (some_is (strayed w site t) w' e) (kept_strayed w site t kept is out)
 

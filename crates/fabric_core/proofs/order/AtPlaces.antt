@@ -9,14 +9,14 @@ use Rattle.fab_types.specs.declared.place.Place.TheVariants as place
 use Rattle.fab_types.specs.declared.place.Place.TheVariants.{Egress, Wire, Ingress}
 use Rattle.frame_log.specs.Descriptor.{Descriptor}
 use Rattle.agents.specs.Agents.{Outbox}
-use Rattle.link.specs.Channels.{Channel}
+use Rattle.link.specs.Channels.{Channel, with_egress}
 use Rattle.ordering.specs.Ordering.{passes}
 use Rattle.ordering.proofs.Leaving.{taken_leaves}
 use Rattle.lane.specs.Lanes.{Class, class_of, eligible}
 use Rattle.topology.specs.Links.{sender_of}
 use Rattle.topology.specs.declared.links.Link.{Link}
 use Rattle.topology.specs.declared.nodes.LinkEnd.{LinkEnd}
-use Rattle.interconnect.specs.Moves.{channel_at, left_at, no_channel, put_at, with_channel, with_egress, with_ingress}
+use Rattle.interconnect.specs.Moves.{channel_at, left_at, no_channel, put_at, with_channel, with_ingress}
 use Rattle.fabric_core.specs.Trails.{channel_in, egress_of, ingress_of, standing_in, wire_of}
 use Rattle.fabric_core.proofs.soundness.SoundLinks.{Either, either_channel}
 use Rattle.fabric_core.proofs.invariant.Standing.{IsThere}

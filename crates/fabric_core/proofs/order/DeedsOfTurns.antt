@@ -55,7 +55,7 @@ use Rattle.fabric_core.proofs.order.DeedTaking.{TakenAway, goes_then, put_then, 
 use Rattle.fabric_core.proofs.order.Deeds.{Deed, Finishes, JoiningIf, Leaps}
 use Rattle.fabric_core.proofs.soundness.GuardedAliens.{passes_as_turned}
 use Rattle.fabric_core.proofs.soundness.GuardedEnds.{answer_sound, legal_at_home}
-use Rattle.fabric_core.proofs.soundness.GuardedTurns.{at_place, may_pass_on}
+use Rattle.fabric_core.proofs.soundness.GuardedTurns.{at_place, may_go_on_here}
 use Rattle.fabric_core.proofs.soundness.Sites.{Standing, output_sends, own_output_end, sent_below, standing}
 
 -- a direction of this way
@@ -66,10 +66,10 @@ module _ (w w' : World) (kept : IsConsistent w) (g : IsGuardedFabric w) (directi
   -- ---- it goes on
 
   -- an output of a switch that leads where it is to go
-  goes_on : (switch : Switch) (site : Site) (class : Class) (output : ℕ) → Contains g.platform.switches switch → site.node ≡ (upstream_end g.platform switch.id).node → site.config.is_guarded ≡ true → (on : GoesOn g.platform switch t.frame output)
+  goes_on : (switch : Switch) (site : Site) (class : Class) (output : ℕ) → Contains g.platform.switches switch → site.node ≡ (upstream_end g.platform switch.id).node → (on : GoesOn g.platform switch t.frame output)
       → Leaps g.platform t.frame (Ingress direction) (Egress on.direction) → passed_by w site class t (To output) ≡ Some w' → Deed g.platform w w'
-  goes_on switch site class output within node guarded on leaps is =
-      unless (is_full_at w site output class) (ap (λ (b : Bool). cond (is_full_at w site output class) None (cond b (Some put) (Some (strayed w site t)))) (sym (may_pass_on w w' g direction t k.soundly site guarded on.owned)) ∙ is)
+  goes_on switch site class output within node on leaps is =
+      unless (is_full_at w site output class) (ap (λ (b : Bool). cond (is_full_at w site output class) None (cond b (Some put) (Some (strayed w site t)))) (sym (may_go_on_here w w' g direction t k.soundly on.owned)) ∙ is)
     where
       put : World
       put = with_channels w (put_at t.channels (output_end site output) t.frame)
@@ -109,7 +109,7 @@ passed_upstream w w' kept g i switch class (Some t) listed out is =
     by : TakenAway w kept g (down switch.id) t → Contains g.platform.switches switch → (course : Forwarding) → PassesDown g.platform switch t.frame course
         → passed_by w (record { number = i; node = (upstream_place g.platform switch).node; config = upstream_config g.platform switch }) class t course ≡ Some w' → Deed g.platform w w'
     by k within (To output) on is =
-        goes_on w w' kept g (down switch.id) t k switch (record { number = i; node = (upstream_place g.platform switch).node; config = upstream_config g.platform switch }) class output within refl g.guarded.controls on.1
+        goes_on w w' kept g (down switch.id) t k switch (record { number = i; node = (upstream_place g.platform switch).node; config = upstream_config g.platform switch }) class output within refl on.1
         (falls_by w g switch t.frame output within on.0 on.1) is
     by k within (Stop report) on is = absurd on
     by k within NoCase on is = absurd on
@@ -156,7 +156,7 @@ module _ (up_routes : RoutesUp) (w w' : World) (kept : IsConsistent w) (g : IsGu
   passed_as class (To output) same on is =
       let s = found (λ (x : Switch). internal_bus x == bus_of line.id) g.platform.switches on.0 on.1 in
       let node = own_node g.platform g.guarded.laws on.0 line s.0 (sym (eqb-true (internal_bus on.0) (bus_of line.id) s.1)) in
-      goes_on w w' kept g (up (id_below line)) t k on.0 site class output s.0 node g.guarded.controls on.2 (rises_by on.0 output on.1 on.2 on.3) is
+      goes_on w w' kept g (up (id_below line)) t k on.0 site class output s.0 node on.2 (rises_by on.0 output on.1 on.2 on.3) is
   passed_as class (Stop report) same on is = stopped_unless report (answer_waits w site class) same on is
   passed_as class NoCase same on is = absurd on
 

@@ -32,7 +32,8 @@ use Rattle.fabric_core.specs.Receipts.{Carry, Deliver, Receipt, Nobody, Relay, T
 use Rattle.fabric_core.specs.Events.{effect, entered_at, link_of}
 use Rattle.fabric_core.specs.Invariant.{IsConsistent}
 use Rattle.fabric_core.specs.Losing.{pass}
-use Rattle.fabric_core.specs.Passing.{Site, answer_waits, answered_at, is_full_at, output_end, may_pass, passed, passed_by, passed_number, port_number, refused_by, site_at, strayed}
+use Rattle.vetted.specs.Vetted.{may_go_on}
+use Rattle.fabric_core.specs.Passing.{Site, answer_waits, answered_at, is_full_at, output_end, passed, passed_by, passed_number, port_number, refused_by, site_at, strayed}
 use Rattle.fabric_core.specs.Places.{IsFlown}
 use Rattle.fabric_core.specs.Soundness.{IsGuardedFabric, config_of}
 use Rattle.fabric_core.specs.TakenOut.{tells_credits}
@@ -200,7 +201,7 @@ module _ (is_told : Violation → Bool) where
     refused_tightens report (Some m) e none free = record { tree = refl; configs = refl; origins = refl; links = answered_narrow m.sent (answer_place m e free); violations = unfound is_told w.violations report none }
 
     course_tightens : (course : Forwarding) → ((v : Violation) → course ≡ Stop (Some v) → is_told v ≡ false) → Tighten w (passed_by w site class t course)
-    course_tightens (To output) none = forward_tightens output (is_full_at w site output class) (may_pass w site t.frame) refl
+    course_tightens (To output) none = forward_tightens output (is_full_at w site output class) (may_go_on w.routes.ports t.frame) refl
     course_tightens (Stop report) none =
         unless w _ (answer_waits w site class) (refused_tightens report (made w.agents.domains t.frame.domain (entry.Refuse t.frame.number)) refl (λ v e. none v (ap Stop e)))
     course_tightens NoCase none = strayed_tightens

@@ -24,7 +24,8 @@ use Rattle.interconnect.specs.Passes.{index_of, no_place, no_port}
 use Rattle.fabric_core.specs.Receipts.{Taken, taken_at}
 use Rattle.fabric_core.specs.Isolation.{home_of_taken, home_passed, is_number}
 use Rattle.fabric_core.specs.Losing.{pass}
-use Rattle.fabric_core.specs.Passing.{Site, answer_waits, answered_at, is_full_at, kept_by, output_end, may_pass, passed, passed_at, passed_by, passed_number, port_number, refused_by, site_at, strayed, turned}
+use Rattle.vetted.specs.Vetted.{may_go_on}
+use Rattle.fabric_core.specs.Passing.{Site, answer_waits, answered_at, is_full_at, kept_by, output_end, passed, passed_at, passed_by, passed_number, port_number, refused_by, site_at, strayed, turned}
 use Rattle.fabric_core.specs.Soundness.{IsGuardedFabric, config_of}
 use Rattle.fabric_core.specs.World.{World, with_channels}
 use Rattle.fabric_core.proofs.soundness.GuardedAliens.{passes_as_turned}
@@ -100,7 +101,7 @@ module _ (d : ℕ) (is_told : Violation → Bool) (w : World) (channels : List (
       waits_too Completion free = refl
 
       course_too : (course : Forwarding) → Both (passed_by w site class t course) (passed_by other site class too course)
-      course_too (To output) = forward_too output (may_pass w site t.frame)
+      course_too (To output) = forward_too output (may_go_on w.routes.ports t.frame)
       course_too (Stop report) =
           follows_unless (Mirrors d is_told) (answer_waits w site class) (answer_waits other site class) _ _ (waits_too class)
           (refused_too report (made w.agents.domains t.frame.domain (Refuse t.frame.number)) (made agents.domains t.frame.domain (Refuse t.frame.number)) (made_home d w.agents.domains agents.domains numbers m.agents.domains (Refuse t.frame.number) t.frame.domain is))

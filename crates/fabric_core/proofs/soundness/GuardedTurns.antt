@@ -1,6 +1,6 @@
 -- A guarded fabric through the turn of a port: the packet goes on to where it is sound, or is stopped with a case.
 use Rattle.std.proofs.Common.{◌≡◌, ℕ, ◌==◌, Bool, true, false, cond, ◌++◌, Option, Some, None, refl, sym, ap, ◌∙◌, subst, arith, eqb-true}
-use Rattle.std.specs.Prelude.{Contains, option_to_list, slice_index_or}
+use Rattle.std.specs.Prelude.{◌||◌, not, Contains, option_to_list, slice_index_or}
 use Rattle.std.specs.Option.{option_and_then}
 use Rattle.std.proofs.lemmas.List.Quantifiers.{position-Some}
 use Rattle.std.proofs.lemmas.Option.{same_Some}
@@ -19,7 +19,7 @@ use Rattle.domain.specs.declared.entry.Entry.TheVariants.{Refuse}
 use Rattle.port.specs.Configs.{Config, downstream_config, upstream_config}
 use Rattle.port.specs.Courses.{course_of}
 use Rattle.lane.specs.Lanes.{Class}
-use Rattle.port.specs.Vetted.{may_go_on, requester_owner}
+use Rattle.vetted.specs.Vetted.{is_own, may_go_on, requester_owner}
 use Rattle.port.specs.declared.course.Forwarding.{Forwarding}
 use Rattle.port.specs.declared.course.Forwarding.TheVariants.{To, Stop, NoCase}
 use Rattle.domains.specs.Domains.{Made, made}
@@ -45,7 +45,7 @@ use Rattle.guarded_routes.proofs.Trees.{IsPort}
 use Rattle.fabric_core.specs.Receipts.{Taken, taken_at}
 use Rattle.fabric_core.specs.Invariant.{IsConsistent}
 use Rattle.fabric_core.specs.Losing.{pass}
-use Rattle.fabric_core.specs.Passing.{Site, answer_waits, answered_at, is_full_at, output_end, may_pass, passed, passed_at, passed_by, passed_number, port_number, refused_by, strayed}
+use Rattle.fabric_core.specs.Passing.{Site, answer_waits, answered_at, is_full_at, output_end, passed, passed_at, passed_by, passed_number, port_number, refused_by, strayed}
 use Rattle.fabric_core.specs.Soundness.{IsGuardedFabric}
 use Rattle.fabric_core.specs.World.{World, with_channels}
 use Rattle.fabric_core.proofs.invariant.Flying.{refuse_ends}
@@ -58,10 +58,10 @@ use Rattle.fabric_core.proofs.soundness.SoundLinks.{SoundFrom, SoundOn, sound_pu
 module _ (w w' : World) (g : IsGuardedFabric w) (direction : Direction) (t : Taken) (k : SoundlyTaken w g direction t) where
   -- ---- it goes on
 
-  pub may_pass_on : (site : Site) → site.config.is_guarded ≡ true → may_go_on true (requester_owner g.platform.ports t.frame.head.header) t.frame ≡ true → may_pass w site t.frame ≡ true
-  may_pass_on site guarded owned =
-      ap (λ (b : Bool). may_go_on b (requester_owner w.routes.ports t.frame.head.header) t.frame) guarded
-      ∙ (ap (λ (r : Routes). may_go_on true (requester_owner r.ports t.frame.head.header) t.frame) g.of_it.routes ∙ owned)
+  pub may_go_on_here : is_own (requester_owner g.platform.ports t.frame.head.header) t.frame ≡ true → may_go_on w.routes.ports t.frame ≡ true
+  may_go_on_here owned =
+      ap (λ (r : Routes). may_go_on r.ports t.frame) g.of_it.routes
+      ∙ (ap (λ (guarded : Bool). not guarded || is_own (requester_owner g.platform.ports t.frame.head.header) t.frame) g.guarded.controls ∙ owned)
 
   -- into the direction that an output of the switch leads into
   output_sound : (switch : Switch) (site : Site) (output : ℕ) → Contains g.platform.switches switch → site.node ≡ (upstream_end g.platform switch.id).node → GoesOn g.platform switch t.frame output → SoundFrom g.platform w.tree.links (output_end site output) t.frame
@@ -70,9 +70,9 @@ module _ (w w' : World) (g : IsGuardedFabric w) (direction : Direction) (t : Tak
       (ap (λ (x : Tree). sender_of x.links on.direction) g.of_it.tree
       ∙ (output_sends g.platform g.guarded switch output on.direction t.frame within on.leads on.sound ∙ ap (λ (n : ℕ). Some (record { node = n; output = output })) (sym node))) on.sound
 
-  goes_on : (switch : Switch) (site : Site) (class : Class) (output : ℕ) → Contains g.platform.switches switch → site.node ≡ (upstream_end g.platform switch.id).node → site.config.is_guarded ≡ true → GoesOn g.platform switch t.frame output
+  goes_on : (switch : Switch) (site : Site) (class : Class) (output : ℕ) → Contains g.platform.switches switch → site.node ≡ (upstream_end g.platform switch.id).node → GoesOn g.platform switch t.frame output
       → passed_by w site class t (To output) ≡ Some w' → IsGuardedFabric w'
-  goes_on switch site class output within node guarded on is = unless (is_full_at w site output class) (ap (λ (b : Bool). cond (is_full_at w site output class) None (cond b (Some put) (Some (strayed w site t)))) (sym (may_pass_on site guarded on.owned)) ∙ is)
+  goes_on switch site class output within node on is = unless (is_full_at w site output class) (ap (λ (b : Bool). cond (is_full_at w site output class) None (cond b (Some put) (Some (strayed w site t)))) (sym (may_go_on_here on.owned)) ∙ is)
     where
       put : World
       put = with_channels w (put_at t.channels (output_end site output) t.frame)
@@ -100,7 +100,7 @@ passed_upstream w w' g i switch class (Some t) listed out is =
     by : SoundlyTaken w g (record { lower = switch.id; way = Down }) t → Contains g.platform.switches switch → (course : Forwarding) → PassesDown g.platform switch t.frame course
         → passed_by w (record { number = i; node = (upstream_place g.platform switch).node; config = upstream_config g.platform switch }) class t course ≡ Some w' → IsGuardedFabric w'
     by k within (To output) on is =
-        goes_on w w' g (record { lower = switch.id; way = Down }) t k switch (record { number = i; node = (upstream_place g.platform switch).node; config = upstream_config g.platform switch }) class output within refl g.guarded.controls on.1 is
+        goes_on w w' g (record { lower = switch.id; way = Down }) t k switch (record { number = i; node = (upstream_place g.platform switch).node; config = upstream_config g.platform switch }) class output within refl on.1 is
     by k within (Stop report) on is = absurd on
     by k within NoCase on is = absurd on
 
@@ -140,7 +140,7 @@ module _ (up : RoutesUp) (w w' : World) (g : IsGuardedFabric w) (i : ℕ) (line 
   passed_as class (To output) same on is =
       let s = found (λ (x : Switch). internal_bus x == bus_of line.id) g.platform.switches on.0 on.1 in
       let node = own_node g.platform g.guarded.laws on.0 line s.0 (sym (eqb-true (internal_bus on.0) (bus_of line.id) s.1)) in
-      goes_on w w' g (record { lower = id_below line; way = Up }) t k on.0 site class output s.0 node g.guarded.controls on.2 is
+      goes_on w w' g (record { lower = id_below line; way = Up }) t k on.0 site class output s.0 node on.2 is
   passed_as class (Stop report) same on is = stopped_unless report (answer_waits w site class) same on is
   passed_as class NoCase same on is = absurd on
 

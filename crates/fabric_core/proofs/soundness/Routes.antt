@@ -24,7 +24,8 @@ use Rattle.fabric_core.specs.declared.event.Event.TheVariants.{Arrive, Credit, E
 use Rattle.fabric_core.specs.Receipts.{Carry, Deliver, Receipt, Nobody, Relay, Taken, arrived, arrived_by, agents_by_function, agents_by_host, ended, receipt_at_function, receipt_at_host, from_host, relayed, rooted, rooted_by, taken, taken_at, to_function, to_host}
 use Rattle.fabric_core.specs.Events.{effect, entered_at, link_of}
 use Rattle.fabric_core.specs.Losing.{Losing, losing, passed_unless}
-use Rattle.fabric_core.specs.Passing.{Site, answer_waits, is_full_at, may_pass, passed, passed_by, passed_number, refused_by, site_at}
+use Rattle.vetted.specs.Vetted.{may_go_on}
+use Rattle.fabric_core.specs.Passing.{Site, answer_waits, is_full_at, passed, passed_by, passed_number, refused_by, site_at}
 use Rattle.fabric_core.specs.World.{World, with_channels, with_agents}
 
 -- the world after it, if there is one, has the same switches and ports
@@ -84,7 +85,7 @@ refused w site report t None = refl
 refused w site report t (Some m) = refl
 
 by_course : (w : World) (site : Site) (class : Class) (t : Taken) (course : Forwarding) → Keeps w (passed_by w site class t course)
-by_course w site class t (To output) = either w _ _ (is_full_at w site output class) (may_pass w site t.frame) refl refl
+by_course w site class t (To output) = either w _ _ (is_full_at w site output class) (may_go_on w.routes.ports t.frame) refl refl
 by_course w site class t (Stop report) = unless w _ (answer_waits w site class) (refused w site report t (made w.agents.domains t.frame.domain (Refuse t.frame.number)))
 by_course w site class t NoCase = refl
 

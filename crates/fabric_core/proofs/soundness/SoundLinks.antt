@@ -5,12 +5,12 @@ use Rattle.std.proofs.lemmas.List.Elements.{All-cons, All-head, All-nil}
 use Rattle.fab_types.specs.declared.place.Direction.{Direction}
 use Rattle.frame_log.specs.Descriptor.{Descriptor}
 use Rattle.platform.specs.Platform.{Platform}
-use Rattle.link.specs.Channels.{Channel}
+use Rattle.link.specs.Channels.{Channel, with_egress}
 use Rattle.lane.specs.Lanes.{Class, class_of, eligible}
 use Rattle.topology.specs.declared.links.Link.{Link}
 use Rattle.topology.specs.declared.nodes.LinkEnd.{LinkEnd}
 use Rattle.topology.specs.Links.{sender_of}
-use Rattle.interconnect.specs.Moves.{channel_at, left_at, no_channel, put_at, with_channel, with_egress, with_ingress}
+use Rattle.interconnect.specs.Moves.{channel_at, left_at, no_channel, put_at, with_channel, with_ingress}
 use Rattle.guarded_routes.specs.Sound.{IsSound}
 use Rattle.fabric_core.specs.Places.{frames_on}
 use Rattle.fabric_core.specs.Soundness.{IsUnsent}

@@ -35,7 +35,8 @@ use Rattle.request_handling.specs.Answers.{address_of, blank, page_at, reads_not
 use Rattle.domain_parts.specs.HostAccesses.{head_for, host_request, is_in_page, size_of}
 use Rattle.request_handling.specs.WellMade.{IsWellMade}
 use Rattle.fabric_core.specs.Soundness.{IsPage}
-use Rattle.fabric_core.proofs.soundness.WellSpelled.{all_fits, made_access, moved_access, moved_well, read_well, refusal_well}
+use Rattle.domain.proofs.CompletionsRead.{refusal_well}
+use Rattle.fabric_core.proofs.soundness.WellSpelled.{all_fits, made_access, moved_access, moved_well, read_well}
 
 -- ---- lengths
 

@@ -1,12 +1,11 @@
 -- The bytes of completions and requests that a domain makes are well formed.
-use Rattle.std.proofs.Common.{◌≡◌, ℕ, zero, suc, ◌+◌, ◌-◌, ◌*◌, ◌/◌, ◌%◌, ◌^◌, ◌<◌, ◌≤◌, ◌==◌, ◌&&◌, Bool, true, false, cond, nat_lt, List, [], ◌∷◌, ◌++◌, length, slice_index, Option, Some, None, refl, sym, ap, ◌∙◌, subst, arith}
+use Rattle.std.proofs.Common.{◌≡◌, ℕ, zero, suc, ◌+◌, ◌-◌, ◌*◌, ◌/◌, ◌%◌, ◌^◌, ◌<◌, ◌≤◌, ◌==◌, ◌&&◌, Bool, true, false, cond, nat_lt, List, ◌∷◌, ◌++◌, length, slice_index, Option, Some, None, refl, sym, ap, ◌∙◌, subst, arith}
 use Rattle.std.specs.Prelude.{unwrap_or}
 use Rattle.std.proofs.lemmas.Bool.{and_right, cond-false, false≢true, ltb-true, ne_eqb}
 use Rattle.std.proofs.lemmas.Nat.{from_be_bytes-to_be_bytes_4, from_be_bytes-to_be_bytes_8}
 use Rattle.fab_types.specs.declared.faults.malformed.Malformed.TheVariants.{Short, Size, Enables as BadEnables, Crosses, HighForm, Field}
 use Rattle.fab_types.specs.declared.head.AddressType.{AddressType}
 use Rattle.fab_types.specs.declared.head.AddressType.TheVariants.{Untranslated}
-use Rattle.fab_types.specs.declared.status.Status.{Status}
 use Rattle.fab_types.specs.declared.status.Status.TheVariants.{SC}
 use Rattle.function.specs.Accesses.{IsAccess, IsAccessKind}
 use Rattle.tlp_view.specs.declared.attributes.Attributes.{Attributes}
@@ -16,7 +15,7 @@ use Rattle.tlp_view.specs.declared.kind.Kind.{Kind}
 use Rattle.tlp_view.specs.declared.kind.Kind.TheVariants.{MRd, MWr, Cpl, CplD}
 use Rattle.tlp_view.specs.declared.request.RequestHead.{RequestHead}
 use Rattle.tlp_view.specs.Bytes.{address_at, bits, enables_at, fmt_at, is_set, has_4dw_header_at, length_at, packet_of, packet_of_kind, type_at}
-use Rattle.tlp_view.specs.Completions.{byte_count, completion, completion_bytes, data_body, first_place, last_end, lower_address, read_completion, refusal}
+use Rattle.tlp_view.specs.Completions.{byte_count, completion, completion_bytes, data_body, first_place, last_end, lower_address, read_completion}
 use Rattle.tlp_view.specs.Kinds.{has_form, is_memory, kind_at}
 use Rattle.tlp_view.specs.Malformed.{crosses, has_bad_common, has_bad_enables, has_bad_field, has_bad_size, is_short, malformed, malformed_of_kind}
 use Rattle.tlp_view.specs.Packet.{Body, Completion, Packet, address_in, dw_count, enables_in}
@@ -91,11 +90,6 @@ read_well completer t bytes some few long =
     λ i. completion_bytes (record { kind = sym kind i; has_4dw_header = false; attributes = t.attributes; address_type = Untranslated; length = whole i; requester = t.requester; tag = t.tag; body = s.body i; payload = bytes }) in
     let size : length (completion_bytes (completion head count bytes)) ≡ 12 + length bytes = omega arith in
     (ap malformed same ∙ completion_well_formed head bytes (record { byte_count = s.few; lower_address = s.low }) count few long, ap (λ (bs : List ℕ). length bs) same ∙ size)
-
-pub refusal_well : (completer : ℕ) (status : Status) (t : Packet) → malformed (completion_bytes (refusal completer status t)) ≡ None
-refusal_well completer status t =
-    let head : CompletionHead = record { completer = completer; status = status; byte_count = 4; requester = t.requester; tag = t.tag; lower_address = 0; attributes = t.attributes } in
-    completion_well_formed head [] (record { byte_count = omega arith; lower_address = omega arith }) 0 (omega arith) refl
 
 -- ---- requests
 

@@ -1,3 +1,4 @@
+use Rattle.vetted.specs.Vetted.{frame_in}
 use Rattle.port.proofs.OneLane.{put_at, kept_at, refused_kept}
 use Rattle.port.proofs.slots.refuse_at.Goals as goal
 
@@ -31,4 +32,4 @@ pub returns-clause-lanes : goal.returns-clause-lanes
 returns-clause-lanes g c = kept_at g.O.LaneOut.lane c.args.outs.now c.args.own c.index-outs-own.result c.refuse.new.back c.refuse.ensures.lane
 
 pub returns-clause-kept : goal.returns-clause-kept
-returns-clause-kept g c = refused_kept g.O.LaneOut.may_refuse c.args.outs.now c.args.own c.index-outs-own.result c.requires.lane c.refuse.new.kept c.refuse.ensures.kept
+returns-clause-kept g c = refused_kept g.O.LaneOut.may_refuse c.args.outs.now c.args.own c.index-outs-own.result c.requires.lane (frame_in c.refuse.new.kept) c.refuse.ensures.kept

@@ -1,12 +1,10 @@
 use Rattle.std.proofs.Common.{◌≡◌, sym, ap, ◌∙◌, inr}
 use Rattle.lane.specs.Lanes.{Class, class_of}
-use Rattle.port.specs.Vetted.{Vetted}
 use Rattle.lane.proofs.Waiting.{class_of-taken}
 use Rattle.port.proofs.steps.forward.Goals as goal
 
 pub returns-in-Err-push-clause-blocked : goal.returns-in-Err-push-clause-blocked
 returns-in-Err-push-clause-blocked g c = λ e.
     let of_class : class_of c.in-Some.frame ≡ c.args.class = class_of-taken c.args.class _ _ c.in-Some.frame c.in-Some.ensures.taken in
-    let same : c.into_frame.result ≡ c.in-Some.frame = c.into_frame.ensures ∙ ap (λ (v : Vetted). v.frame) c.in-Ok.ensures.0 in
-    let refused = ap (λ (d : Class). g.O.LaneOut.may_refuse c.is_full.new.self d) (sym (ap class_of same ∙ of_class)) ∙ c.in-Err-push.ensures.full in
-    inr (sym (c.is_full.ensures.same c.args.class) ∙ refused)
+    let refused = ap (λ (d : Class). g.O.LaneOut.may_refuse c.is_full.new.self d) (sym (ap class_of c.in-Ok.ensures.0 ∙ of_class)) in
+    inr (sym (c.is_full.ensures.same c.args.class) ∙ (refused ∙ c.in-Err-push.ensures.full))
