@@ -1,6 +1,7 @@
 //! Outputs that fail: what the commands answer then.
 
-use commands::{ExitStatus, FileFault, FileGiver, command};
+use commands::{ExitStatus, FileFault, FileGiver};
+use program::command;
 use std::alloc::Global;
 use std::io;
 use std::io::Write;

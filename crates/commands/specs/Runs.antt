@@ -14,8 +14,6 @@ use Rattle.commands.specs.Driving.{IsDriven}
 use Rattle.commands.specs.Isolated.{IsIsolated}
 use Rattle.commands.specs.Report.{IsReport}
 use Rattle.reports.specs.Report.{IsPart}
-use Rattle.command_line.specs.CommandLine.{Asked, First, Run, Alone, Journal, Replay}
-use Rattle.commands.specs.First.{Prints}
 use Rattle.journal_text.specs.Journals.{IsReadBack, journal_text}
 use Rattle.journal_text.specs.Reading as journal
 use Rattle.journals.specs.Steps.{entries_of}
@@ -106,11 +104,3 @@ pub record ReplayPrints (holds : List ℕ → List ℕ → Type 0) (layout_name 
   pub entries : domain.journal ≡ entries_of lines
   pub replays : replay share (entries_of lines) ≡ Some domain.state
   pub part : IsPart domain text
-
--- what a command prints that was asked for, where files may have these bytes under these names
-abbrev pub AskedPrints : (List ℕ → List ℕ → Type 0) → Asked → List ℕ → Type 0
-AskedPrints holds (First packet) text = Prints packet text
-AskedPrints holds (Run layout script) text = RunPrints holds layout script text
-AskedPrints holds (Alone layout script number) text = AlonePrints holds layout script number text
-AskedPrints holds (Journal layout script number) text = JournalPrints holds layout script number text
-AskedPrints holds (Replay layout journal number) text = ReplayPrints holds layout journal number text

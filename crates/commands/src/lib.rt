@@ -6,11 +6,12 @@ mod fault;
 mod files;
 mod first;
 mod inputs;
-mod program;
 mod replay;
 mod report;
 mod run;
 
 pub use fault::{ExitStatus, Fault};
 pub use files::{FileFault, FileGiver};
-pub use program::{command, stopped};
+pub use first::first;
+pub use replay::replay;
+pub use run::{alone, journal, run};

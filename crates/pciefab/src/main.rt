@@ -4,8 +4,8 @@
 
 mod host;
 
-use commands::{command, stopped};
 use host::HostFiles;
+use program::{command, stopped};
 use std::process::ExitCode;
 
 fn main(rt: HostRuntime) -> ExitCode {

@@ -4,14 +4,10 @@ ghost use Rattle.std.specs.Prelude.{◌≡◌, OnOk, map};
 ghost use Rattle.command_line.specs.CommandLine.{Ask, Asked, IsAsked};
 ghost use Rattle.reports.specs.Writing.{Wrote};
 ghost use Rattle.commands.specs.Endings.{status_of};
-ghost use Rattle.commands.specs.Runs.{AskedPrints};
+ghost use Rattle.program.specs.Asked.{AskedPrints};
 
-use crate::fault::{ExitStatus, Fault};
-use crate::files::FileGiver;
-use crate::first::first;
-use crate::replay::replay;
-use crate::run::{alone, journal, run};
 use command_line::Request;
+use commands::{ExitStatus, Fault, FileGiver, alone, first, journal, replay, run};
 use std::alloc::Global;
 use std::convert::AsStr;
 use std::io::Write;

@@ -3,9 +3,9 @@ use Rattle.std.specs.Prelude.{OnOk}
 use Rattle.reports.specs.Writing.{Wrote}
 use Rattle.command_line.specs.CommandLine.{First, Run, Alone, Journal, Replay}
 use Rattle.command_line.specs.declared.request.Request.TheVariants as request
-use Rattle.commands.specs.Runs.{AskedPrints}
+use Rattle.program.specs.Asked.{AskedPrints}
 use Rattle.command_line.proofs.Asking.{asked_alone}
-use Rattle.commands.proofs.program.perform.Goals as goal
+use Rattle.program.proofs.program.perform.Goals as goal
 
 pub returns-in-First : goal.returns-in-First
 returns-in-First g c = λ asked is.

@@ -1,5 +1,5 @@
 use Rattle.reports.proofs.Writing.{kept_after}
-use Rattle.commands.proofs.program.carried_out.Goals as goal
+use Rattle.program.proofs.program.carried_out.Goals as goal
 
 pub returns : goal.returns
 returns g c = λ asked ask. let done = c.in_ok-perform.ensures asked (c.in_ok-request.ensures.asked asked ask) in

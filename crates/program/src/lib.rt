@@ -1,0 +1,6 @@
+//! The program over given words, files and outputs: which command the words are, and what each prints.
+#![tactic(auto)]
+
+mod program;
+
+pub use program::{command, stopped};
