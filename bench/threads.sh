@@ -9,7 +9,7 @@ work=$(mktemp -d)
 trap 'rm -rf "$work"' EXIT
 mkdir -p "$work/crates/relays/src"
 cp "$here/HANDLES" "$work"
-needed='fab_types frame_log ordering port_queue lane crew wiring'
+needed='fab_types frame_log ordering port_queue text layout_line platform layout bridge acs vetted lane crew wiring'
 for crate in $needed; do
     cp -r "$here/crates/$crate" "$work/crates/$crate"
     rm -rf "$work/crates/$crate/must-fail" "$work/crates/$crate/more-edits"

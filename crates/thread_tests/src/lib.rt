@@ -11,3 +11,5 @@ mod lanes;
 mod relays;
 #[cfg(test)]
 mod rings;
+#[cfg(test)]
+mod sides;

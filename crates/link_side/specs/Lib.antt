@@ -1,0 +1,3 @@
+pub mod Rings
+pub mod Sides
+pub mod Steps
