@@ -119,9 +119,7 @@ fn proceed<W: Wait, I: LaneIn, O: LaneOut, D: Desk, R: Reporter>(
         return Outcome::Idle;
     };
     match port.course(bridge, &head) {
-        Forwarding::To(lane) => {
-            forward_at(input, outs, lane, &mut port.strays, bridge, class)
-        }
+        Forwarding::To(lane) => { forward_at(input, outs, lane, &mut port.strays, bridge, class) }
         Forwarding::Stop(report) => stop(
             port, rt, class, report, bridge, input, outs, desk, reporter,
         ),

@@ -46,11 +46,7 @@ fn both_ends(alloc: Global) -> Option<(OutEnd<VettedFrame>, InEnd<VettedFrame>)>
 }
 
 /// How often the lane said no: when it is asked, and when it gives the second packet back.
-fn refusals(
-    out: &mut OutEnd<VettedFrame>,
-    first: VettedFrame,
-    second: VettedFrame,
-) -> Option<u64> {
+fn refusals(out: &mut OutEnd<VettedFrame>, first: VettedFrame, second: VettedFrame) -> Option<u64> {
     if out.is_full(Class::Posted) || out.push(first).is_err() {
         return None;
     }
