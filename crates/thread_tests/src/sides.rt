@@ -57,7 +57,7 @@ fn both_ends<T: Drop>(alloc: Global) -> Option<(Ends<T>, Ends<T>)> {
     Some((first, second))
 }
 
-fn worker(links: Ends<Frame>, credits: Ends<Limits>) -> Worker {
+fn new_worker(links: Ends<Frame>, credits: Ends<Limits>) -> Worker {
     Worker {
         links,
         credits,
@@ -68,7 +68,7 @@ fn worker(links: Ends<Frame>, credits: Ends<Limits>) -> Worker {
 fn two_workers(alloc: Global) -> Option<(Worker, Worker)> {
     let (first, second) = both_ends(alloc)?;
     let (near, far) = both_ends(alloc)?;
-    Some((worker(first, near), worker(second, far)))
+    Some((new_worker(first, near), new_worker(second, far)))
 }
 
 fn packet<R: Wait>(rt: &R, log: &Log, class: Class, number: u64) -> Option<Frame> {
@@ -169,7 +169,7 @@ fn limits_that_find_the_ring_full_are_made_up_for_later(rt: HostRuntime) -> Resu
     let log = Log::new(rt.alloc())?;
     let (mut sender, mut receiver) = two_workers(rt.alloc()).ok_or("no workers")?;
     for number in 1..4 {
-        for class in [Class::Posted, Class::NonPosted] {
+        for class in [Class::NonPosted, Class::Posted] {
             assert!(rt; put(&mut sender, packet(&rt, &log, class, number)));
         }
     }
