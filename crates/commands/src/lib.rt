@@ -1,17 +1,14 @@
-//! The commands of the program, over given words, files and outputs: what each prints.
+//! The commands of the program, over given files and outputs: what each prints.
 #![tactic(auto)]
 
 mod drive;
 mod fault;
 mod files;
-mod first;
+pub mod first;
 mod inputs;
-mod replay;
+pub mod replay;
 mod report;
-mod run;
+pub mod run;
 
 pub use fault::{ExitStatus, Fault};
 pub use files::{FileFault, FileGiver};
-pub use first::first;
-pub use replay::replay;
-pub use run::{alone, journal, run};

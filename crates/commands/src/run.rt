@@ -123,7 +123,7 @@ fn domain_of(number: u32) -> Option<DomainId>
 }
 
 /// What the domain of this number starts from. There is none where it owns no port.
-pub fn start_of<'a>(alloc: Global, layout: &Layout, number: u32) -> Result<Start, Fault<'a>>
+pub(crate) fn start_of<'a>(alloc: Global, layout: &Layout, number: u32) -> Result<Start, Fault<'a>>
     ensures ok { IfOk result (λ share. share_of_owner layout.now number ≡ Some share) }
     ensures none { IfErr result (λ fault. (fault ≡ Fault.NoMemory) ⊎ ((fault ≡ Fault.NoDomain number) × (share_of_owner layout.now number ≡ None))) }
 {

@@ -7,7 +7,10 @@ ghost use Rattle.commands.specs.Endings.{status_of};
 ghost use Rattle.program.specs.Asked.{AskedPrints};
 
 use command_line::Request;
-use commands::{ExitStatus, Fault, FileGiver, alone, first, journal, replay, run};
+use commands::first::first;
+use commands::replay::replay;
+use commands::run::{alone, journal, run};
+use commands::{ExitStatus, Fault, FileGiver};
 use std::alloc::Global;
 use std::convert::AsStr;
 use std::io::Write;
