@@ -2,33 +2,12 @@
 
 use crate::example::EXAMPLE;
 use fab_types::{Bdf, DomainId};
-use layout::{Layout, Start};
+use layout::Layout;
 use platform::MapTarget;
 use std::test::Fail;
 
 fn read(rt: &HostRuntime, text: &str) -> Result<Layout, Fail> {
     Ok(Layout::read(rt.alloc(), text)?)
-}
-
-#[test]
-fn the_example_is_two_switches_five_ports_and_four_functions(rt: HostRuntime) -> Result<(), Fail> {
-    let layout = read(&rt, EXAMPLE)?;
-    assert!(rt; layout.is_guarded());
-    assert_eq!(rt; layout.switches().len(), 2);
-    assert_eq!(rt; layout.ports().len(), 5);
-    assert_eq!(rt; layout.functions().len(), 4);
-    Ok(())
-}
-
-#[test]
-fn one_control_missing_on_one_port_leaves_a_layout_unguarded(rt: HostRuntime) -> Result<(), Fail> {
-    let text = "pciefab 1
-switch 01:00.0 root
-port 02:00.0 03 03 90000000 900fffff 1f 1
-port 02:01.0 04 04 90100000 901fffff 17 1
-";
-    assert!(rt; !read(&rt, text)?.is_guarded());
-    Ok(())
 }
 
 #[test]
@@ -101,30 +80,5 @@ fn a_domain_starts_from_its_own_share(rt: HostRuntime) -> Result<(), Fail> {
     assert!(rt; start.is_guarded());
     let three = DomainId::new(3).ok_or("no domain")?;
     assert!(rt; layout.start(rt.alloc(), three)?.is_none());
-    Ok(())
-}
-
-#[test]
-fn a_domain_without_a_budget_line_may_make_256_begins(rt: HostRuntime) -> Result<(), Fail> {
-    let text = "pciefab 1
-switch 01:00.0 root
-port 02:00.0 03 03 90000000 900fffff 1f 7
-";
-    let seven = DomainId::new(7).ok_or("no domain")?;
-    let start = read(&rt, text)?
-        .start(rt.alloc(), seven)?
-        .ok_or("no start")?;
-    assert_eq!(rt; start.budget(), 256);
-    Ok(())
-}
-
-#[test]
-fn the_smallest_platform_has_one_of_each(rt: HostRuntime) -> Result<(), Fail> {
-    let start = Start::first(rt.alloc())?;
-    assert_eq!(rt; start.domain().get(), 1);
-    assert_eq!(rt; start.budget(), 256);
-    assert_eq!(rt; start.frames(), [0].as_slice());
-    assert_eq!(rt; (start.maps().len(), start.switches().len()), (1, 1));
-    assert_eq!(rt; (start.ports().len(), start.functions().len()), (1, 1));
     Ok(())
 }

@@ -13,5 +13,3 @@ mod layouts;
 mod memory;
 #[cfg(test)]
 mod routes;
-#[cfg(test)]
-mod scripts;

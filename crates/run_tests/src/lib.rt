@@ -4,4 +4,6 @@
 #[cfg(test)]
 mod lists;
 #[cfg(test)]
+mod moves;
+#[cfg(test)]
 mod taken_out;

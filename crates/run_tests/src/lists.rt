@@ -1,5 +1,6 @@
 //! Lists of single events: what each answers, and what the domains have of them.
 
+use crate::moves::{Move, direction};
 use domain::Entry;
 use fab_types::Class::{Completion, NonPosted, Posted};
 use fab_types::{Bdf, Direction, DomainId, Outcome, PacketBytes, Way};
@@ -9,7 +10,6 @@ use layout_tests::EXAMPLE;
 use std::alloc::Global;
 use std::sync::Wait;
 use std::test::Fail;
-use test_events::{Move, direction};
 
 /// A read of one DW at 1000 by 03:00.0.
 const READ_BY_03: [u8; 12] = [0, 0, 0, 1, 3, 0, 0x20, 0x0f, 0, 0, 0x10, 0];

@@ -1,14 +1,14 @@
 //! Runs without the events of other domains: what a domain has of them, beside what it has of the whole run.
 
+use crate::moves::{Move, sweep_of};
 use fab_types::Class::Posted;
-use fab_types::{Bdf, CompareFault, Direction, DomainId, Origin, PacketBytes, PortId, Way};
+use fab_types::{Bdf, CompareFault, DomainId, PacketBytes, Way};
 use fabric_core::{Comparison, Event, Fabric, compare_runs, purge_run};
 use layout::Layout;
 use layout_tests::EXAMPLE;
 use std::alloc::Global;
 use std::sync::Wait;
 use std::test::Fail;
-use test_events::sweep_of;
 
 /// A write of 03:00.0, and three reads of what it wrote: of four bytes, of two, and of none. How many spoofed writes
 /// come after each.
@@ -22,45 +22,19 @@ const PACKETS: [(&str, u32); 4] = [
 /// A write of 06:00.0 in the name of 03:00.0.
 const SPOOFED_WRITE: &str = "400000010300000f00001000deadbeef";
 
-/// How a posted packet of 06:00.0 goes to its port, and its credits come back.
-#[derive(Clone, Copy)]
-enum Step {
-    Enter,
-    Send,
-    Take,
-    Pass,
-    Credit,
-}
-
-const TO_THE_PORT: [Step; 5] = [
-    Step::Enter,
-    Step::Send,
-    Step::Take,
-    Step::Pass,
-    Step::Credit,
-];
-
+/// Who writes so, and the port above it.
 const SENDER: u16 = 0x0600;
 
-/// The port above it.
 const PORT: u16 = 0x0500;
 
-impl Step {
-    fn event(self) -> Event {
-        let sender = Bdf::from_bits(SENDER);
-        let up = Direction {
-            lower: sender,
-            way: Way::Up,
-        };
-        match self {
-            Step::Enter => Event::Enter(Origin::Function(sender), Posted),
-            Step::Send => Event::Send(up, Posted),
-            Step::Take => Event::Take(up),
-            Step::Pass => Event::Pass(PortId::new(Bdf::from_bits(PORT)), Posted),
-            Step::Credit => Event::Credit(up),
-        }
-    }
-}
+/// How a posted packet of 06:00.0 goes to its port, and its credits come back.
+const TO_THE_PORT: [Move; 5] = [
+    Move::EnterOfFunction(SENDER, Posted),
+    Move::Send(SENDER, Way::Up, Posted),
+    Move::Take(SENDER, Way::Up),
+    Move::Pass(PORT, Posted),
+    Move::Credit(SENDER, Way::Up),
+];
 
 /// A list of events over a layout.
 #[derive(Drop)]

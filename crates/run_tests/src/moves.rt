@@ -7,7 +7,7 @@ use std::alloc::{AllocError, Global};
 use sweeps::stations;
 
 /// A direction of the link at whose lower end this ID stands.
-pub fn direction(lower: u16, way: Way) -> Direction {
+pub(crate) fn direction(lower: u16, way: Way) -> Direction {
     Direction {
         lower: Bdf::from_bits(lower),
         way,
@@ -16,7 +16,7 @@ pub fn direction(lower: u16, way: Way) -> Direction {
 
 /// An event by which a packet goes on. IDs are given by their bits, a link by the one at its lower end.
 #[derive(Clone, Copy)]
-pub enum Move {
+pub(crate) enum Move {
     EnterOfFunction(u16, Class),
     EnterOfHost(DomainId, Class),
     Send(u16, Way, Class),
@@ -29,7 +29,7 @@ pub enum Move {
 
 impl Move {
     /// The event itself.
-    pub fn event(self) -> Event {
+    pub(crate) fn event(self) -> Event {
         match self {
             Move::EnterOfFunction(id, class) => {
                 Event::Enter(Origin::Function(Bdf::from_bits(id)), class)
@@ -57,7 +57,7 @@ fn add_moves(moves: &mut Vec<Event>, station: &Station) -> Result<(), AllocError
 }
 
 /// The events of a sweep of this layout.
-pub fn sweep_of(alloc: Global, layout: &Layout) -> Result<Vec<Event>, NoMemory> {
+pub(crate) fn sweep_of(alloc: Global, layout: &Layout) -> Result<Vec<Event>, NoMemory> {
     let fabric = Fabric::new(alloc, layout)?;
     let mut moves = Vec::new(alloc);
     for station in &stations(alloc, layout, fabric.domains())? {
