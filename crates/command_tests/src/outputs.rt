@@ -1,7 +1,6 @@
 //! Outputs that fail: what the commands answer then.
 
-use commands::{ExitStatus, FileFault, FileGiver};
-use program::command;
+use program::{ExitStatus, FileFault, FileGiver, command};
 use std::alloc::Global;
 use std::io;
 use std::io::Write;

@@ -1,6 +1,6 @@
 //! What the program takes from its host: its words, standard output, and files.
 
-use commands::{Fault, FileFault, FileGiver};
+use program::{Fault, FileFault, FileGiver};
 use std::io::{BufWriter, ErrorKind, Printer};
 use std::rt::{Env, Files};
 use std::{env, fs, io};

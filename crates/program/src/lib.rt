@@ -3,4 +3,5 @@
 
 mod program;
 
+pub use commands::{ExitStatus, Fault, FileFault, FileGiver};
 pub use program::{command, stopped};
