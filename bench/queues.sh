@@ -70,7 +70,9 @@ fn main(rt: HostRuntime) -> io::Result<()> {
         Some(word) => word.parse::<u64>().unwrap_or(1),
         None => 1,
     };
-    let mut queue = PortQueue::<u64, 127>::new();
+    let Ok(mut queue) = PortQueue::<u64, 127>::new(rt.alloc()) else {
+        return Ok(());
+    };
     fill(&mut queue, held);
     let sum = turns(&mut queue);
     let mut out = rt.stdout();

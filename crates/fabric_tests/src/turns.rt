@@ -34,7 +34,7 @@ fn lanes_of(alloc: Global, port: &Port, left: u64) -> Option<Vec<Giving>> {
     let mut outs = Vec::new(alloc);
     for _ in 0..port.lanes() {
         let lane = Giving {
-            queue: FrameQueue::new(),
+            queue: FrameQueue::new(alloc).ok()?,
             left,
             refused: 0,
         };
@@ -59,7 +59,7 @@ fn port_with(alloc: Global, id: u16, number: u8, left: u64) -> Option<Scene> {
         alloc,
         bridge,
         port,
-        input: FrameQueue::new(),
+        input: FrameQueue::new(alloc).ok()?,
         outs,
         desk: OneDomain { domain },
         place,

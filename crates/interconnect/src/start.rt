@@ -66,10 +66,10 @@ fn first_credits(layout: &Layout, lower: Bdf) -> Limits
 }
 
 /// Either direction of the link with this lower end.
-fn unused_below(layout: &Layout, lower: Bdf) -> Simplex
-    ensures { result ≡ unused_below layout.now lower }
+fn unused_below(alloc: Global, layout: &Layout, lower: Bdf) -> Result<Simplex, NoMemory>
+    ensures { IfOk result (λ simplex. simplex ≡ unused_below layout.now lower) }
 {
-    Simplex::new(first_credits(layout, lower))
+    Simplex::new(alloc, first_credits(layout, lower))
 }
 
 /// The root complex.
@@ -83,16 +83,21 @@ fn root_node(alloc: Global, layout: &Layout) -> Result<Node, NoMemory>
 fn function_node(alloc: Global, layout: &Layout, lower: Bdf) -> Result<Node, NoMemory>
     ensures { IfOk result (λ node. node ≡ unused_below layout.now lower ∷ []) }
 {
-    let outputs = once(unused_below(layout, lower)).collect(alloc)?;
+    let outputs = once(unused_below(alloc, layout, lower)?).collect(alloc)?;
     Ok(Node { outputs })
 }
 
-fn add_outputs_down(layout: &Layout, bus: u16, outputs: &mut Vec<Simplex>) -> Result<(), NoMemory>
+fn add_outputs_down(
+    alloc: Global,
+    layout: &Layout,
+    bus: u16,
+    outputs: &mut Vec<Simplex>,
+) -> Result<(), NoMemory>
     ensures { OnOk result (outputs.new.items ≡ outputs.old.items ++ map (λ port. unused_below layout.now (id_below port)) (ports_on layout.now.ports bus)) }
 {
     for port in layout.ports() {
         if is_on_bus(bus, port) {
-            outputs.push(unused_below(layout, id_below(port)))?;
+            outputs.push(unused_below(alloc, layout, id_below(port))?)?;
         }
     }
     Ok(())
@@ -102,8 +107,8 @@ fn switch_node(alloc: Global, layout: &Layout, switch: &Switch) -> Result<Node, 
     ensures { IfOk result (λ node. node ≡ switch_outputs layout.now switch.now) }
 {
     let mut outputs = Vec::new(alloc);
-    outputs.push(unused_below(layout, switch.id))?;
-    add_outputs_down(layout, internal_bus(switch), &mut outputs)?;
+    outputs.push(unused_below(alloc, layout, switch.id)?)?;
+    add_outputs_down(alloc, layout, internal_bus(switch), &mut outputs)?;
     Ok(Node { outputs })
 }
 

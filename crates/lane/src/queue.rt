@@ -1,14 +1,15 @@
 //! Lanes that are queues in memory.
 
-ghost use Rattle.std.specs.Prelude.{◌≡◌, ◌≢◌, ◌<◌, ◌^◌, ◌==◌, ◌++◌, ◌∷◌, ℕ, [], None, IsTrue, MatchBool, MatchResult, ◌↔◌, false, option_map, true};
+ghost use Rattle.std.specs.Prelude.{◌≡◌, ◌≢◌, ◌<◌, ◌^◌, ◌==◌, ◌++◌, ◌∷◌, ℕ, [], None, IfOk, IsTrue, MatchBool, MatchResult, ◌↔◌, false, option_map, true};
 ghost use Rattle.port_queue.specs.Queue.{count_of};
 ghost use Rattle.lane.specs.Lanes.{class_of, eligible};
 ghost use Rattle.lane.specs.Queues.{frames_of, frames_restored, IsSorted};
 
 use crate::lanes::LaneIn;
-use fab_types::{Class, DomainId, Head};
+use fab_types::{Class, DomainId, Head, NoMemory};
 use frame_log::Frame;
 use port_queue::PortQueue;
+use std::alloc::Global;
 use std::marker::Model;
 
 /// A queue of at most `CAP` packets of each class, each of which waits under its own class: the egress
@@ -31,16 +32,16 @@ impl<const CAP: usize> Model for FrameQueue<CAP> {
 }
 
 impl<const CAP: usize> FrameQueue<CAP> {
-    /// An empty queue.
-    pub fn new() -> Self
+    /// An empty queue, which has room for all that it will ever hold.
+    pub fn new(alloc: Global) -> Result<Self, NoMemory>
         requires { CAP < 2 ^ 62 }
-        ensures { result ≡ record { queue = record { waiting = []; gap = None }; misses = 0; refusals = 0 } }
+        ensures { IfOk result (λ made. made ≡ record { queue = record { waiting = []; gap = None }; misses = 0; refusals = 0 }) }
     {
-        FrameQueue {
-            queue: PortQueue::new(),
+        Ok(FrameQueue {
+            queue: PortQueue::new(alloc)?,
             misses: 0,
             refusals: 0,
-        }
+        })
     }
 
     /// Do `CAP` packets of the class wait?

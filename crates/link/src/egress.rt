@@ -1,6 +1,6 @@
 //! The sender's end of a direction.
 
-ghost use Rattle.std.specs.Prelude.{◌≡◌, ◌≢◌, ◌==◌, ◌++◌, ◌∷◌, [], None, IfSome, MatchBool, MatchResult, false, option_map, true};
+ghost use Rattle.std.specs.Prelude.{◌≡◌, ◌≢◌, ◌==◌, ◌++◌, ◌∷◌, [], None, IfOk, IfSome, MatchBool, MatchResult, false, option_map, true};
 ghost use Rattle.credit.specs.Limits.{IsUpdate, MayStart, left_counters, zero_counters};
 ghost use Rattle.lane.specs.Lanes.{class_of, eligible};
 ghost use Rattle.lane.specs.Queues.{frames_of};
@@ -10,9 +10,10 @@ ghost use Rattle.link.specs.Steps.{IsStuck, Sends};
 
 use crate::steps::has_none_eligible;
 use credit::{Limits, Sender};
-use fab_types::{Class, DomainId};
+use fab_types::{Class, DomainId, NoMemory};
 use frame_log::Frame;
 use lane::{FrameQueue, LaneIn, LaneOut};
+use std::alloc::Global;
 use std::marker::Model;
 use vetted::VettedFrame;
 
@@ -35,17 +36,17 @@ impl Model for Egress {
 impl Egress {
     /// Nothing waits, and nothing was sent. These are the credits that the receiver advertises: headers at most 127,
     /// data at most 2,047.
-    pub fn new(limits: Limits) -> Egress
+    pub fn new(alloc: Global, limits: Limits) -> Result<Egress, NoMemory>
         requires { MayStart limits }
-        ensures { result ≡ record {
+        ensures { IfOk result (λ made. made ≡ record {
           queue = record { queue = record { waiting = []; gap = None }; misses = 0; refusals = 0 };
           sender = record { credits_consumed = zero_counters; credit_limit = limits; start = limits };
-        } }
+        }) }
     {
-        Egress {
-            queue: FrameQueue::new(),
+        Ok(Egress {
+            queue: FrameQueue::new(alloc)?,
             sender: Sender::new(limits),
-        }
+        })
     }
 
     /// Puts a packet behind the others of its class, as a function or the host sends it. Where 16 packets of that class wait

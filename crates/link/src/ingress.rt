@@ -1,6 +1,6 @@
 //! The receiver's end of a direction.
 
-ghost use Rattle.std.specs.Prelude.{◌≡◌, ◌≢◌, ◌==◌, ◌++◌, ◌∷◌, [], None, Some, IfSome, IsSome, MatchOption, false, option_map};
+ghost use Rattle.std.specs.Prelude.{◌≡◌, ◌≢◌, ◌==◌, ◌++◌, ◌∷◌, [], None, Some, IfOk, IfSome, IsSome, MatchOption, false, option_map};
 ghost use Rattle.credit.specs.Limits.{counted, uncounted, zero_counters};
 ghost use Rattle.lane.specs.Lanes.{class_of, eligible};
 ghost use Rattle.lane.specs.Queues.{frames_of, frames_restored};
@@ -9,9 +9,10 @@ ghost use Rattle.link.specs.Quiet.{none_eligible};
 
 use crate::steps::has_none_eligible;
 use credit::{Limits, Receiver};
-use fab_types::{Class, DomainId, Head};
+use fab_types::{Class, DomainId, Head, NoMemory};
 use frame_log::Frame;
 use lane::{FrameQueue, LaneIn};
+use std::alloc::Global;
 use std::marker::Model;
 
 /// What waits at the receiver of a direction, at most 127 packets of each class, and the credits that it gave. Those of
@@ -32,16 +33,16 @@ impl Model for Ingress {
 
 impl Ingress {
     /// Nothing waits, and these credits are advertised.
-    pub fn new(limits: Limits) -> Ingress
-        ensures { result ≡ record {
+    pub fn new(alloc: Global, limits: Limits) -> Result<Ingress, NoMemory>
+        ensures { IfOk result (λ made. made ≡ record {
           queue = record { queue = record { waiting = []; gap = None }; misses = 0; refusals = 0 };
           receiver = record { credits_received = zero_counters; credits_allocated = limits };
-        } }
+        }) }
     {
-        Ingress {
-            queue: FrameQueue::new(),
+        Ok(Ingress {
+            queue: FrameQueue::new(alloc)?,
             receiver: Receiver::new(limits),
-        }
+        })
     }
 
     /// Do 127 packets of the class wait?

@@ -1,6 +1,6 @@
 //! One direction of a link.
 
-ghost use Rattle.std.specs.Prelude.{◌≡◌, ◌≤◌, ◌++◌, ◌∷◌, [], None, Some, MatchBool, false, is_none, option_map, slice_get};
+ghost use Rattle.std.specs.Prelude.{◌≡◌, ◌≤◌, ◌++◌, ◌∷◌, [], None, Some, IfOk, MatchBool, false, is_none, option_map, slice_get};
 ghost use Rattle.fab_types.specs.declared.class.Class.{Class};
 ghost use Rattle.credit.specs.Kinds.{Kind};
 ghost use Rattle.credit.specs.Limits.{MayStart, at};
@@ -14,10 +14,11 @@ use crate::egress::Egress;
 use crate::ingress::Ingress;
 use crate::steps::{accept_update, deliver_oldest, transmit};
 use credit::Limits;
-use fab_types::{Class, DomainId, Head};
+use fab_types::{Class, DomainId, Head, NoMemory};
 use frame_log::Frame;
 use lane::{LaneIn, LaneOut};
 use port_queue::Ring;
+use std::alloc::Global;
 use std::marker::Model;
 use vetted::VettedFrame;
 
@@ -45,22 +46,22 @@ impl Model for Simplex {
 impl Simplex {
     /// A direction on which nothing was sent yet, whose receiver advertises these credits: headers at
     /// most 127, data at most 2,047.
-    pub fn new(limits: Limits) -> Simplex
+    pub fn new(alloc: Global, limits: Limits) -> Result<Simplex, NoMemory>
         requires { MayStart limits }
-        ensures { result ≡ record {
+        ensures { IfOk result (λ made. made ≡ record {
           start = limits;
           left = limits;
           egress = record { queue = record { waiting = []; gap = None }; misses = 0; refusals = 0 };
           wire = [];
           ingress = record { queue = record { waiting = []; gap = None }; misses = 0; refusals = 0 };
-        } }
+        }) }
     {
         let start = limits;
-        Simplex {
-            egress: Egress::new(start),
-            wire: Ring::new(),
-            ingress: Ingress::new(limits),
-        }
+        Ok(Simplex {
+            egress: Egress::new(alloc, start)?,
+            wire: Ring::new(alloc)?,
+            ingress: Ingress::new(alloc, limits)?,
+        })
     }
 
     /// Puts a packet behind the others of its class at the sender, as a function or the host sends it, where fewer than 16

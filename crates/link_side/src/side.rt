@@ -1,6 +1,6 @@
 //! One side of a link.
 
-ghost use Rattle.std.specs.Prelude.{◌≡◌, ◌==◌, [], None, Some, true, false};
+ghost use Rattle.std.specs.Prelude.{◌≡◌, ◌==◌, [], None, Some, IfOk, true, false};
 ghost use Rattle.frame_log.specs.Descriptor.{Descriptor};
 ghost use Rattle.credit.specs.Limits.{MayStart, zero_counters};
 ghost use Rattle.lane.specs.Lanes.{class_of};
@@ -13,9 +13,10 @@ ghost use Rattle.wiring.specs.Moved.{put_by, taken_by};
 ghost use Rattle.wiring.specs.Wired.{tags_of};
 
 use credit::Limits;
-use fab_types::Class;
+use fab_types::{Class, NoMemory};
 use frame_log::Frame;
 use link::{Egress, Ingress};
+use std::alloc::Global;
 use std::marker::Model;
 use wiring::Ends;
 
@@ -42,9 +43,9 @@ impl Model for LinkSide {
 impl LinkSide {
     /// Nothing waits, and nothing was sent or told. `sends` are the limits that the other side's receiver starts with,
     /// headers at most 127 and data at most 2,047, and `receives` those that this side's starts with.
-    pub fn new(sends: Limits, receives: Limits) -> LinkSide
+    pub fn new(alloc: Global, sends: Limits, receives: Limits) -> Result<LinkSide, NoMemory>
         requires { MayStart sends }
-        ensures { result ≡ record {
+        ensures { IfOk result (λ made. made ≡ record {
           egress = record {
             queue = record { queue = record { waiting = []; gap = None }; misses = 0; refusals = 0 };
             sender = record { credits_consumed = zero_counters; credit_limit = sends; start = sends };
@@ -54,14 +55,14 @@ impl LinkSide {
             receiver = record { credits_received = zero_counters; credits_allocated = receives };
           };
           told = receives;
-        } }
+        }) }
     {
         let told = receives;
-        LinkSide {
-            egress: Egress::new(sends),
-            ingress: Ingress::new(receives),
+        Ok(LinkSide {
+            egress: Egress::new(alloc, sends)?,
+            ingress: Ingress::new(alloc, receives)?,
             told,
-        }
+        })
     }
 
     /// Takes the oldest limits out of the ring and tells them to the sender, which drops those that can't be its receiver's.

@@ -18,7 +18,10 @@ fn put<const CAP: usize>(
 
 #[test]
 fn the_head_of_a_class_waits_for_older_posted_packets_alone(rt: HostRuntime) {
-    let mut queue = PortQueue::<Packet, 2>::new();
+    let Ok(mut queue) = PortQueue::<Packet, 2>::new(rt.alloc()) else {
+        assert!(rt; false);
+        return;
+    };
     put(&rt, &mut queue, NonPosted, 1);
     put(&rt, &mut queue, Posted, 2);
     put(&rt, &mut queue, Completion, 3);
@@ -35,7 +38,10 @@ fn the_head_of_a_class_waits_for_older_posted_packets_alone(rt: HostRuntime) {
 
 #[test]
 fn a_packet_put_back_stands_where_it_stood(rt: HostRuntime) {
-    let mut queue = PortQueue::<Packet, 2>::new();
+    let Ok(mut queue) = PortQueue::<Packet, 2>::new(rt.alloc()) else {
+        assert!(rt; false);
+        return;
+    };
     put(&rt, &mut queue, Completion, 1);
     put(&rt, &mut queue, Posted, 2);
     put(&rt, &mut queue, NonPosted, 3);

@@ -1,4 +1,5 @@
 pub mod Arriving
+pub mod Halves
 pub mod Heads
 pub mod Keeping
 pub mod Leaving
@@ -6,5 +7,4 @@ pub mod Merging
 pub mod Numbering
 pub mod Renumbering
 pub mod Reserving
-pub mod Rings
 pub mod Taking

@@ -31,6 +31,14 @@ least_of k Class.Completion Class.Posted h = h.0
 least_of k Class.Completion Class.NonPosted h = h.1
 least_of k Class.Completion Class.Completion h = omega arith
 
+-- the least by numbers that are equal to these
+pub least_same : (k : Class → ℕ) (p n c : ℕ) (class : Class) → p ≡ k Class.Posted → n ≡ k Class.NonPosted → c ≡ k Class.Completion → IsLeast p n c class → IsLeast (k Class.Posted) (k Class.NonPosted) (k Class.Completion) class
+least_same k p n c class is_p is_n is_c least =
+    let P : ℕ → Type 0 = λ x. IsLeast x n c class in
+    let Q : ℕ → Type 0 = λ x. IsLeast (k Class.Posted) x c class in
+    let R : ℕ → Type 0 = λ x. IsLeast (k Class.Posted) (k Class.NonPosted) x class in
+    subst R is_c (subst Q is_n (subst P is_p least))
+
 module _ {T : Type 0} where
   above_least : (e : Entry T) (xs : List (Entry T)) → Rising (map (λ x. x.number) xs) → Each (λ x. x.number ≢ e.number) xs → e.number ≤ number_or_last_of (slice_get xs 0) → Each (λ x. e.number < x.number) xs
   above_least e [] rising apart low = tt
@@ -104,13 +112,15 @@ module _ {T : Type 0} where
         within = λ c. (let is = count_of-waiting left c in let fit = kept_length cap left next None k c in omega arith);
       }
 
-  pub moves_room : (cap next number : ℕ) (fresh left rest : Class → List (Entry T)) (all : List (Class × T)) (c : Class) (item : T) → Moves cap next number fresh left all → waiting_of left ≡ (c, item) ∷ waiting_of rest → length (fresh c) < cap
+  -- there is a place for what has left, beside all others of its class
+  pub moves_room : (cap next number : ℕ) (fresh left rest : Class → List (Entry T)) (all : List (Class × T)) (c : Class) (item : T) → Moves cap next number fresh left all → waiting_of left ≡ (c, item) ∷ waiting_of rest → length (rest c) + length (fresh c) < cap
   moves_room cap next number fresh left rest all c item m first =
       let total = ap (count_of c) (sym m.together ∙ ap (λ ws. waiting_of fresh ++ ws) first) in
       let parts = count_of-append c (waiting_of fresh) ((c, item) ∷ waiting_of rest) in
       let one : count_of c ((c, item) ∷ waiting_of rest) ≡ 1 + count_of c (waiting_of rest) = rw (same_class_same c) refl in
       let fit = m.within c in
       let is = count_of-waiting fresh c in
+      let behind = count_of-waiting rest c in
       omega arith
 
   pub moves_bound : (cap next number : ℕ) (fresh left : Class → List (Entry T)) (all : List (Class × T)) → Moves cap next number fresh left all → number < 2 ^ 64 - 1
@@ -129,7 +139,7 @@ module _ {T : Type 0} where
   moves_more cap next number fresh more left rest all c item m first k adds =
       let longer : waiting_of more ≡ waiting_of fresh ++ (c, item) ∷ [] = waiting-added fresh more number c (record { number = number; item = item }) m.fresh_kept.sound adds refl in
       record {
-        fresh_kept = kept_added cap fresh more number None c (record { number = number; item = item }) m.fresh_kept adds refl (moves_room cap next number fresh left rest all c item m first);
+        fresh_kept = kept_added cap fresh more number None c (record { number = number; item = item }) m.fresh_kept adds refl (let room = moves_room cap next number fresh left rest all c item m first in omega arith);
         left_kept = k;
         together = ap (λ ws. ws ++ waiting_of rest) longer ∙ (append_assoc (waiting_of fresh) ((c, item) ∷ []) (waiting_of rest) ∙ (ap (λ ws. waiting_of fresh ++ ws) (sym first) ∙ m.together));
         counted = (let size = ap length longer ∙ length-append (waiting_of fresh) ((c, item) ∷ []) in let is = m.counted in omega arith);

@@ -3,4 +3,5 @@ pub mod PerClass
 pub mod Lending
 pub mod Outgoing
 pub mod Queue
-pub mod Ring
+pub mod Renumbering
+pub mod Room

@@ -1,10 +1,8 @@
 -- A queue that takes a counted number of items of each class.
-use Rattle.std.specs.Prelude.{◌≡◌, ℕ, ◌+◌, ◌≤◌, List, Option, length}
-pub use Rattle.std.specs.declared.collections.VecDeque.{VecDeque}
-use Rattle.std.specs.VecDeque.{deque_len, deque_capacity}
-pub use Rattle.std.specs.declared.alloc.Global.{Global}
+use Rattle.std.specs.Prelude.{ℕ, ◌+◌, ◌≤◌, List, Option, length}
 use Rattle.port_queue.specs.Queue.{Queue}
 use Rattle.port_queue.specs.PerClass.{Class, PerClass, at_class}
+pub use Rattle.port_queue.specs.Room.{VecDeque, Global, IsRoomy}
 use Rattle.port_queue.specs.Arrivals.{Entry, Gap, numbers_of, with_gap, AreClassQueues}
 
 -- what waits, how many of each class were put in all, and how many of each may be
@@ -19,11 +17,6 @@ total puts = puts.posted + puts.non_posted + puts.completion
 module _ {T : Type 0} where
   abbrev pub entries_of : PerClass (VecDeque (Entry T) Global) → Class → List (Entry T)
   entries_of queues class = (at_class queues class).items
-
-  -- a queue with this many places
-  pub record IsRoomy (places : ℕ) (q : VecDeque (Entry T) Global) : Type 0 where
-    pub reserved : places ≤ deque_capacity q
-    pub long : deque_len q ≡ length q.items
 
   -- what was put is numbered in turn, and all that may still be put has a place
   pub record IsReserved (queues : PerClass (VecDeque (Entry T) Global)) (puts : PerClass ℕ) (places : ℕ) (gap : Option Gap) : Type 0 where

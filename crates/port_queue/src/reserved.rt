@@ -9,6 +9,7 @@ ghost use Rattle.port_queue.specs.Arrivals.{may_leave};
 ghost use Rattle.port_queue.specs.Queue.{Queue, taken_of, head_of, restored};
 ghost use Rattle.port_queue.specs.Outgoing.{Outgoing, entries_of};
 
+use crate::anew::{pop_oldest, push_oldest};
 use crate::entry::{Entry, Gap};
 use crate::per_class::{PerClass, may_leave_beside};
 use fab_types::{Class, NoMemory};
@@ -124,7 +125,7 @@ impl<T: Drop> Outbox<T> {
         if !is_eligible(&self.queues, class) {
             return None;
         }
-        let Some(Entry { number, item }) = self.queues.get_mut(class).pop_front() else {
+        let Some(Entry { number, item }) = pop_oldest(self.queues.get_mut(class)) else {
             unreachable!();
         };
         self.gap = Some(Gap { class, number });
@@ -142,10 +143,11 @@ impl<T: Drop> Outbox<T> {
             unreachable!();
         };
         self.gap = None;
-        self.queues.get_mut(class).push_front_reserved(Entry {
+        let entry = Entry {
             number: gap.number,
             item,
-        });
+        };
+        push_oldest(self.queues.get_mut(class), entry);
     }
 
     /// Takes `n` items more of each class.

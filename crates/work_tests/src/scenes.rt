@@ -104,7 +104,7 @@ pub fn port_work(
     let desk = LockedDesk {
         locks: Arc::try_clone(locks).ok()?,
     };
-    let side = LinkSide::new(eight_packets(), eight_packets());
+    let side = LinkSide::new(alloc, eight_packets(), eight_packets()).ok()?;
     Some(PortWork::new(port, bridge, side, desk, watch.admit().ok()?))
 }
 

@@ -16,22 +16,22 @@ returns-then-not-is_eligible-clause-taken g c = (
   refl,
 )
 
-first : (g : _) (c : goal.After-self-2-1 g) → (at_class c.self.inside.queues c.args.class).items ≡ c.in-Some.field-0 ∷ c.pop_front.new.self.items
+first : (g : _) (c : goal.After-self-2-1 g) → (at_class c.self.inside.queues c.args.class).items ≡ c.in-Some.field-0 ∷ c.pop_oldest.new.queue.items
 first g c = ap (λ (q : VecDeque (Entry g.row.T.Denot) Global). q.items) (sym c.get_mut.ensures.value) ∙ c.in-Some.ensures.items
 
 pub invariant_of-self : goal.invariant_of-self
-invariant_of-self g c = reserved_taken c.self.inside.queues c.self.inside.puts c.self.inside.places c.self.inside.gap c.args.class c.pop_front.new.self c.in-Some.field-0 c.self.invariant (first g c)
-    (c.pop_front.ensures.capacity ∙ ap (λ (q : VecDeque (Entry g.row.T.Denot) Global). deque_capacity q) c.get_mut.ensures.value)
+invariant_of-self g c = reserved_taken c.self.inside.queues c.self.inside.puts c.self.inside.places c.self.inside.gap c.args.class c.pop_oldest.new.queue c.in-Some.field-0 c.self.invariant (first g c)
+    (c.pop_oldest.ensures.capacity ∙ ap (λ (q : VecDeque (Entry g.row.T.Denot) Global). deque_capacity q) c.get_mut.ensures.value)
     (c.in-Some.ensures.cases ∙ ap (λ (q : VecDeque (Entry g.row.T.Denot) Global). deque_len q) c.get_mut.ensures.value)
 
 pub returns-clause-taken : goal.returns-clause-taken
 returns-clause-taken g c =
     ap (λ (o : Outgoing g.row.T.Denot). taken_of c.args.class o.queue.waiting) (sym c.self.view_is)
-    ∙ taken (entries_of c.self.inside.queues) (entries_of (with_class c.self.inside.queues c.args.class c.pop_front.new.self)) (total c.self.inside.puts) c.args.class c.in-Some.field-0 c.is_eligible.result (reserved_sound c.self.inside.queues c.self.inside.puts c.self.inside.places c.self.inside.gap c.self.invariant)
-    (fronts_taken c.self.inside.queues c.args.class c.pop_front.new.self c.in-Some.field-0 (first g c)) c.is_eligible.ensures c.if-not-is_eligible.false
+    ∙ taken (entries_of c.self.inside.queues) (entries_of (with_class c.self.inside.queues c.args.class c.pop_oldest.new.queue)) (total c.self.inside.puts) c.args.class c.in-Some.field-0 c.is_eligible.result (reserved_sound c.self.inside.queues c.self.inside.puts c.self.inside.places c.self.inside.gap c.self.invariant)
+    (fronts_taken c.self.inside.queues c.args.class c.pop_oldest.new.queue c.in-Some.field-0 (first g c)) c.is_eligible.ensures c.if-not-is_eligible.false
 
 pub returns-clause-restores : goal.returns-clause-restores
 returns-clause-restores g c =
-    restores (entries_of c.self.inside.queues) (entries_of (with_class c.self.inside.queues c.args.class c.pop_front.new.self)) (total c.self.inside.puts) c.args.class c.in-Some.field-0 (reserved_sound c.self.inside.queues c.self.inside.puts c.self.inside.places c.self.inside.gap c.self.invariant)
-    (fronts_taken c.self.inside.queues c.args.class c.pop_front.new.self c.in-Some.field-0 (first g c))
+    restores (entries_of c.self.inside.queues) (entries_of (with_class c.self.inside.queues c.args.class c.pop_oldest.new.queue)) (total c.self.inside.puts) c.args.class c.in-Some.field-0 (reserved_sound c.self.inside.queues c.self.inside.puts c.self.inside.places c.self.inside.gap c.self.invariant)
+    (fronts_taken c.self.inside.queues c.args.class c.pop_oldest.new.queue c.in-Some.field-0 (first g c))
     ∙ ap (λ (o : Outgoing g.row.T.Denot). Some o.queue.waiting) c.self.view_is
