@@ -8,7 +8,7 @@ ghost use Rattle.link.specs.Channels.{count_in};
 ghost use Rattle.link.specs.Steps.{IsStuck};
 ghost use Rattle.link_side.specs.Rings.{HasPlace, oldest};
 ghost use Rattle.link_side.specs.Sides.{landed, leaving};
-ghost use Rattle.link_side.specs.Steps.{Hears, Lands, SendsOn, Tells};
+ghost use Rattle.link_side.specs.Steps.{Hears, Lands, SendsEach, SendsOn, Tells, TriesToSend};
 ghost use Rattle.wiring.specs.Moved.{put_by, taken_by};
 ghost use Rattle.wiring.specs.Wired.{tags_of};
 
@@ -109,6 +109,29 @@ impl LinkSide {
         };
         out.put_reserved(frame);
         true
+    }
+
+    /// The same, and what it did in one fact.
+    fn try_to_send(&mut self, class: Class, links: &mut Ends<Frame>) -> bool
+        ensures tried { TriesToSend class self.old links.old self.new links.new result }
+        ensures tags { tags_of links.new ≡ tags_of links.old }
+        ensures taken { taken_by links.new ≡ taken_by links.old }
+        ensures others { (self.new.ingress ≡ self.old.ingress) × (self.new.told ≡ self.old.told) }
+    {
+        if self.send(class, links) { true } else { false }
+    }
+
+    /// Sends the eligible packet of each class in turn, as `send`: posted, non-posted, completion. Did one go?
+    pub fn send_each(&mut self, links: &mut Ends<Frame>) -> bool
+        ensures sent { SendsEach self.old links.old self.new links.new result }
+        ensures tags { tags_of links.new ≡ tags_of links.old }
+        ensures taken { taken_by links.new ≡ taken_by links.old }
+        ensures others { (self.new.ingress ≡ self.old.ingress) × (self.new.told ≡ self.old.told) }
+    {
+        let posted = self.try_to_send(Class::Posted, links);
+        let non_posted = self.try_to_send(Class::NonPosted, links);
+        let completion = self.try_to_send(Class::Completion, links);
+        posted | non_posted | completion
     }
 
     /// Takes the oldest packet out of the ring, to wait behind all others, if its class has a place. Else it stays in the

@@ -46,16 +46,6 @@ impl Model for PortWork {
     ghost view = { work_view };
 }
 
-/// Sends the eligible packet of each class, where credits and the ring allow it. Did one go?
-fn send_each(side: &mut LinkSide, links: &mut Ends<Frame>) -> bool
-    ensures { tags_of links.new ≡ tags_of links.old }
-{
-    let posted = side.send(Class::Posted, links);
-    let non_posted = side.send(Class::NonPosted, links);
-    let completion = side.send(Class::Completion, links);
-    posted || non_posted || completion
-}
-
 impl PortWork {
     /// The work of a port that is at this side of a link, over the switches of its layout, with its way to the domains
     /// and its end of the queue of violations.
@@ -159,7 +149,7 @@ impl PortWork {
         ensures pairs { tags_of pairs.new ≡ tags_of pairs.old }
     {
         let heard = self.side.hear(credits);
-        let sent = send_each(&mut self.side, links);
+        let sent = self.side.send_each(links);
         let collected = collect(pairs, &mut self.side.egress);
         let passed = self.pass_each(rt, pairs);
         let landed = self.side.land(links);

@@ -1,0 +1,4 @@
+pub mod Boxes
+pub mod Endings
+pub mod Ends
+pub mod Entering

@@ -1,0 +1,42 @@
+//! What becomes of the eligible packet of a class at an end of the tree.
+
+ghost use Rattle.std.specs.Prelude.{◌≡◌};
+ghost use Rattle.end_parts.specs.Endings.{has_moved};
+
+/// What the home of a packet has to do with it where it is taken (PCIe 4.0, 2.2.9 and 2.3.1).
+#[derive(Clone, Copy, Debug, PartialEq, Eq)]
+pub enum Receipt {
+    /// A request reached its completer.
+    Carry,
+    /// A completion reached whom it answers.
+    Deliver,
+    /// It has no case here.
+    Nobody,
+}
+
+/// What became of the eligible packet of a class.
+#[derive(Clone, Copy, Debug, PartialEq, Eq)]
+pub enum Ending {
+    /// Its home has an entry of it.
+    Own,
+    /// Its home had no case for it, and the domain of that place has an entry of it.
+    Alien,
+    /// Nobody had a case for it, and it is kept.
+    Stray,
+    /// Memory was refused: it stands where it stood.
+    Waits,
+    /// There was none.
+    Idle,
+}
+
+impl Ending {
+    /// Did the packet leave the queue?
+    pub fn has_moved(&self) -> bool
+        ensures { result ≡ has_moved self.now }
+    {
+        match self {
+            Ending::Own | Ending::Alien | Ending::Stray => true,
+            Ending::Waits | Ending::Idle => false,
+        }
+    }
+}

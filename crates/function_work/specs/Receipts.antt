@@ -1,0 +1,27 @@
+-- What the home of a packet has to do with it at a function (PCIe 4.0, 2.2.9 and 2.3.1).
+use Rattle.std.specs.Prelude.{ℕ, ◌==◌, if◌then◌else◌}
+use Rattle.fab_types.specs.declared.head.Header.{Header}
+use Rattle.fab_types.specs.declared.head.Header.TheVariants.{Malformed, Memory, OtherRequest, Completion}
+use Rattle.fab_types.specs.declared.head.Parties.{Parties}
+use Rattle.fab_types.specs.declared.head.Parties.TheVariants.{Upward, Downward, Answer}
+use Rattle.frame_log.specs.Descriptor.{Descriptor}
+use Rattle.end_parts.specs.declared.ending.Receipt.{Receipt}
+use Rattle.end_parts.specs.declared.ending.Receipt.TheVariants.{Carry, Deliver, Nobody}
+
+-- the host's requests go to functions
+abbrev pub receipt_of_request : Parties → Receipt
+receipt_of_request (Upward function) = Nobody
+receipt_of_request (Downward function) = Carry
+receipt_of_request (Answer answerer addressee) = Nobody
+
+abbrev pub receipt_of : Parties → Header → Receipt
+receipt_of parties Malformed = Nobody
+receipt_of parties (Memory requester address_type address) = receipt_of_request parties
+receipt_of parties (OtherRequest requester) = receipt_of_request parties
+receipt_of parties (Completion target relaxed_ordering) = Deliver
+
+-- a function takes what a function or the host of its own domain made
+abbrev pub receipt_at : ℕ → Descriptor → Receipt
+receipt_at domain frame =
+    if frame.domain == domain then receipt_of frame.head.parties frame.head.header
+    else Nobody

@@ -1,0 +1,59 @@
+//! A function takes a packet out of its link.
+
+ghost use Rattle.std.specs.Prelude.{◌≡◌, None};
+ghost use Rattle.lane.specs.Lanes.{eligible};
+ghost use Rattle.lane.specs.Queues.{frames_of};
+ghost use Rattle.function_work.specs.Arriving.{ArrivesAsAlien, ArrivesAsStray, ArrivesAtHome, StaysThere, place_at};
+
+use crate::receipt::receipt_at;
+use end_parts::{Ending, end_alien, end_own};
+use fab_types::{Bdf, Class, Direction, DomainId, Place, Way};
+use frame_log::{Frame, FrameFault};
+use link::Ingress;
+use locks::Locks;
+use outboxes::OriginBox;
+use std::sync::Wait;
+
+/// Where a function takes packets: down its link.
+fn place_at(function: Bdf) -> Place
+    ensures { result ≡ place_at function }
+{
+    Place::Ingress(Direction {
+        lower: function,
+        way: Way::Down,
+    })
+}
+
+/// The function takes the eligible packet of a class. Its home has an entry of it, or where that has no case for it the
+/// function's domain, as only in layouts that aren't guarded; what follows waits in the outbox. Else it is kept.
+pub(crate) fn arrive<R: Wait>(
+    rt: &R,
+    class: Class,
+    function: Bdf,
+    domain: DomainId,
+    input: &mut Ingress,
+    outbox: &mut OriginBox,
+    locks: &Locks,
+    strays: &mut Vec<Frame>,
+) -> Ending
+    ensures own { result ≡ Ending.Own → ArrivesAtHome domain class (frames_of input.old.queue.queue.waiting) (frames_of input.new.queue.queue.waiting) outbox.old outbox.new strays.old.items strays.new.items }
+    ensures alien { result ≡ Ending.Alien → ArrivesAsAlien locks.now function domain class (frames_of input.old.queue.queue.waiting) (frames_of input.new.queue.queue.waiting) outbox.old outbox.new strays.old.items strays.new.items }
+    ensures stray { result ≡ Ending.Stray → ArrivesAsStray locks.now function domain class (frames_of input.old.queue.queue.waiting) (frames_of input.new.queue.queue.waiting) outbox.old outbox.new strays.old.items strays.new.items }
+    ensures waits { result ≡ Ending.Waits → StaysThere (frames_of input.old.queue.queue.waiting) (frames_of input.new.queue.queue.waiting) outbox.old outbox.new strays.old.items strays.new.items }
+    ensures idle { result ≡ Ending.Idle → (eligible class (frames_of input.old.queue.queue.waiting) ≡ None) × StaysThere (frames_of input.old.queue.queue.waiting) (frames_of input.new.queue.queue.waiting) outbox.old outbox.new strays.old.items strays.new.items }
+{
+    let Some(frame) = input.release(class) else {
+        return Ending::Idle;
+    };
+    match end_own(rt, locks, receipt_at(domain, &frame), outbox, frame) {
+        Ok(()) => Ending::Own,
+        Err(FrameFault::Stray(frame)) => {
+            let place = place_at(function);
+            end_alien(rt, locks, domain, place, outbox, input, strays, frame)
+        }
+        Err(FrameFault::NoMemory(frame)) => {
+            input.give_back(frame);
+            Ending::Waits
+        }
+    }
+}

@@ -1,0 +1,8 @@
+//! What the worker of a function does in its thread.
+#![tactic(auto)]
+
+mod arrive;
+mod function_work;
+mod receipt;
+
+pub use function_work::FunctionWork;

@@ -1,0 +1,6 @@
+pub mod Boxes
+pub mod Ending
+pub mod Owners
+pub mod Receipts
+pub mod Relaying
+pub mod Works

@@ -1,0 +1,65 @@
+-- What is done with a packet at the root complex (PCIe 4.0, 2.2.9 and 2.3.1).
+use Rattle.std.specs.Prelude.{ℕ, ◌==◌, ◌/◌, Bool, false, not, List, Option, Some, None, if◌then◌else◌}
+use Rattle.fab_types.specs.Id.{bus_of, host_of}
+use Rattle.fab_types.specs.declared.head.AddressType.{AddressType}
+use Rattle.fab_types.specs.declared.head.AddressType.TheVariants.{Untranslated, TranslationRequest, Translated, Reserved}
+use Rattle.fab_types.specs.declared.head.Header.{Header}
+use Rattle.fab_types.specs.declared.head.Header.TheVariants.{Malformed, Memory, OtherRequest, Completion}
+use Rattle.fab_types.specs.declared.head.Parties.{Parties}
+use Rattle.fab_types.specs.declared.head.Parties.TheVariants.{Upward, Downward, Answer}
+use Rattle.frame_log.specs.Descriptor.{Descriptor}
+use Rattle.platform.specs.declared.parts.DownstreamPort.{DownstreamPort}
+use Rattle.platform.specs.Owners.{owner_of}
+use Rattle.platform.specs.Share.{Share}
+use Rattle.end_parts.specs.declared.ending.Receipt.{Receipt}
+use Rattle.end_parts.specs.declared.ending.Receipt.TheVariants.{Carry, Deliver, Nobody}
+use Rattle.root_work.specs.Owners.{owner_of_frame}
+
+-- is it a completion for somebody below? Those are sent down again, and bus 00 is the root complex's own.
+abbrev pub is_relayed : Header → Bool
+is_relayed Malformed = false
+is_relayed (Memory requester address_type address) = false
+is_relayed (OtherRequest requester) = false
+is_relayed (Completion target relaxed_ordering) = not (bus_of target == 0)
+
+-- ---- what its home has to do with one that ends here
+
+-- functions' requests go to the root complex
+abbrev pub receipt_of_request : Parties → Receipt
+receipt_of_request (Upward function) = Carry
+receipt_of_request (Downward function) = Nobody
+receipt_of_request (Answer answerer addressee) = Nobody
+
+-- a completion for the host of the domain that made it is delivered
+abbrev pub receipt_of : ℕ → Parties → Header → Receipt
+receipt_of domain parties Malformed = Nobody
+receipt_of domain parties (Memory requester address_type address) = receipt_of_request parties
+receipt_of domain parties (OtherRequest requester) = receipt_of_request parties
+receipt_of domain parties (Completion target relaxed_ordering) = if target == host_of domain then Deliver else Nobody
+
+abbrev pub receipt_at_root : Descriptor → Receipt
+receipt_at_root frame = receipt_of frame.domain frame.head.parties frame.head.header
+
+-- ---- which domain gets one that its home has no case for, in a layout that isn't guarded
+
+-- a memory request: the owner of its Requester ID, or of the frame of memory whose number is its page
+abbrev pub addressed_to : List DownstreamPort → List Share → ℕ → AddressType → ℕ → Option ℕ
+addressed_to ports shares requester Untranslated address = owner_of ports requester
+addressed_to ports shares requester TranslationRequest address = None
+addressed_to ports shares requester Translated address = owner_of_frame shares (address / 4096)
+addressed_to ports shares requester Reserved address = None
+
+-- a completion: the domain whose host it is for
+abbrev pub receiver_by : List DownstreamPort → List Share → Header → Option ℕ
+receiver_by ports shares Malformed = None
+receiver_by ports shares (Memory requester address_type address) = addressed_to ports shares requester address_type address
+receiver_by ports shares (OtherRequest requester) = None
+receiver_by ports shares (Completion target relaxed_ordering) = owner_of ports target
+
+abbrev pub or_home : ℕ → Option ℕ → ℕ
+or_home home None = home
+or_home home (Some receiver) = receiver
+
+-- such a one, or else its home
+abbrev pub receiver_of : List DownstreamPort → List Share → Descriptor → ℕ
+receiver_of ports shares frame = or_home frame.domain (receiver_by ports shares frame.head.header)

@@ -1,0 +1,103 @@
+//! A packet ends at the root complex.
+
+ghost use Rattle.std.specs.Prelude.{◌≡◌, ◌≢◌, ◌++◌, ◌∷◌, [], IsSome, None, Some, false};
+ghost use Rattle.lane.specs.Lanes.{eligible};
+ghost use Rattle.lane.specs.Queues.{frames_of, frames_restored};
+ghost use Rattle.end_parts.specs.Ends.{TakesAlien};
+ghost use Rattle.root_work.specs.Boxes.{AreSameBoxes, HostChanges};
+ghost use Rattle.root_work.specs.Ending.{EndsAsAlien, EndsAsStray, EndsAtHome, IsUnreceived, StaysThere, at_root};
+ghost use Rattle.root_work.specs.Receipts.{receiver_of};
+ghost use Rattle.root_work.specs.Relaying.{AreRelayed};
+
+use crate::frame_owners::FrameOwners;
+use crate::hosts::{end_at_home, host_place};
+use crate::receivers::receiver_of;
+use bridge::Bridge;
+use end_parts::{Ending, end_alien, keep_stray};
+use fab_types::{Bdf, Class, Direction, DomainId, Place, Way};
+use frame_log::{Frame, FrameFault};
+use link::Ingress;
+use locks::Locks;
+use outboxes::OriginBox;
+use std::sync::Wait;
+
+// The ID of the top switch, at the lower end of the root complex's link.
+const TOP_SWITCH: u16 = 0x0100;
+
+/// Where the root complex takes packets: up the link of the top switch.
+fn at_root() -> Place
+    ensures { result ≡ at_root }
+{
+    Place::Ingress(Direction {
+        lower: Bdf::from_bits(TOP_SWITCH),
+        way: Way::Up,
+    })
+}
+
+/// This domain gets the entry of a packet that was just taken, for which its home has no case.
+#[tactic(auto, using(crate::proofs::Growing::same_boxes))]
+fn end_as_alien<R: Wait>(
+    rt: &R,
+    locks: &Locks,
+    receiver: DomainId,
+    hosts: &mut [OriginBox],
+    input: &mut Ingress,
+    strays: &mut Vec<Frame>,
+    frame: Frame,
+) -> Ending
+    requires { IsSome (frames_restored input.old.queue.queue frame) }
+    ensures alien { result ≡ Ending.Alien → HostChanges receiver (TakesAlien receiver at_root frame) hosts.old hosts.new × (frames_of input.new.queue.queue.waiting ≡ frames_of input.old.queue.queue.waiting) × (strays.new.items ≡ strays.old.items) }
+    ensures stray { result ≡ Ending.Stray → IsUnreceived locks.now receiver hosts.old frame × AreSameBoxes hosts.old hosts.new × (frames_of input.new.queue.queue.waiting ≡ frames_of input.old.queue.queue.waiting) × (strays.new.items ≡ strays.old.items ++ frame ∷ []) }
+    ensures waits { result ≡ Ending.Waits → AreSameBoxes hosts.old hosts.new × (frames_restored input.old.queue.queue frame ≡ Some (frames_of input.new.queue.queue.waiting)) × (strays.new.items ≡ strays.old.items) }
+    ensures others { (result ≢ Ending.Own) × (result ≢ Ending.Idle) }
+{
+    match host_place(hosts, receiver) {
+        Some(place) => end_alien(
+            rt,
+            locks,
+            receiver,
+            at_root(),
+            &mut hosts[place],
+            input,
+            strays,
+            frame,
+        ),
+        None => keep_stray(input, strays, frame),
+    }
+}
+
+/// The root complex takes the eligible packet of a class, which it doesn't relay. Its home has an entry of it, or where
+/// that has no case for it the domain that it is for, as only in layouts that aren't guarded; what follows waits in the
+/// outbox of that domain's host. Else it is kept.
+pub(crate) fn end_here<R: Wait>(
+    rt: &R,
+    class: Class,
+    input: &mut Ingress,
+    hosts: &mut [OriginBox],
+    frames: &FrameOwners,
+    bridge: &Bridge,
+    locks: &Locks,
+    strays: &mut Vec<Frame>,
+) -> Ending
+    requires { AreRelayed false class (frames_of input.old.queue.queue.waiting) }
+    ensures own { result ≡ Ending.Own → EndsAtHome class (frames_of input.old.queue.queue.waiting) (frames_of input.new.queue.queue.waiting) hosts.old hosts.new strays.old.items strays.new.items }
+    ensures alien { result ≡ Ending.Alien → EndsAsAlien locks.now (receiver_of bridge.now.ports frames.now) class (frames_of input.old.queue.queue.waiting) (frames_of input.new.queue.queue.waiting) hosts.old hosts.new strays.old.items strays.new.items }
+    ensures stray { result ≡ Ending.Stray → EndsAsStray locks.now (receiver_of bridge.now.ports frames.now) class (frames_of input.old.queue.queue.waiting) (frames_of input.new.queue.queue.waiting) hosts.old hosts.new strays.old.items strays.new.items }
+    ensures waits { result ≡ Ending.Waits → StaysThere (frames_of input.old.queue.queue.waiting) (frames_of input.new.queue.queue.waiting) hosts.old hosts.new strays.old.items strays.new.items }
+    ensures idle { result ≡ Ending.Idle → (eligible class (frames_of input.old.queue.queue.waiting) ≡ None) × StaysThere (frames_of input.old.queue.queue.waiting) (frames_of input.new.queue.queue.waiting) hosts.old hosts.new strays.old.items strays.new.items }
+{
+    let Some(frame) = input.release(class) else {
+        return Ending::Idle;
+    };
+    match end_at_home(rt, locks, hosts, frame) {
+        Ok(()) => Ending::Own,
+        Err(FrameFault::Stray(frame)) => {
+            let receiver = receiver_of(bridge, frames, &frame);
+            end_as_alien(rt, locks, receiver, hosts, input, strays, frame)
+        }
+        Err(FrameFault::NoMemory(frame)) => {
+            input.give_back(frame);
+            Ending::Waits
+        }
+    }
+}
