@@ -9,7 +9,7 @@ count=${1:-300}
 work=$(mktemp -d)
 trap 'rm -rf "$work"' EXIT
 
-( cd "$here/crates/pciefab" && rt run -- --help > "$work/build.log" 2>&1 ) || { tail -20 "$work/build.log"; exit 1; }
+"$here/pciefab" --help > "$work/build.log" 2>&1 || { tail -20 "$work/build.log"; exit 1; }
 rustc --edition 2021 -O -o "$work/plain" "$here/bench/plain/main.rs"
 cp "$here/crates/pciefab/out/pciefab" "$work"
 PYTHONDONTWRITEBYTECODE=1 python3 "$here/bench/deal.py" "$work" "$count"

@@ -1,5 +1,4 @@
 pub mod Driving
-pub mod Endings
 pub mod First
 pub mod Report
 pub mod Runs

@@ -4,12 +4,12 @@ use Rattle.platform.specs.Platform.{Platform}
 use Rattle.layout.specs.Reading.{reading}
 use Rattle.platform.specs.Share.{Share}
 use Rattle.layout.specs.Views.{share_of_owner}
-use Rattle.script.specs.Reading as script
 use Rattle.script.specs.declared.lines.Line.{Line}
 use Rattle.domain.specs.Domains.{DomainView}
 use Rattle.domain.specs.Machine.{replay}
 use Rattle.domains.specs.Domains.{domain_at, place_of}
 use Rattle.fabric_core.specs.World.{World}
+use Rattle.inputs.specs.Inputs.{AreFiles, AreInputs}
 use Rattle.commands.specs.Driving.{IsDriven}
 use Rattle.commands.specs.Isolated.{IsIsolated}
 use Rattle.commands.specs.Report.{IsReport}
@@ -18,20 +18,6 @@ use Rattle.journal_text.specs.Journals.{IsReadBack, journal_text}
 use Rattle.journal_text.specs.Reading as journal
 use Rattle.journals.specs.Steps.{entries_of}
 use Rattle.journal_text.specs.declared.read.JournalLine.{JournalLine}
-
--- the files of these names have the texts of a platform and of a script
-pub record AreFiles (holds : List ℕ → List ℕ → Type 0) (layout_name script_name : List ℕ) (platform : Platform) (lines : List Line) : Type 0 where
-  pub layout_text : List ℕ
-  pub layout_file : holds layout_name layout_text
-  pub layout : reading layout_text ≡ Ok platform
-  pub script_text : List ℕ
-  pub script_file : holds script_name script_text
-  pub script : script.reading script_text ≡ Ok lines
-
--- what `alone` and `journal` are given: such files, and the number of a domain, to which the platform gives this share
-pub record AreInputs (holds : List ℕ → List ℕ → Type 0) (layout_name script_name : List ℕ) (number : ℕ) (platform : Platform) (lines : List Line) (share : Share) : Type 0 where
-  pub files : AreFiles holds layout_name script_name platform lines
-  pub owner : share_of_owner platform number ≡ Some share
 
 -- What `run` prints: the fabric of the one file is driven by the other, and of that the begins that were refused, as
 -- they came, and then the report. Where the layout is guarded, no domain can tell that run from the one that is left when

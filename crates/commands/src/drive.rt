@@ -4,13 +4,13 @@ ghost use Rattle.std.specs.Prelude.{◌≡◌, IfErr, IfOk, OnOk};
 ghost use Rattle.std.specs.List.{flat_map};
 ghost use Rattle.fabric_core.specs.Stations.{events_at};
 ghost use Rattle.commands.specs.Driving.{Begins, Does, Drives, IsDriven};
-ghost use Rattle.commands.specs.Endings.{IsRunFault};
+ghost use Rattle.inputs.specs.Endings.{IsRunFault};
 ghost use Rattle.commands.specs.Isolated.{IsIsolated};
 ghost use Rattle.reports.specs.Writing.{Wrote};
 
-use crate::fault::Fault;
 use fab_types::Outcome;
 use fabric_core::{Event, Fabric, Station};
+use inputs::Fault;
 use layout::Layout;
 use reports::write_refusal;
 use script::{Command, Line};

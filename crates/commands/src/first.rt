@@ -9,9 +9,9 @@ ghost use Rattle.commands.specs.First.{Prints};
 ghost use Rattle.reports.specs.Report.{memory_lines};
 
 use crate::drive::driven;
-use crate::fault::Fault;
 use domain::Domain;
 use fab_types::Bdf;
+use inputs::Fault;
 use layout::Layout;
 use reports::write_frames;
 use script::{Command, Line, packet_bytes};

@@ -2,13 +2,7 @@
 #![tactic(auto)]
 
 mod drive;
-mod fault;
-mod files;
 pub mod first;
-mod inputs;
 pub mod replay;
 mod report;
 pub mod run;
-
-pub use fault::{ExitStatus, Fault};
-pub use files::{FileFault, FileGiver};

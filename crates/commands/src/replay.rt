@@ -4,10 +4,7 @@ ghost use Rattle.std.specs.Prelude.{OnOk};
 ghost use Rattle.reports.specs.Writing.{Wrote};
 ghost use Rattle.commands.specs.Runs.{ReplayPrints};
 
-use crate::fault::Fault;
-use crate::files::FileGiver;
-use crate::inputs::{journal_of, layout_of, text_of};
-use crate::run::start_of;
+use inputs::{Fault, FileGiver, journal_of, layout_of, start_of, text_of};
 use reports::write_domain;
 use std::alloc::Global;
 use std::io::Write;

@@ -1,22 +1,18 @@
 //! The commands `run`, `alone` and `journal`: a layout's fabric, driven by a script.
 
-ghost use Rattle.std.specs.Prelude.{◌≡◌, ◌≤◌, ◌⊎◌, IfErr, IfOk, None, OnOk, Some, SomeIff};
-ghost use Rattle.layout.specs.Views.{share_of_owner};
+ghost use Rattle.std.specs.Prelude.{IfOk, OnOk};
 ghost use Rattle.reports.specs.Writing.{Wrote};
-ghost use Rattle.commands.specs.Runs.{AlonePrints, AreInputs, IsReplayed, JournalPrints, RunPrints};
+ghost use Rattle.commands.specs.Runs.{AlonePrints, IsReplayed, JournalPrints, RunPrints};
 
 use crate::drive::driven;
-use crate::fault::Fault;
-use crate::files::FileGiver;
-use crate::inputs::{layout_of, script_of};
 use crate::report::write_report;
 use command_line::Files;
 use domain::Domain;
-use fab_types::DomainId;
+use inputs::{Fault, FileGiver, Inputs, inputs_of, layout_of, script_of};
 use journals::write_journal;
 use layout::{Layout, Start};
 use reports::write_domain;
-use script::{Line, Script};
+use script::Line;
 use std::alloc::Global;
 use std::io;
 use std::io::Write;
@@ -85,58 +81,6 @@ pub fn journal<'a, R: Wait, F: FileGiver, W: Write>(
     };
     write_journal(rt, alloc, out, domain)?;
     Ok(())
-}
-
-/// What `alone` and `journal` are given.
-#[derive(Drop)]
-struct Inputs {
-    layout: Layout,
-    script: Script,
-    /// What the domain that was asked for starts from.
-    start: Start,
-}
-
-/// Reads the files of these names, and finds the domain of this number.
-fn inputs_of<'a, F: FileGiver>(
-    alloc: Global,
-    files: &F,
-    names: Files<'a>,
-    number: u32,
-) -> Result<Inputs, Fault<'a>>
-    ensures { IfOk result (λ inputs. AreInputs (F.holds files.now) names.entry.layout.now names.entry.script.now number inputs.layout inputs.script inputs.start) }
-{
-    let layout = layout_of(alloc, files, names.layout)?;
-    let script = script_of(alloc, files, names.script)?;
-    let start = start_of(alloc, &layout, number)?;
-    Ok(Inputs {
-        layout,
-        script,
-        start,
-    })
-}
-
-/// The domain of this number, if it is 1 to 31.
-fn domain_of(number: u32) -> Option<DomainId>
-    ensures { SomeIff result ((1 ≤ number) × (number ≤ 31)) number }
-{
-    DomainId::new(u8::try_from(number).ok()?)
-}
-
-/// What the domain of this number starts from. There is none where it owns no port.
-pub(crate) fn start_of<'a>(alloc: Global, layout: &Layout, number: u32) -> Result<Start, Fault<'a>>
-    ensures ok { IfOk result (λ share. share_of_owner layout.now number ≡ Some share) }
-    ensures none { IfErr result (λ fault. (fault ≡ Fault.NoMemory) ⊎ ((fault ≡ Fault.NoDomain number) × (share_of_owner layout.now number ≡ None))) }
-{
-    // for the proof: each port is of a domain, 1 to 31
-    let _ = layout.ports();
-    let none = Fault::NoDomain { number };
-    let Some(domain) = domain_of(number) else {
-        return Err(none);
-    };
-    match layout.start(alloc, domain)? {
-        Some(start) => Ok(start),
-        None => Err(none),
-    }
 }
 
 /// The domain that the journal of a run makes of this start.

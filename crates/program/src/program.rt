@@ -3,14 +3,14 @@
 ghost use Rattle.std.specs.Prelude.{◌≡◌, OnOk, map};
 ghost use Rattle.command_line.specs.CommandLine.{Ask, Asked, IsAsked};
 ghost use Rattle.reports.specs.Writing.{Wrote};
-ghost use Rattle.commands.specs.Endings.{status_of};
+ghost use Rattle.inputs.specs.Endings.{status_of};
 ghost use Rattle.program.specs.Asked.{AskedPrints};
 
 use command_line::Request;
 use commands::first::first;
 use commands::replay::replay;
 use commands::run::{alone, journal, run};
-use commands::{ExitStatus, Fault, FileGiver};
+use inputs::{ExitStatus, Fault, FileGiver};
 use std::alloc::Global;
 use std::convert::AsStr;
 use std::io::Write;

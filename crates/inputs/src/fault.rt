@@ -1,7 +1,7 @@
 //! Why the program stops before its work is done, and its exit status.
 
 ghost use Rattle.std.specs.Prelude.{◌≡◌, ◌≢◌};
-ghost use Rattle.commands.specs.Endings.{exit_code, status_of};
+ghost use Rattle.inputs.specs.Endings.{exit_code, status_of};
 
 use command_line::WordsFault;
 use fab_types::{LayoutCause, LayoutFault, NoMemory, ReplayFault, ScriptCause, ScriptFault};
@@ -124,7 +124,7 @@ impl Fault<'_> {
 }
 
 impl From<AllocError> for Fault<'_> {
-    ghost use Rattle.commands.specs.declared.fault.Fault.TheVariants as fault;
+    ghost use Rattle.inputs.specs.declared.fault.Fault.TheVariants as fault;
 
     ghost from_gives = { λ _ f. f ≡ fault.NoMemory };
 
@@ -134,7 +134,7 @@ impl From<AllocError> for Fault<'_> {
 }
 
 impl From<NoMemory> for Fault<'_> {
-    ghost use Rattle.commands.specs.declared.fault.Fault.TheVariants as fault;
+    ghost use Rattle.inputs.specs.declared.fault.Fault.TheVariants as fault;
 
     ghost from_gives = { λ _ f. f ≡ fault.NoMemory };
 
@@ -144,7 +144,7 @@ impl From<NoMemory> for Fault<'_> {
 }
 
 impl From<WordsFault> for Fault<'_> {
-    ghost use Rattle.commands.specs.Endings.{fault_of_words};
+    ghost use Rattle.inputs.specs.Endings.{fault_of_words};
 
     ghost from_gives = { λ words f. f ≡ fault_of_words words };
 
@@ -157,7 +157,7 @@ impl From<WordsFault> for Fault<'_> {
 }
 
 impl From<LineFault> for Fault<'_> {
-    ghost use Rattle.commands.specs.Endings.{fault_of_line};
+    ghost use Rattle.inputs.specs.Endings.{fault_of_line};
 
     ghost from_gives = { λ line f. f ≡ fault_of_line line };
 
@@ -170,7 +170,7 @@ impl From<LineFault> for Fault<'_> {
 }
 
 impl From<io::Error> for Fault<'_> {
-    ghost use Rattle.commands.specs.Endings.{IsWriterFault};
+    ghost use Rattle.inputs.specs.Endings.{IsWriterFault};
 
     ghost from_gives = { IsWriterFault };
 

@@ -7,10 +7,10 @@ use Rattle.command_line.specs.declared.request.WordsFault.{WordsFault}
 use Rattle.command_line.specs.declared.request.WordsFault.TheVariants as words
 use Rattle.journals.specs.declared.lines.LineFault.{LineFault}
 use Rattle.journals.specs.declared.lines.LineFault.TheVariants as line_fault
-use Rattle.commands.specs.declared.fault.ExitStatus.{ExitStatus}
-use Rattle.commands.specs.declared.fault.ExitStatus.TheVariants as exit_status
-use Rattle.commands.specs.declared.fault.Fault.{Fault}
-use Rattle.commands.specs.declared.fault.Fault.TheVariants as fault
+use Rattle.inputs.specs.declared.fault.ExitStatus.{ExitStatus}
+use Rattle.inputs.specs.declared.fault.ExitStatus.TheVariants as exit_status
+use Rattle.inputs.specs.declared.fault.Fault.{Fault}
+use Rattle.inputs.specs.declared.fault.Fault.TheVariants as fault
 
 -- what a fault of the words comes to
 abbrev pub fault_of_words : WordsFault → Fault
