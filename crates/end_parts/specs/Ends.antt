@@ -1,11 +1,16 @@
 -- How a packet ends that was taken at an end of the tree, out of a link: at a function or at the root complex. What is said of
 -- a domain is said of some state of it, since other threads use it too.
-use Rattle.std.specs.Prelude.{◌≡◌, ℕ, Bool, List, Option, IsSome, ◌⊎◌}
+use Rattle.std.specs.Prelude.{◌≡◌, ℕ, List, Option, Some, None, IsSome, ◌⊎◌}
 use Rattle.fab_types.specs.declared.place.Place.{Place}
 use Rattle.frame_log.specs.Descriptor.{Descriptor}
+use Rattle.rtrb.specs.Ring.{known_free, SameProducer}
+use Rattle.domain.specs.Domains.{DomainView, Makes}
+use Rattle.domain.specs.Machine.{replay}
 use Rattle.domain.specs.declared.entry.Entry.TheVariants.{Alien, Carry, Deliver}
-use Rattle.locks.specs.Locks.{AbsentThere, CompletedThere, FlyingThere, IllegalThere, LegalThere, MadeThere, WantedThere, place_of}
+use Rattle.locks.specs.Locks.{AbsentThere, FlyingThere, IllegalThere, LegalThere, MadeThere, WantedThere, place_of}
 use Rattle.outboxes.specs.Outboxes.{BoxView}
+use Rattle.injector.specs.Records.{Records}
+use Rattle.injector.specs.declared.record_ring.RecordRing.{RecordRing}
 use Rattle.end_parts.specs.Boxes.{IsCramped, with_answer, with_places}
 use Rattle.end_parts.specs.declared.ending.Receipt.{Receipt}
 use Rattle.end_parts.specs.declared.ending.Receipt.TheVariants as receipt
@@ -19,17 +24,23 @@ pub record Carries (frame : Descriptor) (box box' : BoxView) : Type 0 where
   pub places : ℕ
   pub put : box' ≡ with_answer answer (with_places places box)
 
--- a completion was delivered
-pub record Delivers (frame : Descriptor) (box box' : BoxView) : Type 0 where
-  pub is_recorded : Bool
-  pub completed : CompletedThere frame is_recorded
-  pub same : box' ≡ box
+-- A completion was delivered. The ring of records, with what it holds, grew by the record that this delivery makes, or by
+-- nothing where it makes none; a record is held only where this end knows of no place.
+pub record SettledThere (frame : Descriptor) (ring ring' : RecordRing) : Type 0 where
+  pub before : DomainView
+  pub after : DomainView
+  pub home : frame.domain ≡ before.share.domain
+  pub replays : replay before.share before.journal ≡ Some before.state
+  pub makes : Makes before (Deliver frame.number) after None
+  pub grows : Records before frame.number ring ring'
+  pub same : SameProducer ring.producer ring'.producer
+  pub full : IsSome ring'.held → known_free ring'.producer ≡ 0
 
 -- either, as its receipt says
-abbrev pub EndsOwn : Receipt → Descriptor → BoxView → BoxView → Type 0
-EndsOwn receipt.Carry frame box box' = Carries frame box box'
-EndsOwn receipt.Deliver frame box box' = Delivers frame box box'
-EndsOwn receipt.Nobody frame box box' = ⊥
+abbrev pub EndsOwn : Receipt → Descriptor → BoxView → BoxView → RecordRing → RecordRing → Type 0
+EndsOwn receipt.Carry frame box box' ring ring' = Carries frame box box' × (ring' ≡ ring)
+EndsOwn receipt.Deliver frame box box' ring ring' = SettledThere frame ring ring' × (box' ≡ box)
+EndsOwn receipt.Nobody frame box box' ring ring' = ⊥
 
 -- Its home has no case for it: it has none by its receipt, or such an entry was illegal there. Nothing is said of a home
 -- without a lock.
@@ -38,11 +49,11 @@ HasNoCase locks receipt.Carry frame = IsSome (place_of locks frame.domain) → I
 HasNoCase locks receipt.Deliver frame = IsSome (place_of locks frame.domain) → IllegalThere frame.domain (Deliver frame.number)
 HasNoCase locks receipt.Nobody frame = Unit
 
--- memory is wanted: for what follows from it, or for places in the outbox
-abbrev pub WantsMemory : Receipt → Descriptor → BoxView → Type 0
-WantsMemory receipt.Carry frame box = WantedThere frame.domain (Carry frame.number) ⊎ IsCramped box
-WantsMemory receipt.Deliver frame box = ⊥
-WantsMemory receipt.Nobody frame box = ⊥
+-- It has to wait: memory is wanted for what follows from it, or for places in the outbox; or a record is held.
+abbrev pub HasToWait : Receipt → Descriptor → BoxView → RecordRing → Type 0
+HasToWait receipt.Carry frame box ring = WantedThere frame.domain (Carry frame.number) ⊎ IsCramped box
+HasToWait receipt.Deliver frame box ring = IsSome ring.held
+HasToWait receipt.Nobody frame box ring = ⊥
 
 -- ---- an entry of the domain of that place, in a layout that isn't guarded
 

@@ -3,6 +3,8 @@
 ghost use Rattle.std.specs.Prelude.{◌≡◌};
 ghost use Rattle.end_parts.specs.Endings.{has_moved};
 
+use frame_log::Frame;
+
 /// What the home of a packet has to do with it where it is taken (PCIe 4.0, 2.2.9 and 2.3.1).
 #[derive(Clone, Copy, Debug, PartialEq, Eq)]
 pub enum Receipt {
@@ -23,7 +25,7 @@ pub enum Ending {
     Alien,
     /// Nobody had a case for it, and it is kept.
     Stray,
-    /// Memory was refused: it stands where it stood.
+    /// It stands where it stood: memory was refused, or it is a completion, whose record would have no place.
     Waits,
     /// There was none.
     Idle,
@@ -39,4 +41,13 @@ impl Ending {
             Ending::Waits | Ending::Idle => false,
         }
     }
+}
+
+/// A packet that was taken, and of which its home has no entry. It is given back.
+#[derive(Debug, Drop)]
+pub enum Unended {
+    /// Its home has no case for it.
+    Stray(Frame),
+    /// It has to wait: memory was refused, or a record is held.
+    Waits(Frame),
 }

@@ -1,16 +1,19 @@
 //! A packet for which its home has a case.
 
-ghost use Rattle.std.specs.Prelude.{◌≡◌, IfErr, OnErr, OnOk};
-ghost use Rattle.frame_log.specs.Faults.{fault_frame};
-ghost use Rattle.frame_log.specs.declared.fault.FrameFault.TheVariants as fault;
-ghost use Rattle.outboxes.specs.Outboxes.{BoxView};
-ghost use Rattle.end_parts.specs.Boxes.{with_places};
-ghost use Rattle.end_parts.specs.Ends.{Carries, Delivers, EndsOwn, HasNoCase, WantsMemory};
+ghost use Rattle.std.specs.Prelude.{◌≡◌, ◌⊎◌, IfErr, OnErr, OnOk};
+ghost use Rattle.domain.specs.declared.entry.Entry.TheVariants.{Carry};
+ghost use Rattle.locks.specs.Locks.{WantedThere};
+ghost use Rattle.end_parts.specs.Boxes.{IsCramped, with_places};
+ghost use Rattle.end_parts.specs.Endings.{unended_frame};
+ghost use Rattle.end_parts.specs.Ends.{Carries, EndsOwn, HasNoCase, HasToWait};
 ghost use Rattle.end_parts.specs.declared.ending.Receipt.TheVariants as receipt;
+ghost use Rattle.end_parts.specs.declared.ending.Unended.TheVariants as unended;
 
-use crate::ending::Receipt;
+use crate::delivering::deliver;
+use crate::ending::{Receipt, Unended};
 use crate::room::{make_room, put_answer};
 use frame_log::{Frame, FrameFault};
+use injector::RecordRing;
 use locks::Locks;
 use outboxes::OriginBox;
 use std::sync::Wait;
@@ -21,55 +24,52 @@ fn carry<R: Wait>(
     locks: &Locks,
     outbox: &mut OriginBox,
     frame: Frame,
-) -> Result<(), FrameFault>
+) -> Result<(), Unended>
     ensures ended { OnOk result (Carries frame outbox.old outbox.new) }
-    ensures given { IfErr result (λ f. fault_frame f ≡ frame) }
-    ensures stray { IfErr result (λ f. f ≡ fault.Stray frame → HasNoCase locks.now receipt.Carry frame) }
-    ensures memory { IfErr result (λ f. f ≡ fault.NoMemory frame → WantsMemory receipt.Carry frame outbox.old) }
+    ensures given { IfErr result (λ u. unended_frame u ≡ frame) }
+    ensures stray { IfErr result (λ u. u ≡ unended.Stray frame → HasNoCase locks.now receipt.Carry frame) }
+    ensures waits { IfErr result (λ u. u ≡ unended.Waits frame → WantedThere frame.domain (Carry frame.number) ⊎ IsCramped outbox.old) }
     ensures err { OnErr result (outbox.new ≡ with_places outbox.new.places outbox.old) }
 {
     if !make_room(outbox) {
-        return Err(FrameFault::NoMemory(frame));
+        return Err(Unended::Waits(frame));
     }
-    let answer = locks.carry(rt, frame)?;
-    put_answer(outbox, answer);
-    Ok(())
+    match locks.carry(rt, frame) {
+        Ok(answer) => {
+            put_answer(outbox, answer);
+            Ok(())
+        }
+        Err(FrameFault::Stray(frame)) => Err(Unended::Stray(frame)),
+        Err(FrameFault::NoMemory(frame)) => Err(Unended::Waits(frame)),
+    }
 }
 
-/// Its home has a completion delivered, under its lock.
-fn complete<R: Wait>(rt: &R, locks: &Locks, frame: Frame) -> Result<(), FrameFault>
-    ensures ended { OnOk result ((box : BoxView) → Delivers frame box box) }
-    ensures given { IfErr result (λ f. f ≡ fault.Stray frame) }
-    ensures stray { OnErr result (HasNoCase locks.now receipt.Deliver frame) }
-{
-    // Whether a record was made is for who gives records out.
-    let _is_recorded = locks.complete(rt, frame)?;
-    Ok(())
-}
-
-/// A packet was taken, with which its home has to do as its receipt says. What follows waits in the outbox, which gets
-/// places for it first. It may have to wait for another thread; what is said holds if it returns.
+/// A packet was taken, with which its home has to do as its receipt says. What follows from a request waits in the outbox,
+/// which gets places for it first. The record of a completion goes into the ring, or is held where the ring is full. It may
+/// have to wait for another thread; what is said holds if it returns.
 ///
 /// # Errors
 ///
-/// `Stray`: it has no case by its receipt, or its home has none. `NoMemory`: memory was refused to what follows, or to
-/// places for it. After either the frame is given back, its home has no entry of it, and the outbox may have more places.
+/// `Stray`: it has no case by its receipt, or its home has none. `Waits`: memory was refused to what follows, or to places
+/// for it; or it is a completion, and a record is held (`RecordRing::holds_record`). After either the frame is given back,
+/// its home has no entry of it, the ring is as it was, and the outbox may have more places.
 pub fn end_own<R: Wait>(
     rt: &R,
     locks: &Locks,
     receipt: Receipt,
     outbox: &mut OriginBox,
+    records: &mut RecordRing,
     frame: Frame,
-) -> Result<(), FrameFault>
-    ensures ended { OnOk result (EndsOwn receipt frame outbox.old outbox.new) }
-    ensures given { IfErr result (λ f. fault_frame f ≡ frame) }
-    ensures stray { IfErr result (λ f. f ≡ fault.Stray frame → HasNoCase locks.now receipt frame) }
-    ensures memory { IfErr result (λ f. f ≡ fault.NoMemory frame → WantsMemory receipt frame outbox.old) }
-    ensures err { OnErr result (outbox.new ≡ with_places outbox.new.places outbox.old) }
+) -> Result<(), Unended>
+    ensures ended { OnOk result (EndsOwn receipt frame outbox.old outbox.new records.old records.new) }
+    ensures given { IfErr result (λ u. unended_frame u ≡ frame) }
+    ensures stray { IfErr result (λ u. u ≡ unended.Stray frame → HasNoCase locks.now receipt frame) }
+    ensures waits { IfErr result (λ u. u ≡ unended.Waits frame → HasToWait receipt frame outbox.old records.old) }
+    ensures err { OnErr result ((outbox.new ≡ with_places outbox.new.places outbox.old) × (records.new ≡ records.old)) }
 {
     match receipt {
         Receipt::Carry => carry(rt, locks, outbox, frame),
-        Receipt::Deliver => complete(rt, locks, frame),
-        Receipt::Nobody => Err(FrameFault::Stray(frame)),
+        Receipt::Deliver => deliver(rt, locks, records, frame),
+        Receipt::Nobody => Err(Unended::Stray(frame)),
     }
 }

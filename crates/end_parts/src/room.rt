@@ -35,7 +35,8 @@ pub(crate) fn make_room(outbox: &mut OriginBox) -> bool
 /// Puts what answers a packet behind the others, if anything does.
 pub(crate) fn put_answer(outbox: &mut OriginBox, answer: Option<Frame>)
     requires { HasRoom outbox.old }
-    ensures { outbox.new ≡ with_answer answer outbox.old }
+    ensures put { outbox.new ≡ with_answer answer outbox.old }
+    ensures origin { outbox.new.origin ≡ outbox.old.origin }
 {
     if let Some(answer) = answer {
         outbox.put(answer);

@@ -1,23 +1,11 @@
 //! What becomes of a packet that a function sends to the root complex.
 
 use crate::layouts::{GUARDED, UNGUARDED};
-use crate::scenes::{Scene, at_root, back_again};
+use crate::packets::{read, read_registers, write};
+use crate::scenes::{Scene, at_root};
 use fab_types::DomainId;
 use std::alloc::Global;
 use std::sync::Wait;
-
-/// A write to page 1, in the name of the function on this bus.
-fn write(bus: u8) -> [u8; 16] {
-    [
-        0x40, 0, 0, 1, bus, 0, 0, 0x0f, 0, 0, 0x10, 0, 0x11, 0x22, 0x33, 0x44,
-    ]
-}
-
-/// A read of page 1 or 2, in the name of function 03:00.0.
-fn read(page: u8) -> [u8; 12] {
-    let third = if page == 2 { 0x20 } else { 0x10 };
-    [0x00, 0, 0, 1, 3, 0, 7, 0x0f, 0, 0, third, 0]
-}
 
 /// How many entries this domain has.
 fn entries<R: Wait>(rt: &R, scene: &Scene, number: u8) -> Option<usize> {
@@ -33,13 +21,6 @@ fn first_byte<R: Wait>(rt: &R, scene: &Scene, number: u8, frame: u16) -> Option<
     domain.frame(frame)?.first().copied()
 }
 
-/// How many completions were delivered to domain 1, and how many of its Tags are open.
-fn delivered<R: Wait>(rt: &R, scene: &Scene) -> Option<(usize, usize)> {
-    let lock = scene.locks.lock_of(DomainId::new(1)?)?;
-    let domain = lock.lock(rt);
-    Some((domain.records().len(), domain.open_tags().len()))
-}
-
 /// What domain 1 has in frame 0 once its function wrote.
 fn written<R: Wait>(rt: &R, alloc: Global) -> Option<u8> {
     let scene = at_root(rt, alloc, GUARDED, &write(3))?;
@@ -53,8 +34,12 @@ fn a_write_is_carried_and_stands_in_memory(rt: HostRuntime) {
 
 /// What was delivered once the function read its memory.
 fn read_back<R: Wait>(rt: &R, alloc: Global) -> Option<(usize, usize)> {
-    let scene = back_again(rt, alloc, GUARDED, &read(1))?;
-    delivered(rt, &scene)
+    let mut scene = at_root(rt, alloc, GUARDED, &read(7))?;
+    if scene.turn_function(rt) {
+        scene.delivered(rt)
+    } else {
+        None
+    }
 }
 
 #[test]
@@ -65,9 +50,12 @@ fn the_completion_of_a_read_comes_back_and_makes_a_record(rt: HostRuntime) {
 /// What was delivered once the function read its own registers: the request comes down to it as one of the host, and its
 /// completion goes up to the root complex and down again.
 fn read_through<R: Wait>(rt: &R, alloc: Global) -> Option<(usize, usize)> {
-    let mut scene = back_again(rt, alloc, GUARDED, &read(2))?;
-    scene.turn_both(rt)?;
-    delivered(rt, &scene)
+    let mut scene = at_root(rt, alloc, GUARDED, &read_registers(7))?;
+    if scene.turn_function(rt) && scene.turn_both(rt) {
+        scene.delivered(rt)
+    } else {
+        None
+    }
 }
 
 #[test]

@@ -2,14 +2,13 @@
 
 use bridge::Bridge;
 use domain::Domain;
-use fab_types::{Bdf, DomainId, Origin};
-use frame_log::{Frame, Log};
+use fab_types::{Bdf, DomainId};
+use frame_log::Log;
 use layout::{Layout, Start};
 use locks::Locks;
-use outboxes::OriginBox;
 use root_work::FrameOwners;
 use std::alloc::Global;
-use std::sync::{Arc, Wait};
+use std::sync::Arc;
 
 /// Each port has all five controls set. Page 2 of function 03:00.0 is its own register page.
 pub const GUARDED: &str = "pciefab 1
@@ -66,26 +65,7 @@ pub fn bridge(alloc: Global, layout: &Layout) -> Option<Arc<Bridge, Global>> {
     Arc::new(alloc, Bridge::new(alloc, layout).ok()?).ok()
 }
 
-fn host(alloc: Global, number: u8) -> Option<OriginBox> {
-    OriginBox::new(alloc, Origin::Host(DomainId::new(number)?), 4).ok()
-}
-
-/// The outboxes of both hosts.
-pub fn hosts(alloc: Global) -> Option<Vec<OriginBox>> {
-    let mut hosts = Vec::new(alloc);
-    hosts.push(host(alloc, 1)?).ok()?;
-    hosts.push(host(alloc, 2)?).ok()?;
-    Some(hosts)
-}
-
 /// Function 03:00.0.
 pub fn function() -> Bdf {
     Bdf::from_bits(0x0300)
-}
-
-/// Function 03:00.0 of domain 1 submits these bytes.
-pub fn submitted<R: Wait>(rt: &R, locks: &Locks, bytes: &[u8]) -> Option<Frame> {
-    let lock = locks.lock_of(DomainId::new(1)?)?;
-    let mut domain = lock.lock(rt);
-    domain.submit(rt, function(), bytes).ok()
 }

@@ -3,8 +3,12 @@
 #![tactic(auto)]
 
 #[cfg(test)]
+mod begins;
+#[cfg(test)]
 mod ends;
 #[cfg(test)]
 mod layouts;
+#[cfg(test)]
+mod packets;
 #[cfg(test)]
 mod scenes;

@@ -1,5 +1,5 @@
--- A function takes the eligible packet of a class out of its link: what waits there, its outbox and its strays before and
--- after.
+-- A function takes the eligible packet of a class out of its link: what waits there, its outbox, the records that it gives out
+-- and its strays before and after.
 use Rattle.std.specs.Prelude.{◌≡◌, ℕ, List, [], ◌∷◌, ◌++◌, Some}
 use Rattle.fab_types.specs.declared.place.Place.{Place}
 use Rattle.fab_types.specs.declared.place.Place.TheVariants.{Ingress}
@@ -7,6 +7,7 @@ use Rattle.fab_types.specs.declared.place.Way.TheVariants.{Down}
 use Rattle.frame_log.specs.Descriptor.{Descriptor}
 use Rattle.lane.specs.Lanes.{Class, eligible}
 use Rattle.outboxes.specs.Outboxes.{BoxView}
+use Rattle.injector.specs.declared.record_ring.RecordRing.{RecordRing}
 use Rattle.end_parts.specs.Boxes.{with_places}
 use Rattle.end_parts.specs.Ends.{EndsOwn, HasNoAlien, HasNoCase, TakesAlien}
 use Rattle.function_work.specs.Receipts.{receipt_at}
@@ -16,10 +17,10 @@ abbrev pub place_at : ℕ → Place
 place_at function = Ingress (record { lower = function; way = Down })
 
 -- its home has an entry of it
-pub record ArrivesAtHome (domain : ℕ) (class : Class) (waiting waiting' : List Descriptor) (box box' : BoxView) (strays strays' : List Descriptor) : Type 0 where
+pub record ArrivesAtHome (domain : ℕ) (class : Class) (waiting waiting' : List Descriptor) (box box' : BoxView) (ring ring' : RecordRing) (strays strays' : List Descriptor) : Type 0 where
   pub frame : Descriptor
   pub taken : eligible class waiting ≡ Some (frame, waiting')
-  pub ended : EndsOwn (receipt_at domain frame) frame box box'
+  pub ended : EndsOwn (receipt_at domain frame) frame box box' ring ring'
   pub others : strays' ≡ strays
 
 -- its home has no case for it, and the function's domain has an entry of it

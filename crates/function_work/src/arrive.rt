@@ -1,14 +1,15 @@
 //! A function takes a packet out of its link.
 
-ghost use Rattle.std.specs.Prelude.{◌≡◌, None};
+ghost use Rattle.std.specs.Prelude.{◌≡◌, ◌≢◌, None};
 ghost use Rattle.lane.specs.Lanes.{eligible};
 ghost use Rattle.lane.specs.Queues.{frames_of};
 ghost use Rattle.function_work.specs.Arriving.{ArrivesAsAlien, ArrivesAsStray, ArrivesAtHome, StaysThere, place_at};
 
 use crate::receipt::receipt_at;
-use end_parts::{Ending, end_alien, end_own};
+use end_parts::{Ending, Unended, end_alien, end_own};
 use fab_types::{Bdf, Class, Direction, DomainId, Place, Way};
-use frame_log::{Frame, FrameFault};
+use frame_log::Frame;
+use injector::RecordRing;
 use link::Ingress;
 use locks::Locks;
 use outboxes::OriginBox;
@@ -25,7 +26,8 @@ fn place_at(function: Bdf) -> Place
 }
 
 /// The function takes the eligible packet of a class. Its home has an entry of it, or where that has no case for it the
-/// function's domain, as only in layouts that aren't guarded; what follows waits in the outbox. Else it is kept.
+/// function's domain, as only in layouts that aren't guarded; what follows waits in the outbox, and the record of a completion
+/// goes out by the ring. Else it is kept, or it waits: memory was refused, or it is a completion and a record is held.
 pub(crate) fn arrive<R: Wait>(
     rt: &R,
     class: Class,
@@ -33,25 +35,28 @@ pub(crate) fn arrive<R: Wait>(
     domain: DomainId,
     input: &mut Ingress,
     outbox: &mut OriginBox,
+    records: &mut RecordRing,
     locks: &Locks,
     strays: &mut Vec<Frame>,
 ) -> Ending
-    ensures own { result ≡ Ending.Own → ArrivesAtHome domain class (frames_of input.old.queue.queue.waiting) (frames_of input.new.queue.queue.waiting) outbox.old outbox.new strays.old.items strays.new.items }
+    ensures own { result ≡ Ending.Own → ArrivesAtHome domain class (frames_of input.old.queue.queue.waiting) (frames_of input.new.queue.queue.waiting) outbox.old outbox.new records.old records.new strays.old.items strays.new.items }
     ensures alien { result ≡ Ending.Alien → ArrivesAsAlien locks.now function domain class (frames_of input.old.queue.queue.waiting) (frames_of input.new.queue.queue.waiting) outbox.old outbox.new strays.old.items strays.new.items }
     ensures stray { result ≡ Ending.Stray → ArrivesAsStray locks.now function domain class (frames_of input.old.queue.queue.waiting) (frames_of input.new.queue.queue.waiting) outbox.old outbox.new strays.old.items strays.new.items }
     ensures waits { result ≡ Ending.Waits → StaysThere (frames_of input.old.queue.queue.waiting) (frames_of input.new.queue.queue.waiting) outbox.old outbox.new strays.old.items strays.new.items }
     ensures idle { result ≡ Ending.Idle → (eligible class (frames_of input.old.queue.queue.waiting) ≡ None) × StaysThere (frames_of input.old.queue.queue.waiting) (frames_of input.new.queue.queue.waiting) outbox.old outbox.new strays.old.items strays.new.items }
+    ensures records { result ≢ Ending.Own → records.new ≡ records.old }
 {
     let Some(frame) = input.release(class) else {
         return Ending::Idle;
     };
-    match end_own(rt, locks, receipt_at(domain, &frame), outbox, frame) {
+    let receipt = receipt_at(domain, &frame);
+    match end_own(rt, locks, receipt, outbox, records, frame) {
         Ok(()) => Ending::Own,
-        Err(FrameFault::Stray(frame)) => {
+        Err(Unended::Stray(frame)) => {
             let place = place_at(function);
             end_alien(rt, locks, domain, place, outbox, input, strays, frame)
         }
-        Err(FrameFault::NoMemory(frame)) => {
+        Err(Unended::Waits(frame)) => {
             input.give_back(frame);
             Ending::Waits
         }

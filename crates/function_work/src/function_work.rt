@@ -5,10 +5,12 @@ ghost use Rattle.std.specs.Arc.{arc_value};
 ghost use Rattle.wiring.specs.Wired.{tags_of};
 
 use crate::arrive::arrive;
+use crate::parts::FunctionParts;
 use credit::Limits;
-use end_parts::enter_each;
+use end_parts::{enter_each, serve_begin};
 use fab_types::{Bdf, Class, DomainId};
 use frame_log::Frame;
+use injector::{WorkerEnds, flush};
 use link_side::LinkSide;
 use locks::Locks;
 use outboxes::OriginBox;
@@ -20,14 +22,15 @@ use wiring::Ends;
 // How often a turn goes round while something moves.
 const ROUNDS: usize = 16;
 
-/// A function with all that is its own: its outbox, its side of its link, its way to the domains, and the packets that
-/// nobody had a case for. The ends of rings that it has are lent to each call. A contract sees what no turn changes, a
-/// `FunctionWorkView`.
+/// A function with all that is its own: its outbox, its ends of its injector's rings, its side of its link, its way to the
+/// domains, and the packets that nobody had a case for. The ends of links' rings that it has are lent to each call. A contract
+/// sees what no turn changes, a `FunctionWorkView`.
 #[derive(Drop)]
 pub struct FunctionWork {
     function: Bdf,
     domain: DomainId,
     outbox: OriginBox,
+    ends: WorkerEnds,
     side: LinkSide,
     locks: Arc<Locks, Global>,
     strays: Vec<Frame>,
@@ -42,13 +45,14 @@ impl Model for FunctionWork {
 }
 
 impl FunctionWork {
-    /// The work of a function of this domain, with its outbox, at this side of its link, over the domains under locks. It
-    /// has no strays. It takes no memory.
+    /// The work of a function of this domain, with its outbox and the other ends of its injector's rings, at this side of its
+    /// link, over the domains under locks. It has no strays. It takes no memory.
     pub fn new(
         alloc: Global,
         function: Bdf,
         domain: DomainId,
         outbox: OriginBox,
+        ends: WorkerEnds,
         side: LinkSide,
         locks: Arc<Locks, Global>,
     ) -> FunctionWork
@@ -58,6 +62,7 @@ impl FunctionWork {
             function,
             domain,
             outbox,
+            ends,
             side,
             locks,
             strays: Vec::new(alloc),
@@ -75,6 +80,7 @@ impl FunctionWork {
             self.domain,
             &mut self.side.ingress,
             &mut self.outbox,
+            &mut self.ends.records,
             &self.locks,
             &mut self.strays,
         );
@@ -90,7 +96,22 @@ impl FunctionWork {
         posted || non_posted || completion
     }
 
-    /// Once round: what waits to be sent leaves before what came is taken. Did anything move?
+    /// Its domain has the next begin of its injector, if there is one. Did one leave the ring for good?
+    fn serve<R: Wait>(&mut self, rt: &R) -> bool
+        ensures { self.new ≡ self.old }
+    {
+        let serving = serve_begin(
+            rt,
+            &self.locks,
+            self.domain,
+            &mut self.outbox,
+            &mut self.ends.begins,
+        );
+        serving.has_moved()
+    }
+
+    /// Once round: what waits to be sent leaves before what came is taken, and a record that is held goes out before a
+    /// completion is. Did anything move?
     fn round<R: Wait>(
         &mut self,
         rt: &R,
@@ -103,11 +124,13 @@ impl FunctionWork {
     {
         let heard = self.side.hear(credits);
         let sent = self.side.send_each(links);
+        flush(&mut self.ends.records);
         let arrived = self.arrive_each(rt);
         let landed = self.side.land(links);
         let entered = enter_each(&mut self.outbox, &mut self.side.egress);
+        let served = self.serve(rt);
         let told = self.side.tell(credits);
-        heard || sent || arrived || landed || entered || told
+        heard || sent || arrived || landed || entered || served || told
     }
 
     /// One turn of the worker: round after round while anything moves, at most 16.
@@ -120,6 +143,30 @@ impl FunctionWork {
             if !self.round(rt, links, credits) {
                 break;
             }
+        }
+    }
+
+    /// All that is its own, for whoever stops the fabric. Its way to the domains is let go.
+    pub fn into_parts(self) -> FunctionParts
+        ensures { result.function ≡ self.function }
+    {
+        let FunctionWork {
+            function,
+            domain: _,
+            outbox,
+            ends,
+            side,
+            locks: _,
+            strays,
+        } = self;
+        let WorkerEnds { begins, records } = ends;
+        FunctionParts {
+            function,
+            outbox,
+            side,
+            strays,
+            begins,
+            records,
         }
     }
 }

@@ -3,6 +3,8 @@
 
 mod arrive;
 mod function_work;
+mod parts;
 mod receipt;
 
 pub use function_work::FunctionWork;
+pub use parts::FunctionParts;

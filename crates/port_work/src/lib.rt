@@ -4,6 +4,8 @@
 mod collect;
 mod forward;
 mod lose;
+mod parts;
 mod port_work;
 
+pub use parts::PortParts;
 pub use port_work::PortWork;

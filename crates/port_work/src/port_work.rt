@@ -9,6 +9,7 @@ ghost use Rattle.wiring.specs.Wired.{tags_of};
 use crate::collect::collect;
 use crate::forward::turn_over;
 use crate::lose::{Losing, lose};
+use crate::parts::PortParts;
 use bridge::Bridge;
 use credit::Limits;
 use fab_types::{Class, Outcome};
@@ -174,6 +175,25 @@ impl PortWork {
             if !self.round(rt, links, credits, pairs) {
                 break;
             }
+        }
+    }
+
+    /// All that is its own, for whoever stops the fabric. Its ways to the domains and to the switches are let go.
+    pub fn into_parts(self) -> PortParts
+        ensures port { result.port.config ≡ self.config }
+        ensures seat { seat_of result.reporter ≡ self.seat }
+    {
+        let PortWork {
+            port,
+            bridge: _,
+            side,
+            desk: _,
+            reporter,
+        } = self;
+        PortParts {
+            port,
+            side,
+            reporter,
         }
     }
 }

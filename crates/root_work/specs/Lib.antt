@@ -1,4 +1,4 @@
-pub mod Boxes
+pub mod Hosts
 pub mod Ending
 pub mod Owners
 pub mod Receipts

@@ -3,22 +3,21 @@
 ghost use Rattle.std.specs.Prelude.{◌≡◌, ◌≢◌, ◌++◌, ◌∷◌, [], IsSome, None, Some, false};
 ghost use Rattle.lane.specs.Lanes.{eligible};
 ghost use Rattle.lane.specs.Queues.{frames_of, frames_restored};
-ghost use Rattle.end_parts.specs.Ends.{TakesAlien};
-ghost use Rattle.root_work.specs.Boxes.{AreSameBoxes, HostChanges};
-ghost use Rattle.root_work.specs.Ending.{EndsAsAlien, EndsAsStray, EndsAtHome, IsUnreceived, StaysThere, at_root};
+ghost use Rattle.root_work.specs.Ending.{EndsAsAlien, EndsAsStray, EndsAtHome, IsUnreceived, StaysThere, TakesAlienAt, at_root};
+ghost use Rattle.root_work.specs.Hosts.{AreSameHosts, HostChanges};
 ghost use Rattle.root_work.specs.Receipts.{receiver_of};
 ghost use Rattle.root_work.specs.Relaying.{AreRelayed};
 
 use crate::frame_owners::FrameOwners;
+use crate::host_work::HostWork;
 use crate::hosts::{end_at_home, host_place};
 use crate::receivers::receiver_of;
 use bridge::Bridge;
-use end_parts::{Ending, end_alien, keep_stray};
+use end_parts::{Ending, Unended, end_alien, keep_stray};
 use fab_types::{Bdf, Class, Direction, DomainId, Place, Way};
-use frame_log::{Frame, FrameFault};
+use frame_log::Frame;
 use link::Ingress;
 use locks::Locks;
-use outboxes::OriginBox;
 use std::sync::Wait;
 
 // The ID of the top switch, at the lower end of the root complex's link.
@@ -35,20 +34,20 @@ fn at_root() -> Place
 }
 
 /// This domain gets the entry of a packet that was just taken, for which its home has no case.
-#[tactic(auto, using(crate::proofs::Growing::same_boxes))]
+#[tactic(auto, using(crate::proofs::Growing::same_hosts))]
 fn end_as_alien<R: Wait>(
     rt: &R,
     locks: &Locks,
     receiver: DomainId,
-    hosts: &mut [OriginBox],
+    hosts: &mut [HostWork],
     input: &mut Ingress,
     strays: &mut Vec<Frame>,
     frame: Frame,
 ) -> Ending
     requires { IsSome (frames_restored input.old.queue.queue frame) }
-    ensures alien { result ≡ Ending.Alien → HostChanges receiver (TakesAlien receiver at_root frame) hosts.old hosts.new × (frames_of input.new.queue.queue.waiting ≡ frames_of input.old.queue.queue.waiting) × (strays.new.items ≡ strays.old.items) }
-    ensures stray { result ≡ Ending.Stray → IsUnreceived locks.now receiver hosts.old frame × AreSameBoxes hosts.old hosts.new × (frames_of input.new.queue.queue.waiting ≡ frames_of input.old.queue.queue.waiting) × (strays.new.items ≡ strays.old.items ++ frame ∷ []) }
-    ensures waits { result ≡ Ending.Waits → AreSameBoxes hosts.old hosts.new × (frames_restored input.old.queue.queue frame ≡ Some (frames_of input.new.queue.queue.waiting)) × (strays.new.items ≡ strays.old.items) }
+    ensures alien { result ≡ Ending.Alien → HostChanges receiver (TakesAlienAt receiver frame) hosts.old hosts.new × (frames_of input.new.queue.queue.waiting ≡ frames_of input.old.queue.queue.waiting) × (strays.new.items ≡ strays.old.items) }
+    ensures stray { result ≡ Ending.Stray → IsUnreceived locks.now receiver hosts.old frame × AreSameHosts hosts.old hosts.new × (frames_of input.new.queue.queue.waiting ≡ frames_of input.old.queue.queue.waiting) × (strays.new.items ≡ strays.old.items ++ frame ∷ []) }
+    ensures waits { result ≡ Ending.Waits → AreSameHosts hosts.old hosts.new × (frames_restored input.old.queue.queue frame ≡ Some (frames_of input.new.queue.queue.waiting)) × (strays.new.items ≡ strays.old.items) }
     ensures others { (result ≢ Ending.Own) × (result ≢ Ending.Idle) }
 {
     match host_place(hosts, receiver) {
@@ -57,7 +56,7 @@ fn end_as_alien<R: Wait>(
             locks,
             receiver,
             at_root(),
-            &mut hosts[place],
+            &mut hosts[place].outbox,
             input,
             strays,
             frame,
@@ -68,12 +67,13 @@ fn end_as_alien<R: Wait>(
 
 /// The root complex takes the eligible packet of a class, which it doesn't relay. Its home has an entry of it, or where
 /// that has no case for it the domain that it is for, as only in layouts that aren't guarded; what follows waits in the
-/// outbox of that domain's host. Else it is kept.
+/// outbox of that domain's host, and the record of a completion goes out there. Else it is kept, or it waits: memory was
+/// refused, or it is a completion and its host's ring holds a record.
 pub(crate) fn end_here<R: Wait>(
     rt: &R,
     class: Class,
     input: &mut Ingress,
-    hosts: &mut [OriginBox],
+    hosts: &mut [HostWork],
     frames: &FrameOwners,
     bridge: &Bridge,
     locks: &Locks,
@@ -91,11 +91,11 @@ pub(crate) fn end_here<R: Wait>(
     };
     match end_at_home(rt, locks, hosts, frame) {
         Ok(()) => Ending::Own,
-        Err(FrameFault::Stray(frame)) => {
+        Err(Unended::Stray(frame)) => {
             let receiver = receiver_of(bridge, frames, &frame);
             end_as_alien(rt, locks, receiver, hosts, input, strays, frame)
         }
-        Err(FrameFault::NoMemory(frame)) => {
+        Err(Unended::Waits(frame)) => {
             input.give_back(frame);
             Ending::Waits
         }

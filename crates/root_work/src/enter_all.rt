@@ -2,28 +2,28 @@
 
 ghost use Rattle.std.specs.Prelude.{◌≡◌, ◌<◌, false, length, map};
 ghost use Rattle.lane.specs.Queues.{frames_of};
-ghost use Rattle.root_work.specs.Boxes.{EntersAt};
+ghost use Rattle.root_work.specs.Hosts.{EntersAt};
 
+use crate::host_work::HostWork;
 use end_parts::enter_each;
 use link::Egress;
-use outboxes::OriginBox;
 
 /// The outbox at this place, each class in turn. Did a packet go?
-#[tactic(auto, using(crate::proofs::Growing::same_box, crate::proofs::Growing::same_origins))]
-fn enter_at(hosts: &mut [OriginBox], place: usize, egress: &mut Egress) -> bool
+#[tactic(auto, using(crate::proofs::Growing::same_host, crate::proofs::Growing::same_origins))]
+fn enter_at(hosts: &mut [HostWork], place: usize, egress: &mut Egress) -> bool
     requires { place < length hosts.old }
     ensures entered { EntersAt place hosts.old hosts.new (frames_of egress.old.queue.queue.waiting) (frames_of egress.new.queue.queue.waiting) result }
     ensures rests { result ≡ false → (hosts.new ≡ hosts.old) × (frames_of egress.new.queue.queue.waiting ≡ frames_of egress.old.queue.queue.waiting) }
-    ensures origins { map (λ host. host.origin) hosts.new ≡ map (λ host. host.origin) hosts.old }
+    ensures origins { map (λ host. host.outbox.origin) hosts.new ≡ map (λ host. host.outbox.origin) hosts.old }
     ensures sender { egress.new.sender ≡ egress.old.sender }
 {
-    enter_each(&mut hosts[place], egress)
+    enter_each(&mut hosts[place].outbox, egress)
 }
 
 /// One outbox after another. Did a packet go?
-pub(crate) fn enter_all(hosts: &mut [OriginBox], egress: &mut Egress) -> bool
+pub(crate) fn enter_all(hosts: &mut [HostWork], egress: &mut Egress) -> bool
     ensures rests { result ≡ false → (hosts.new ≡ hosts.old) × (frames_of egress.new.queue.queue.waiting ≡ frames_of egress.old.queue.queue.waiting) }
-    ensures origins { map (λ host. host.origin) hosts.new ≡ map (λ host. host.origin) hosts.old }
+    ensures origins { map (λ host. host.outbox.origin) hosts.new ≡ map (λ host. host.outbox.origin) hosts.old }
     ensures sender { egress.new.sender ≡ egress.old.sender }
 {
     let mut has_moved = false;

@@ -1,52 +1,67 @@
-//! The outboxes of the domains' hosts, and what ends in them.
+//! The domains' hosts, and what ends at them.
 
-ghost use Rattle.std.specs.Prelude.{◌≡◌, ◌<◌, ◌⊎◌, IfErr, IfSome, IsSome, None, OnErr, OnOk, length};
-ghost use Rattle.fab_types.specs.declared.origin.Origin.TheVariants.{Host};
-ghost use Rattle.frame_log.specs.Faults.{fault_frame};
-ghost use Rattle.frame_log.specs.declared.fault.FrameFault.TheVariants as fault;
-ghost use Rattle.outboxes.specs.Outboxes.{box_place};
-ghost use Rattle.end_parts.specs.Ends.{EndsOwn};
-ghost use Rattle.root_work.specs.Boxes.{AreSameBoxes, HostChanges};
-ghost use Rattle.root_work.specs.Ending.{IsForeign};
+ghost use Rattle.std.specs.Prelude.{◌≡◌, ◌<◌, IfErr, IfSome, OnErr, OnOk, length};
+ghost use Rattle.end_parts.specs.Endings.{unended_frame};
+ghost use Rattle.end_parts.specs.Ends.{HasNoCase};
+ghost use Rattle.end_parts.specs.declared.ending.Unended.TheVariants as unended;
+ghost use Rattle.root_work.specs.Ending.{EndsOwnAt, IsForeign};
+ghost use Rattle.root_work.specs.Hosts.{AreSameHosts, HostChanges, host_place, host_with_places};
 ghost use Rattle.root_work.specs.Receipts.{receipt_at_root};
 
+use crate::host_work::HostWork;
 use crate::receipt::receipt_at_root;
-use end_parts::end_own;
+use end_parts::{Unended, end_own};
 use fab_types::{DomainId, Origin, same_origin};
-use frame_log::{Frame, FrameFault};
+use frame_log::Frame;
 use locks::Locks;
-use outboxes::OriginBox;
 use std::sync::Wait;
 
-/// The place of the outbox of a domain's host.
-#[tactic(auto, unfolding(outboxes::specs::Outboxes::box_place))]
-pub(crate) fn host_place(hosts: &[OriginBox], domain: DomainId) -> Option<usize>
-    ensures value { result ≡ box_place hosts.now (Host domain) }
+/// The place of a domain's host.
+#[tactic(auto, unfolding(crate::specs::Hosts::host_place))]
+pub(crate) fn host_place(hosts: &[HostWork], domain: DomainId) -> Option<usize>
+    ensures value { result ≡ host_place hosts.now domain }
     ensures within { IfSome result (λ place. place < length hosts.now) }
 {
-    let host = Origin::Host(domain);
+    let owner = Origin::Host(domain);
     hosts
         .iter()
-        .position(|outbox| same_origin(outbox.origin(), host))
+        .position(|host| same_origin(host.outbox.origin(), owner))
 }
 
-/// The home of a packet that was taken has an entry of it, if it has a case for it, and what follows waits in its host's
-/// outbox.
-#[tactic(auto, using(crate::proofs::Growing::same_boxes))]
+/// The home of a packet that was taken has an entry of it, if it has a case for it, with what follows at this host.
+fn end_at<R: Wait>(rt: &R, locks: &Locks, host: &mut HostWork, frame: Frame) -> Result<(), Unended>
+    ensures ended { OnOk result (EndsOwnAt frame host.old host.new) }
+    ensures given { IfErr result (λ u. unended_frame u ≡ frame) }
+    ensures stray { IfErr result (λ u. u ≡ unended.Stray frame → HasNoCase locks.now (receipt_at_root frame) frame) }
+    ensures err { OnErr result (host.new ≡ host_with_places host.new.outbox.places host.old) }
+{
+    let receipt = receipt_at_root(&frame);
+    end_own(
+        rt,
+        locks,
+        receipt,
+        &mut host.outbox,
+        &mut host.ends.records,
+        frame,
+    )
+}
+
+/// The home of a packet that was taken has an entry of it, if it has a case for it. What follows waits in its host's outbox,
+/// and the record of a completion goes out there.
+#[tactic(auto, using(crate::proofs::Growing::same_hosts))]
 pub(crate) fn end_at_home<R: Wait>(
     rt: &R,
     locks: &Locks,
-    hosts: &mut [OriginBox],
+    hosts: &mut [HostWork],
     frame: Frame,
-) -> Result<(), FrameFault>
-    ensures ended { OnOk result (HostChanges frame.domain (EndsOwn (receipt_at_root frame) frame) hosts.old hosts.new) }
-    ensures given { IfErr result (λ f. fault_frame f ≡ frame) }
-    ensures stray { IfErr result (λ f. f ≡ fault.Stray frame → IsForeign locks.now hosts.old frame) }
-    ensures err { OnErr result (AreSameBoxes hosts.old hosts.new) }
+) -> Result<(), Unended>
+    ensures ended { OnOk result (HostChanges frame.domain (EndsOwnAt frame) hosts.old hosts.new) }
+    ensures given { IfErr result (λ u. unended_frame u ≡ frame) }
+    ensures stray { IfErr result (λ u. u ≡ unended.Stray frame → IsForeign locks.now hosts.old frame) }
+    ensures err { OnErr result (AreSameHosts hosts.old hosts.new) }
 {
     let Some(place) = host_place(hosts, frame.domain()) else {
-        return Err(FrameFault::Stray(frame));
+        return Err(Unended::Stray(frame));
     };
-    let receipt = receipt_at_root(&frame);
-    end_own(rt, locks, receipt, &mut hosts[place], frame)
+    end_at(rt, locks, &mut hosts[place], frame)
 }

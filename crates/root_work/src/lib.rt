@@ -3,12 +3,18 @@
 
 mod end_here;
 mod enter_all;
+mod flush_all;
 mod frame_owners;
+mod host_work;
 mod hosts;
+mod parts;
 mod receipt;
 mod receivers;
 mod relay;
 mod root_work;
+mod serve_all;
 
 pub use frame_owners::FrameOwners;
+pub use host_work::HostWork;
+pub use parts::RootParts;
 pub use root_work::RootWork;

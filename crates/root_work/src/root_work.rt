@@ -6,16 +6,19 @@ ghost use Rattle.wiring.specs.Wired.{tags_of};
 
 use crate::end_here::end_here;
 use crate::enter_all::enter_all;
+use crate::flush_all::flush_all;
 use crate::frame_owners::FrameOwners;
+use crate::host_work::HostWork;
+use crate::parts::RootParts;
 use crate::receipt::is_relayed;
 use crate::relay::relay;
+use crate::serve_all::serve_all;
 use bridge::Bridge;
 use credit::Limits;
 use fab_types::Class;
 use frame_log::Frame;
 use link_side::LinkSide;
 use locks::Locks;
-use outboxes::OriginBox;
 use std::alloc::Global;
 use std::marker::Model;
 use std::sync::{Arc, Wait};
@@ -24,12 +27,13 @@ use wiring::Ends;
 // How often a turn goes round while something moves.
 const ROUNDS: usize = 16;
 
-/// The root complex with all that is its own: the outboxes of the domains' hosts, whose each frame of memory is, its side
-/// of the link to the top switch, the switches of the layout, its way to the domains, and the packets that nobody had a
-/// case for. The ends of rings that it has are lent to each call. A contract sees what no turn changes, a `RootWorkView`.
+/// The root complex with all that is its own: the domains' hosts, each with its outbox and its ends of its injector's rings,
+/// whose each frame of memory is, its side of the link to the top switch, the switches of the layout, its way to the domains,
+/// and the packets that nobody had a case for. The ends of links' rings that it has are lent to each call. A contract sees
+/// what no turn changes, a `RootWorkView`.
 #[derive(Drop)]
 pub struct RootWork {
-    hosts: Vec<OriginBox>,
+    hosts: Vec<HostWork>,
     frames: FrameOwners,
     side: LinkSide,
     bridge: Arc<Bridge, Global>,
@@ -46,11 +50,11 @@ impl Model for RootWork {
 }
 
 impl RootWork {
-    /// The work of the root complex with the outboxes of these hosts, at this side of the link to the top switch, over
-    /// the switches of its layout and the domains under locks. It has no strays. It takes no memory.
+    /// The work of the root complex with these hosts, at this side of the link to the top switch, over the switches of its
+    /// layout and the domains under locks. It has no strays. It takes no memory.
     pub fn new(
         alloc: Global,
-        hosts: Vec<OriginBox>,
+        hosts: Vec<HostWork>,
         frames: FrameOwners,
         side: LinkSide,
         bridge: Arc<Bridge, Global>,
@@ -101,7 +105,8 @@ impl RootWork {
         posted || non_posted || completion
     }
 
-    /// Once round: what waits to be sent leaves before what came is taken. Did anything move?
+    /// Once round: what waits to be sent leaves before what came is taken, and records that are held go out before
+    /// completions are. Did anything move?
     fn round<R: Wait>(
         &mut self,
         rt: &R,
@@ -114,11 +119,13 @@ impl RootWork {
     {
         let heard = self.side.hear(credits);
         let sent = self.side.send_each(links);
+        flush_all(self.hosts.as_mut_slice());
         let taken = self.take_each(rt);
         let landed = self.side.land(links);
         let entered = enter_all(self.hosts.as_mut_slice(), &mut self.side.egress);
+        let served = serve_all(rt, &self.locks, self.hosts.as_mut_slice());
         let told = self.side.tell(credits);
-        heard || sent || taken || landed || entered || told
+        heard || sent || taken || landed || entered || served || told
     }
 
     /// One turn of the worker: round after round while anything moves, at most 16.
@@ -131,6 +138,23 @@ impl RootWork {
             if !self.round(rt, links, credits) {
                 break;
             }
+        }
+    }
+
+    /// All that is its own, for whoever stops the fabric. Its ways to the domains and to the switches are let go.
+    pub fn into_parts(self) -> RootParts {
+        let RootWork {
+            hosts,
+            frames: _,
+            side,
+            bridge: _,
+            locks: _,
+            strays,
+        } = self;
+        RootParts {
+            hosts,
+            side,
+            strays,
         }
     }
 }

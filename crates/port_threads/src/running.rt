@@ -1,0 +1,42 @@
+//! A fabric whose workers run.
+
+use crate::monitor_worker::Monitor;
+use crate::worker::Worker;
+use credit::Limits;
+use crew::Keeps;
+use frame_log::Frame;
+use injector::Injector;
+use locks::Locks;
+use plan::Plan;
+use std::alloc::Global;
+use std::marker::Model;
+use std::snapshot::Snapshot;
+use std::sync::Arc;
+use std::sync::atomic::AtomicBool;
+use std::thread::PromisedHandle;
+use vetted::VettedFrame;
+use wiring::Laid;
+
+/// The fabric of a layout whose workers run, each port, each function, the root complex and the monitor in a thread of its
+/// own. It can't be let go but by `stop`, so that no thread is left. A contract sees a `FabricView`.
+pub struct Running {
+    pub(crate) plan: Plan,
+    pub(crate) workers: Vec<PromisedHandle<Worker, Keeps<Worker>>>,
+    pub(crate) monitor: PromisedHandle<Monitor, Keeps<Monitor>>,
+    pub(crate) flag: Arc<AtomicBool, Global>,
+    pub(crate) locks: Arc<Locks, Global>,
+    pub(crate) injectors: Vec<Injector>,
+    pub(crate) links: Snapshot<Vec<Laid<Frame>>>,
+    pub(crate) credits: Snapshot<Vec<Laid<Limits>>>,
+    pub(crate) pairs: Snapshot<Vec<Laid<VettedFrame>>>,
+}
+
+impl Model for Running {
+    ghost use Rattle.port_threads.specs.Fabrics.{FabricView, IsRunning, running_view};
+
+    ghost Value = { FabricView };
+
+    ghost view = { running_view };
+
+    ghost invariant = { IsRunning };
+}

@@ -1,0 +1,18 @@
+//! The rings of a table that came back.
+
+ghost use Rattle.std.specs.Prelude.{◌≡◌, map, replicate, reverse, vec_len};
+ghost use Rattle.wiring.specs.Moved.{flow_of, no_flow};
+ghost use Rattle.wiring.specs.Returned.{all_told};
+
+use std::snapshot::Snapshot;
+use wiring::{Ends, Told};
+
+/// All rings of one table of the plan, the last first: of each, what was put in and taken, and what was left.
+#[derive(Drop)]
+pub struct ToldTable<T: Drop> {
+    pub rings: Vec<Told<T>>,
+    /// The ends as the workers gave them back, for contracts alone. What each worker had put in and taken by each of its ends
+    /// is what the rings tell.
+    pub ends: Snapshot<Vec<Ends<T>>>,
+    pub ghost moved: { map flow_of ends.value.items ≡ all_told (replicate (vec_len ends.value) no_flow) (reverse rings.items) },
+}

@@ -1,0 +1,47 @@
+//! A worker of any kind.
+
+ghost use Rattle.std.specs.Prelude.{◌≡◌};
+ghost use Rattle.port_threads.specs.Kept.{kept_of};
+
+use crate::post::Post;
+use credit::Limits;
+use crew::{Work, WorkerId};
+use frame_log::Frame;
+use std::sync::Wait;
+use vetted::VettedFrame;
+use wiring::Ends;
+
+/// A worker with the ends of its rings: those of its link, of the credits of that, and of the pairs of ports of its switch.
+#[derive(Drop)]
+pub(crate) struct Worker {
+    pub post: Post,
+    pub links: Ends<Frame>,
+    pub credits: Ends<Limits>,
+    pub pairs: Ends<VettedFrame>,
+}
+
+impl Worker {
+    fn work<R: Wait>(&mut self, rt: &R)
+        ensures { kept_of self.new ≡ kept_of self.old }
+    {
+        self.post
+            .job
+            .turn(rt, &mut self.links, &mut self.credits, &mut self.pairs);
+    }
+}
+
+impl Work for Worker {
+    ghost use Rattle.port_threads.specs.Kept.{Kept, kept_of};
+
+    ghost Kept = { Kept };
+
+    ghost kept = { kept_of };
+
+    fn id(&self) -> WorkerId {
+        self.post.id
+    }
+
+    fn turn<R: Wait>(&mut self, rt: &R) {
+        self.work(rt);
+    }
+}

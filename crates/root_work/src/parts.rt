@@ -1,0 +1,16 @@
+//! What the root complex's worker leaves.
+
+use crate::host_work::HostWork;
+use frame_log::Frame;
+use link_side::LinkSide;
+
+/// All that was the root complex's own while its worker ran. What is still in it was made, and ended nowhere.
+#[derive(Drop)]
+pub struct RootParts {
+    /// Of each host what it emitted and the link didn't take, and the worker's ends of its injector's rings.
+    pub hosts: Vec<HostWork>,
+    /// What waits to be sent, and what came and wasn't taken.
+    pub side: LinkSide,
+    /// The packets that nobody had a case for.
+    pub strays: Vec<Frame>,
+}
