@@ -83,7 +83,7 @@ where
 
 /// Starts a thread for each worker, in their order, all over one gate and one stop flag. Each makes its turns as in
 /// `run`. The faults are those of `start_one`, and `NoMemory` where memory for the list of handles was refused. After a
-/// fault no worker runs: it waits until those that had begun have ended, and lets all workers go.
+/// fault no worker runs: it sets the stop flag, waits until those that had begun have ended, and lets all workers go.
 pub fn start<W, G, R>(
     rt: R,
     alloc: Global,
@@ -105,6 +105,8 @@ where
         match start_one(rt, worker, gate, stop, turns) {
             Ok(handle) => handles.push_reserved(handle),
             Err(fault) => {
+                // They need not make the turns that are left.
+                stop.store(true, Ordering::SeqCst);
                 end_all(&rt, handles);
                 return Err(fault);
             }
