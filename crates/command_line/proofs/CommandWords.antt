@@ -1,5 +1,5 @@
 -- What was read of a command line, and the words that it was read of.
-use Rattle.std.proofs.Common.{◌≡◌, ℕ, Bool, true, false, cond, List, Option, Some, None, codes, refl, sym, ap, ap₂, subst, ◌∙◌, [], ◌∷◌, ⊎_elim, arith}
+use Rattle.std.proofs.Common.{◌≡◌, true, List, Option, Some, None, refl, sym, ap, ap₂, subst, ◌∙◌, [], ⊎_elim}
 use Rattle.std.specs.Prelude.{Box}
 use Rattle.std.specs.Option.{option_map, option_and_then}
 use Rattle.std.specs.Box.{box_value}

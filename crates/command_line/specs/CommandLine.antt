@@ -1,5 +1,5 @@
 -- The words of the command line, by the definitions of the library that reads them.
-use Rattle.std.specs.Prelude.{◌≡◌, ℕ, true, false, List, [], Option, Some, None, codes, bytes_eq, option_map, if◌then◌else◌}
+use Rattle.std.specs.Prelude.{◌≡◌, ℕ, ◌&&◌, nat_le, true, false, List, [], Option, Some, None, codes, bytes_eq, option_map, if◌then◌else◌}
 use Rattle.std.specs.Option.{option_and_then}
 use Rattle.clap.specs.Words.{App, Kinds, Row, Rule, Text, app_of, fault_of, first_of, new_app, new_rule, subcommand_of, subcommand_rows_of, with_rule, with_subcommand}
 use Rattle.clap.specs.declared.builder.action.ArgAction.TheVariants.{Set}
@@ -23,15 +23,22 @@ first_command = with_rule (new_app (codes "first")) (word_rule (codes "HEX"))
 abbrev pub files_command : Text → Text → App
 files_command name second = with_rule (with_rule (new_app name) (word_rule (codes "LAYOUT"))) (word_rule second)
 
+-- and with a further word
+abbrev pub third_command : Text → Text → Text → App
+third_command name second third = with_rule (files_command name second) (word_rule third)
+
 -- and with the number of a domain
 abbrev pub domain_command : Text → Text → App
-domain_command name second = with_rule (files_command name second) (word_rule (codes "DOMAIN"))
+domain_command name second = third_command name second (codes "DOMAIN")
 
 abbrev pub run_command : App
 run_command = files_command (codes "run") (codes "SCRIPT")
 
 abbrev pub alone_command : App
 alone_command = domain_command (codes "alone") (codes "SCRIPT")
+
+abbrev pub threads_command : App
+threads_command = third_command (codes "threads") (codes "SCRIPT") (codes "TURNS")
 
 abbrev pub journal_command : App
 journal_command = domain_command (codes "journal") (codes "SCRIPT")
@@ -46,10 +53,10 @@ program = let plain = new_app (codes "pciefab") in record plain { top = record p
 abbrev pub run_commands : App
 run_commands = with_subcommand (with_subcommand (with_subcommand program first_command.top) run_command.top) alone_command.top
 
--- `first HEX`, `run LAYOUT SCRIPT`, `alone LAYOUT SCRIPT DOMAIN`, `journal LAYOUT SCRIPT DOMAIN` and
--- `replay LAYOUT JOURNAL DOMAIN`; help is the library's own
+-- `first HEX`, `run LAYOUT SCRIPT`, `alone LAYOUT SCRIPT DOMAIN`, `journal LAYOUT SCRIPT DOMAIN`,
+-- `replay LAYOUT JOURNAL DOMAIN` and `threads LAYOUT SCRIPT TURNS`; help is the library's own
 abbrev pub commands : App
-commands = with_subcommand (with_subcommand run_commands journal_command.top) replay_command.top
+commands = with_subcommand (with_subcommand (with_subcommand run_commands journal_command.top) replay_command.top) threads_command.top
 
 -- a command is this, and no argument of it is one of its subcommands too
 abbrev pub IsDefined : Command → App → Type 0
@@ -63,6 +70,7 @@ pub data Asked : Type 0 where
   Alone : Text → Text → ℕ → Asked  -- the same, and the domain of this number
   Journal : Text → Text → ℕ → Asked  -- the same, and the journal of that domain
   Replay : Text → Text → ℕ → Asked  -- the files of these names, a layout and a journal of the domain of this number
+  Threads : Text → Text → ℕ → Asked  -- a run of the files on threads, each of which makes so many turns
 
 -- the names of the files of a layout and of this
 abbrev pub files_in : Text → List Row → Option (Text × Text)
@@ -71,11 +79,18 @@ files_in second rows = do
   option_map (λ other. (layout, other)) (first_of second rows)
 
 -- and a number of one to nine digits
-abbrev pub domain_in : Text → List Row → Option (Text × Text × ℕ)
-domain_in second rows = do
+abbrev pub number_in : Text → Text → List Row → Option (Text × Text × ℕ)
+number_in second third rows = do
   files ← files_in second rows
-  word ← first_of (codes "DOMAIN") rows
+  word ← first_of third rows
   option_map (λ number. (files.0, files.1, number)) (decimal word)
+
+abbrev pub domain_in : Text → List Row → Option (Text × Text × ℕ)
+domain_in second rows = number_in second (codes "DOMAIN") rows
+
+-- turns are 1 to 1,000,000
+abbrev pub turns_within : Text × Text × ℕ → Option Asked
+turns_within words = if nat_le 1 words.2 && nat_le words.2 1000000 then Some (Threads words.0 words.1 words.2) else None
 
 -- what the words of a subcommand ask for, by its name
 abbrev pub asked_of : Text × List Row → Option Asked
@@ -85,7 +100,8 @@ asked_of entered =
     else (if bytes_eq entered.0 (codes "alone") then option_map (λ a. Alone a.0 a.1 a.2) (domain_in (codes "SCRIPT") entered.1)
     else (if bytes_eq entered.0 (codes "journal") then option_map (λ a. Journal a.0 a.1 a.2) (domain_in (codes "SCRIPT") entered.1)
     else (if bytes_eq entered.0 (codes "replay") then option_map (λ a. Replay a.0 a.1 a.2) (domain_in (codes "JOURNAL") entered.1)
-    else None))))
+    else (if bytes_eq entered.0 (codes "threads") then number_in (codes "SCRIPT") (codes "TURNS") entered.1 >>= turns_within
+    else None)))))
 
 -- the kinds of error that the words may be refused by, none where they are taken
 abbrev pub errors_of : List Text → Kinds
@@ -107,6 +123,7 @@ asked_by (request.Run files) = Some (Run files.layout.now files.script.now)
 asked_by (request.Alone files domain) = Some (Alone files.layout.now files.script.now domain)
 asked_by (request.Journal files domain) = Some (Journal files.layout.now files.script.now domain)
 asked_by (request.Replay layout journal domain) = Some (Replay layout.now journal.now domain)
+asked_by (request.Threads files turns) = Some (Threads files.layout.now files.script.now turns)
 
 -- a request is for what was asked
 abbrev pub IsAsked : Request → Asked → Type 0

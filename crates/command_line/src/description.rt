@@ -2,7 +2,7 @@
 
 ghost use Rattle.std.specs.Prelude.{◌≡◌, IfOk};
 ghost use Rattle.clap.specs.Words.{App, app_of, new_app, with_rule};
-ghost use Rattle.command_line.specs.CommandLine.{IsDefined, commands, domain_command, files_command, first_command, run_commands, word_rule};
+ghost use Rattle.command_line.specs.CommandLine.{IsDefined, commands, domain_command, files_command, first_command, run_commands, third_command, threads_command, word_rule};
 
 use clap::{Arg, ArgAction, Command};
 use std::alloc::{AllocError, Global};
@@ -16,12 +16,17 @@ const FIRST_ABOUT: &str =
 const RUN_ABOUT: &str =
     "Runs the fabric of a layout by the lines of a script, and prints what each domain then holds";
 
-const ALONE_ABOUT: &str = "Runs the same, and prints one domain as its journal alone leaves it";
+const ALONE_ABOUT: &str =
+    "Runs a script as `run` does, and prints one domain as its journal alone leaves it";
 
-const JOURNAL_ABOUT: &str = "Runs the same, and prints the journal of one domain, entry by entry";
+const JOURNAL_ABOUT: &str =
+    "Runs a script as `run` does, and prints the journal of one domain, entry by entry";
 
 const REPLAY_ABOUT: &str =
     "Replays the journal of one domain from the start of its layout, and prints what it then holds";
+
+const THREADS_ABOUT: &str =
+    "Runs the begins of a script on a thread for each port, function and host: packets of different functions then move in any order, as in hardware. Prints how many begins were refused, and what each domain then holds";
 
 const PACKET_HELP: &str = "The bytes of the packet in lower-case hexadecimal, or - for no bytes";
 
@@ -34,6 +39,9 @@ const SCRIPT_HELP: &str =
 const JOURNAL_HELP: &str = "The file of a journal of the domain, as `journal` prints it";
 
 const DOMAIN_HELP: &str = "The number of the domain, 1 to 31";
+
+const TURNS_HELP: &str =
+    "How many turns each thread makes, 1 to 1000000; the sweeps of the script are passed over";
 
 const EXAMPLE: &str = "\
 Example: a posted write of the bytes 11 22 33 44 to address 0x1000, which is mapped to frame 0
@@ -82,6 +90,22 @@ fn with_files<'a>(
     with_word(alloc, with_layout, second, help)
 }
 
+/// The same, and a further word.
+fn with_third<'a>(
+    alloc: Global,
+    name: &'a str,
+    about: &'a str,
+    second: &'a str,
+    help: &'a str,
+    third: &'a str,
+    third_help: &'a str,
+) -> Result<Command<'a>, AllocError>
+    ensures { IfOk result (λ command. IsDefined command (third_command name.entry.now second.entry.now third.entry.now)) }
+{
+    let with_files = with_files(alloc, name, about, second, help)?;
+    with_word(alloc, with_files, third, third_help)
+}
+
 /// The same, and the number of a domain.
 fn with_domain<'a>(
     alloc: Global,
@@ -92,8 +116,7 @@ fn with_domain<'a>(
 ) -> Result<Command<'a>, AllocError>
     ensures { IfOk result (λ command. IsDefined command (domain_command name.entry.now second.entry.now)) }
 {
-    let with_files = with_files(alloc, name, about, second, help)?;
-    with_word(alloc, with_files, "DOMAIN", DOMAIN_HELP)
+    with_third(alloc, name, about, second, help, "DOMAIN", DOMAIN_HELP)
 }
 
 fn first_definition<'a>(alloc: Global) -> Result<Command<'a>, AllocError>
@@ -101,6 +124,20 @@ fn first_definition<'a>(alloc: Global) -> Result<Command<'a>, AllocError>
 {
     let plain = subcommand(alloc, "first", FIRST_ABOUT);
     with_word(alloc, plain, "HEX", PACKET_HELP)
+}
+
+fn threads_definition<'a>(alloc: Global) -> Result<Command<'a>, AllocError>
+    ensures { IfOk result (λ command. IsDefined command threads_command) }
+{
+    with_third(
+        alloc,
+        "threads",
+        THREADS_ABOUT,
+        "SCRIPT",
+        SCRIPT_HELP,
+        "TURNS",
+        TURNS_HELP,
+    )
 }
 
 /// The program with the commands of a run.
@@ -127,6 +164,8 @@ pub fn definition<'a>(alloc: Global) -> Result<Command<'a>, AllocError>
 {
     let journal = with_domain(alloc, "journal", JOURNAL_ABOUT, "SCRIPT", SCRIPT_HELP)?;
     let replay = with_domain(alloc, "replay", REPLAY_ABOUT, "JOURNAL", JOURNAL_HELP)?;
+    let threads = threads_definition(alloc)?;
     let with_journal = with_runs(alloc)?.subcommand(journal)?;
-    with_journal.subcommand(replay)
+    let with_replay = with_journal.subcommand(replay)?;
+    with_replay.subcommand(threads)
 }

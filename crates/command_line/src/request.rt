@@ -3,7 +3,7 @@
 ghost use Rattle.std.specs.Prelude.{◌≡◌, MatchResult, codes, map, option_map};
 ghost use Rattle.std.specs.Option.{option_and_then};
 ghost use Rattle.clap.specs.Words.{first_of, found_of, rows_of};
-ghost use Rattle.command_line.specs.CommandLine.{Ask, Asked, IsAsked, asked_by, asked_in, domain_in, files_in};
+ghost use Rattle.command_line.specs.CommandLine.{Ask, Asked, IsAsked, asked_by, asked_in, domain_in, files_in, number_in};
 
 use crate::description::definition;
 use clap::ArgMatches;
@@ -12,6 +12,9 @@ use std::alloc::{AllocError, Global};
 use std::convert::AsStr;
 use text::decimal;
 use thiserror::Error;
+
+/// The most turns that a worker may be asked to make.
+const MOST_TURNS: u32 = 1_000_000;
 
 /// Why words ask for nothing.
 #[derive(Clone, Copy, Debug, PartialEq, Eq, Error)]
@@ -62,6 +65,11 @@ pub enum Request<'a> {
         layout: &'a str,
         journal: &'a str,
         domain: u32,
+    },
+    /// To run the fabric on threads, each of which makes so many turns, 1 to 1,000,000.
+    Threads {
+        files: Files<'a>,
+        turns: u32,
     },
 }
 
@@ -121,6 +129,14 @@ fn requested<'a>(matches: &ArgMatches<'a>) -> Option<Request<'a>>
                 domain,
             })
         }
+        ("threads", words) => {
+            let (layout, script, turns) = number_in(words, "SCRIPT", "TURNS")?;
+            if !(1..=MOST_TURNS).contains(&turns) {
+                return None;
+            }
+            let files = Files { layout, script };
+            Some(Request::Threads { files, turns })
+        }
         _ => None,
     }
 }
@@ -141,11 +157,22 @@ fn files_in<'a>(words: &ArgMatches<'a>, second: &str) -> Option<(&'a str, &'a st
     Some((layout, other))
 }
 
-/// The same, and the number of a domain. None where its word is no decimal number of one to nine digits.
+/// The same, and the number that a further word is. None where that is no decimal number of one to nine digits.
+fn number_in<'a>(
+    words: &ArgMatches<'a>,
+    second: &str,
+    third: &str,
+) -> Option<(&'a str, &'a str, u32)>
+    ensures { option_map (λ files. (files.0.now, files.1.now, files.2)) result ≡ number_in second.now third.now (rows_of (found_of words.now)) }
+{
+    let (layout, other) = files_in(words, second)?;
+    let number = decimal(word_in(words, third)?.as_bytes())?;
+    Some((layout, other, number))
+}
+
+/// The same, and the number of a domain.
 fn domain_in<'a>(words: &ArgMatches<'a>, second: &str) -> Option<(&'a str, &'a str, u32)>
     ensures { option_map (λ files. (files.0.now, files.1.now, files.2)) result ≡ domain_in second.now (rows_of (found_of words.now)) }
 {
-    let (layout, other) = files_in(words, second)?;
-    let domain = decimal(word_in(words, "DOMAIN")?.as_bytes())?;
-    Some((layout, other, domain))
+    number_in(words, second, "DOMAIN")
 }

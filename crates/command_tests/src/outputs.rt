@@ -6,13 +6,19 @@ use std::io;
 use std::io::Write;
 use std::sync::Wait;
 use std::test::Fail;
+use std::thread::Threads;
+use std::time::Clock;
 
 /// No file can be read.
 #[derive(Drop)]
 struct NoFiles;
 
 impl FileGiver for NoFiles {
+    ghost use Rattle.std.specs.Prelude.{⊤};
+
     ghost holds = { λ files name bytes. ⊥ };
+
+    ghost withholds = { λ files name. ⊤ };
 
     fn bytes_of(&self, _name: &str) -> Result<Vec<u8>, FileFault> {
         Err(FileFault::Unreadable)
@@ -38,12 +44,15 @@ const FIRST: [&str; 2] = ["first", "400000010300000f0000100011223344"];
 const HELP: [&str; 1] = ["help"];
 
 /// The status and the line on standard error of a command whose standard output fails so.
-fn ended<R: Wait>(
+fn ended<R>(
     rt: &R,
     alloc: Global,
     words: &[&str],
     kind: io::ErrorKind,
-) -> Result<(u8, String), Fail> {
+) -> Result<(u8, String), Fail>
+where
+    R: Threads + Wait + Clock + Copy + Send + Sync + Drop + 'static,
+{
     let mut out = Failing(kind);
     let mut err = Vec::new(alloc);
     let end = command(rt, alloc, words, &NoFiles, &mut out, &mut err);
@@ -66,7 +75,10 @@ fn an_output_that_fails_is_a_fault(rt: HostRuntime) -> Result<(), Fail> {
 }
 
 /// The status of a command without its packet, and whether it printed anything, where standard error takes nothing.
-fn ended_unheard<R: Wait>(rt: &R, alloc: Global) -> (ExitStatus, bool) {
+fn ended_unheard<R>(rt: &R, alloc: Global) -> (ExitStatus, bool)
+where
+    R: Threads + Wait + Clock + Copy + Send + Sync + Drop + 'static,
+{
     let mut out = Vec::new(alloc);
     let mut err = Failing(io::ErrorKind::BrokenPipe);
     let end = command(rt, alloc, &["first"], &NoFiles, &mut out, &mut err);

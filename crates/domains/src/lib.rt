@@ -11,3 +11,4 @@ mod places;
 mod starts;
 
 pub use domains::Domains;
+pub use starts::domains_of;

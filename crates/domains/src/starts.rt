@@ -26,8 +26,9 @@ fn fresh(
     }
 }
 
-/// Each domain that owns a port, by rising number. They all write one log.
-pub(crate) fn domains_of(alloc: Global, layout: &Layout) -> Result<Vec<Domain>, NoMemory>
+/// Each domain that owns a port, by rising number, at its start. They all write one log. It answers `NoMemory` where
+/// memory was refused.
+pub fn domains_of(alloc: Global, layout: &Layout) -> Result<Vec<Domain>, NoMemory>
     ensures { IfOk result (λ domains. domains.items ≡ starting_domains layout.now) }
 {
     let log = Arc::new(alloc, Log::new(alloc)?)?;

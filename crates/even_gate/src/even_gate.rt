@@ -9,7 +9,7 @@ use plan::Plan;
 use std::alloc::{AllocError, Global};
 use std::io;
 use std::sync::atomic::{AtomicBool, AtomicU64, Ordering};
-use std::thread::{sleep, yield_now};
+use std::thread::yield_now;
 use std::time::{Clock, Duration, Instant};
 
 // How many turns a worker may be ahead of the last one.
@@ -21,8 +21,8 @@ const LOOKS: u32 = 1_000;
 // How long a look takes, in milliseconds.
 const LOOK: u64 = 1;
 
-// How often a look polls, before it sleeps for what is left of its time.
-const POLLS: u32 = 64;
+// How often a look polls at most, should the clock stand still.
+const POLLS: u32 = 100_000;
 
 /// A worker, and the turn that it has come to.
 #[derive(Drop)]
@@ -98,29 +98,24 @@ impl<C: Clock> EvenGate<C> {
         turn <= least.saturating_add(AHEAD)
     }
 
-    /// Polls some times whether the turn may be made, and lets other threads run between.
-    fn polls_open(&self, turn: u64) -> bool {
+    /// Has a look taken its time?
+    fn is_over(&self, began: Instant) -> io::Result<bool> {
+        Ok(began.elapsed(&self.clock)? >= Duration::from_millis(LOOK))
+    }
+
+    /// One look: it polls for a millisecond, and lets other threads run between. May the turn be made?
+    fn look(&self, turn: u64) -> io::Result<bool> {
+        let began = Instant::now(&self.clock)?;
         for _ in 0..POLLS {
             if self.is_open(turn) {
-                return true;
+                return Ok(true);
+            }
+            if self.is_over(began)? {
+                break;
             }
             yield_now();
         }
-        false
-    }
-
-    /// One look: it polls, and sleeps for what is left of a millisecond. May the turn be made?
-    fn look(&self, turn: u64) -> io::Result<bool> {
-        let began = Instant::now(&self.clock)?;
-        if self.polls_open(turn) {
-            return Ok(true);
-        }
-        let look = Duration::from_millis(LOOK);
-        sleep(
-            &self.clock,
-            look.saturating_sub(began.elapsed(&self.clock)?),
-        );
-        Ok(self.is_open(turn))
+        Ok(false)
     }
 
     /// Waits until the turn may be made, for as many looks as there are at most. Where the clock can't be read it waits no

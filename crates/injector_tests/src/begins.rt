@@ -1,65 +1,9 @@
-//! Begins that are asked for, and served.
+//! Begins that are refused, and one to which memory is refused.
 
-use crate::scenes::{Scene, completion, function, host, requester, started, too_long, write};
-use domain::{Domain, Entry};
+use crate::scenes::{Scene, function, host, started, too_long, write};
 use fab_types::{BeginFault, SubmitFault};
 use std::alloc::Global;
 use std::sync::Wait;
-
-/// A write, a tick and a completion are asked for. Did the ring take all?
-fn asked(scene: &mut Scene) -> bool {
-    scene.submit(&write()) == 0 && scene.tick() == 0 && scene.submit(&completion()) == 0
-}
-
-/// They are served: does the write emit, and the tick nothing, and is the completion refused?
-fn served<R: Wait>(rt: &R, scene: &mut Scene) -> bool {
-    let is_emitted = matches!(scene.serve(rt), Ok(Some(_)));
-    let is_silent = matches!(scene.serve(rt), Ok(None));
-    let is_refused = matches!(
-        scene.serve(rt),
-        Err(BeginFault::Submit(SubmitFault::Completion))
-    );
-    is_emitted && is_silent && is_refused
-}
-
-/// Is the domain's journal the write, and the tick?
-fn has_both(domain: &Domain) -> bool {
-    match domain.journal() {
-        [Entry::Submit(by, bytes), Entry::Tick(at)] => {
-            *by == requester() && bytes.as_slice() == &write()[..] && *at == requester()
-        }
-        _ => false,
-    }
-}
-
-/// How many begins were accepted and refused, and how many entries there are.
-fn all_served<R: Wait>(rt: &R, alloc: Global) -> Option<(u64, u64, usize)> {
-    let mut scene = started(alloc, function(), 256)?;
-    if asked(&mut scene) && served(rt, &mut scene) && has_both(&scene.domain) {
-        Some(scene.counts())
-    } else {
-        None
-    }
-}
-
-#[test]
-fn what_is_asked_for_is_in_the_journal_once_it_is_served(rt: HostRuntime) {
-    assert_eq!(rt; all_served(&rt, rt.alloc()), Some((2, 1, 2)));
-}
-
-/// The host reads a register. Is that the domain's journal then?
-fn accessed<R: Wait>(rt: &R, alloc: Global) -> Option<bool> {
-    let mut scene = started(alloc, host()?, 256)?;
-    let is_asked = scene.mmio() == 0;
-    let is_emitted = matches!(scene.serve(rt), Ok(Some(_)));
-    let is_entry = matches!(scene.domain.journal(), [Entry::Mmio(_)]);
-    Some(is_asked && is_emitted && is_entry)
-}
-
-#[test]
-fn a_host_accesses_registers(rt: HostRuntime) {
-    assert_eq!(rt; accessed(&rt, rt.alloc()), Some(true));
-}
 
 /// How many writes go into a ring that nobody serves, 20,000 at most.
 fn filled(scene: &mut Scene) -> u32 {

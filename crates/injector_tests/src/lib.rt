@@ -7,5 +7,3 @@ mod begins;
 mod records;
 #[cfg(test)]
 mod scenes;
-#[cfg(test)]
-mod threads;

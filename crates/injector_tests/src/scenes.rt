@@ -26,7 +26,7 @@ pub struct Scene {
 }
 
 /// The ID of the function.
-pub fn requester() -> Bdf {
+fn requester() -> Bdf {
     Bdf::from_bits(0x0300)
 }
 
@@ -35,11 +35,6 @@ pub fn write() -> [u8; 16] {
     [
         0x40, 0, 0, 1, 3, 0, 0, 0x0f, 0, 0, 0x10, 0, 0x11, 0x22, 0x33, 0x44,
     ]
-}
-
-/// A completion, which no function submits.
-pub fn completion() -> [u8; 12] {
-    [0x0a, 0, 0, 0, 0, 0, 0, 0, 0, 0, 0, 0]
 }
 
 /// More bytes than a packet may have.

@@ -3,6 +3,10 @@ use Rattle.std.specs.Prelude.{◌≡◌, ◌≢◌, ◌⊎◌, ℕ, ⊤}
 use Rattle.std.specs.IoError.{error_kind}
 use Rattle.std.specs.declared.io.Error.{Error}
 use Rattle.std.specs.declared.io.ErrorKind.TheVariants as error_kinds
+use Rattle.fab_types.specs.declared.faults.running.StartFault.{StartFault}
+use Rattle.fab_types.specs.declared.faults.running.StartFault.TheVariants as start_fault
+use Rattle.fab_types.specs.declared.faults.running.StopFault.{StopFault}
+use Rattle.fab_types.specs.declared.faults.running.StopFault.TheVariants as stop_fault
 use Rattle.command_line.specs.declared.request.WordsFault.{WordsFault}
 use Rattle.command_line.specs.declared.request.WordsFault.TheVariants as words
 use Rattle.journals.specs.declared.lines.LineFault.{LineFault}
@@ -21,6 +25,16 @@ fault_of_words words.NoMemory = fault.NoMemory
 abbrev pub fault_of_line : LineFault → Fault
 fault_of_line (line_fault.Illegal line) = fault.IllegalEntry line
 fault_of_line line_fault.NoMemory = fault.NoMemory
+
+-- what it comes to that workers were not started
+abbrev pub fault_of_start : StartFault → Fault
+fault_of_start start_fault.NoMemory = fault.NoMemory
+fault_of_start start_fault.NoThread = fault.ThreadsFailed
+
+-- what it comes to that nothing was left of them
+abbrev pub fault_of_stop : StopFault → Fault
+fault_of_stop stop_fault.NoMemory = fault.NoMemory
+fault_of_stop stop_fault.Unbalanced = fault.ThreadsFailed
 
 -- the number that the host sees
 abbrev pub exit_code : ExitStatus → ℕ

@@ -4,7 +4,10 @@ ghost use Rattle.std.specs.Prelude.{◌≡◌, ◌≢◌};
 ghost use Rattle.inputs.specs.Endings.{exit_code, status_of};
 
 use command_line::WordsFault;
-use fab_types::{LayoutCause, LayoutFault, NoMemory, ReplayFault, ScriptCause, ScriptFault};
+use fab_types::{
+    LayoutCause, LayoutFault, NoMemory, ReplayFault, ScriptCause, ScriptFault, StartFault,
+    StopFault,
+};
 use journals::LineFault;
 use std::alloc::AllocError;
 use std::io;
@@ -59,6 +62,9 @@ pub enum Fault<'a> {
     /// A journal has an entry that is illegal after those before it.
     #[error("replay: illegal")]
     IllegalReplay,
+    /// The workers could not be started in threads, or one took no begin any more.
+    #[error("threads: failed")]
+    ThreadsFailed,
     /// Memory was refused.
     #[error("out of memory")]
     NoMemory,
@@ -165,6 +171,32 @@ impl From<LineFault> for Fault<'_> {
         match fault {
             LineFault::Illegal(line) => Fault::IllegalEntry { line },
             LineFault::NoMemory => Fault::NoMemory,
+        }
+    }
+}
+
+impl From<StartFault> for Fault<'_> {
+    ghost use Rattle.inputs.specs.Endings.{fault_of_start};
+
+    ghost from_gives = { λ start f. f ≡ fault_of_start start };
+
+    fn from(fault: StartFault) -> Self {
+        match fault {
+            StartFault::NoMemory => Fault::NoMemory,
+            StartFault::NoThread => Fault::ThreadsFailed,
+        }
+    }
+}
+
+impl From<StopFault> for Fault<'_> {
+    ghost use Rattle.inputs.specs.Endings.{fault_of_stop};
+
+    ghost from_gives = { λ stop f. f ≡ fault_of_stop stop };
+
+    fn from(fault: StopFault) -> Self {
+        match fault {
+            StopFault::NoMemory => Fault::NoMemory,
+            StopFault::Unbalanced => Fault::ThreadsFailed,
         }
     }
 }

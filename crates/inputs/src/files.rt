@@ -1,6 +1,6 @@
 //! Where the bytes of files come from.
 
-ghost use Rattle.std.specs.Prelude.{ℕ, List, IfOk};
+ghost use Rattle.std.specs.Prelude.{◌≡◌, ℕ, List, IfErr, IfOk};
 
 /// Why a file's bytes did not come.
 #[derive(Clone, Copy, Debug, PartialEq, Eq)]
@@ -15,6 +15,14 @@ pub trait FileGiver {
     /// May the file of this name have these bytes?
     ghost holds: { Self → List ℕ → List ℕ → Type 0 };
 
+    /// May the file of this name be one that cannot be read?
+    ghost withholds: { Self → List ℕ → Type 0 };
+
+    /// The bytes of the file of this name.
+    ///
+    /// # Errors
+    /// `Unreadable` where the file cannot be read, and `NoMemory` where memory was refused.
     fn bytes_of(&self, name: &str) -> Result<Vec<u8>, FileFault>
-        ensures { IfOk result (λ bytes. holds self.now name.now bytes.items) };
+        ensures bytes { IfOk result (λ bytes. holds self.now name.now bytes.items) }
+        ensures fault { IfErr result (λ fault. fault ≡ FileFault.Unreadable → withholds self.now name.now) };
 }

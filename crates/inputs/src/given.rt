@@ -1,7 +1,8 @@
 //! A layout, a script and a domain.
 
-ghost use Rattle.std.specs.Prelude.{IfOk};
+ghost use Rattle.std.specs.Prelude.{◌≡◌, ◌⊎◌, IfErr, IfOk};
 ghost use Rattle.inputs.specs.Inputs.{AreInputs};
+ghost use Rattle.inputs.specs.Refusals.{HasNoText, IsNoLayout, IsNoOwner, IsNoScript};
 
 use crate::fault::Fault;
 use crate::files::FileGiver;
@@ -22,13 +23,17 @@ pub struct Inputs {
 }
 
 /// Reads the files of these names, and finds the domain of this number.
+///
+/// # Errors
+/// As `layout_of`, then as `script_of`, then as `start_of`: the first that applies.
 pub fn inputs_of<'a, F: FileGiver>(
     alloc: Global,
     files: &F,
     names: Files<'a>,
     number: u32,
 ) -> Result<Inputs, Fault<'a>>
-    ensures { IfOk result (λ inputs. AreInputs (F.holds files.now) names.entry.layout.now names.entry.script.now number inputs.layout inputs.script inputs.start) }
+    ensures inputs { IfOk result (λ inputs. AreInputs (F.holds files.now) names.entry.layout.now names.entry.script.now number inputs.layout inputs.script inputs.start) }
+    ensures fault { IfErr result (λ f. (f ≡ Fault.NoMemory) ⊎ ((f ≡ Fault.Unreadable names.entry.layout) × HasNoText (F.withholds files.now names.entry.layout.now) (F.holds files.now names.entry.layout.now)) ⊎ IsNoLayout (F.holds files.now names.entry.layout.now) f ⊎ ((f ≡ Fault.Unreadable names.entry.script) × HasNoText (F.withholds files.now names.entry.script.now) (F.holds files.now names.entry.script.now)) ⊎ IsNoScript (F.holds files.now names.entry.script.now) f ⊎ IsNoOwner (F.holds files.now names.entry.layout.now) number f) }
 {
     let layout = layout_of(alloc, files, names.layout)?;
     let script = script_of(alloc, files, names.script)?;

@@ -15,7 +15,10 @@ fn domain_of(number: u32) -> Option<DomainId>
     DomainId::new(u8::try_from(number).ok()?)
 }
 
-/// What the domain of this number starts from. There is none where it owns no port.
+/// What the domain of this number starts from.
+///
+/// # Errors
+/// `NoDomain` where it owns no port, and `NoMemory` where memory was refused.
 pub fn start_of<'a>(alloc: Global, layout: &Layout, number: u32) -> Result<Start, Fault<'a>>
     ensures ok { IfOk result (λ share. share_of_owner layout.now number ≡ Some share) }
     ensures none { IfErr result (λ fault. (fault ≡ Fault.NoMemory) ⊎ ((fault ≡ Fault.NoDomain number) × (share_of_owner layout.now number ≡ None))) }

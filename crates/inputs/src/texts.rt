@@ -1,9 +1,10 @@
 //! The texts of files: layouts, scripts and journals.
 
-ghost use Rattle.std.specs.Prelude.{◌≡◌, ℕ, List, IfOk, Ok, string_bytes};
+ghost use Rattle.std.specs.Prelude.{◌≡◌, ◌⊎◌, ℕ, List, IfErr, IfOk, Ok, string_bytes};
 ghost use Rattle.layout.specs.Reading as layouts;
 ghost use Rattle.journal_text.specs.Reading as journals;
 ghost use Rattle.script.specs.Reading as scripts;
+ghost use Rattle.inputs.specs.Refusals.{HasNoText, IsNoJournal, IsNoLayout, IsNoScript};
 
 use crate::fault::Fault;
 use crate::files::{FileFault, FileGiver};
@@ -13,9 +14,13 @@ use layout::Layout;
 use script::Script;
 use std::alloc::Global;
 
-/// The text of a file. A file that is no UTF-8 is as one that cannot be read.
+/// The text of a file.
+///
+/// # Errors
+/// `Unreadable` where the file cannot be read or is no UTF-8, and `NoMemory` where memory was refused.
 pub fn text_of<'a, F: FileGiver>(files: &F, name: &'a str) -> Result<String, Fault<'a>>
-    ensures { IfOk result (λ text. F.holds files.now name.entry.now (string_bytes text)) }
+    ensures text { IfOk result (λ text. F.holds files.now name.entry.now (string_bytes text)) }
+    ensures fault { IfErr result (λ f. (f ≡ Fault.NoMemory) ⊎ ((f ≡ Fault.Unreadable name.entry) × HasNoText (F.withholds files.now name.entry.now) (F.holds files.now name.entry.now))) }
 {
     let bytes = match files.bytes_of(name) {
         Ok(bytes) => bytes,
@@ -29,12 +34,16 @@ pub fn text_of<'a, F: FileGiver>(files: &F, name: &'a str) -> Result<String, Fau
 }
 
 /// Reads the layout of a file.
+///
+/// # Errors
+/// As `text_of`, and `Layout` for the first faulty line of the text.
 pub fn layout_of<'a, F: FileGiver>(
     alloc: Global,
     files: &F,
     name: &'a str,
 ) -> Result<Layout, Fault<'a>>
-    ensures { IfOk result (λ layout. (text : List ℕ) × F.holds files.now name.entry.now text × (layouts.reading text ≡ Ok layout)) }
+    ensures layout { IfOk result (λ layout. (text : List ℕ) × F.holds files.now name.entry.now text × (layouts.reading text ≡ Ok layout)) }
+    ensures fault { IfErr result (λ f. (f ≡ Fault.NoMemory) ⊎ ((f ≡ Fault.Unreadable name.entry) × HasNoText (F.withholds files.now name.entry.now) (F.holds files.now name.entry.now)) ⊎ IsNoLayout (F.holds files.now name.entry.now) f) }
 {
     let text = text_of(files, name)?;
     match Layout::read(alloc, text.as_str()) {
@@ -44,12 +53,16 @@ pub fn layout_of<'a, F: FileGiver>(
 }
 
 /// Reads the script of a file.
+///
+/// # Errors
+/// As `text_of`, and `ScriptLine` for the first faulty line of the text.
 pub fn script_of<'a, F: FileGiver>(
     alloc: Global,
     files: &F,
     name: &'a str,
 ) -> Result<Script, Fault<'a>>
-    ensures { IfOk result (λ script. (text : List ℕ) × F.holds files.now name.entry.now text × (scripts.reading text ≡ Ok script)) }
+    ensures script { IfOk result (λ script. (text : List ℕ) × F.holds files.now name.entry.now text × (scripts.reading text ≡ Ok script)) }
+    ensures fault { IfErr result (λ f. (f ≡ Fault.NoMemory) ⊎ ((f ≡ Fault.Unreadable name.entry) × HasNoText (F.withholds files.now name.entry.now) (F.holds files.now name.entry.now)) ⊎ IsNoScript (F.holds files.now name.entry.now) f) }
 {
     let text = text_of(files, name)?;
     match Script::read(alloc, text.as_str()) {
@@ -59,8 +72,12 @@ pub fn script_of<'a, F: FileGiver>(
 }
 
 /// Reads the text of a journal of this domain.
+///
+/// # Errors
+/// `JournalLine` for the first faulty line, and `NoMemory` where memory was refused.
 pub fn journal_of<'a>(alloc: Global, domain: DomainId, text: &str) -> Result<JournalText, Fault<'a>>
-    ensures { IfOk result (λ journal. journals.reading domain text.now ≡ Ok journal) }
+    ensures journal { IfOk result (λ journal. journals.reading domain text.now ≡ Ok journal) }
+    ensures fault { IfErr result (λ f. (f ≡ Fault.NoMemory) ⊎ IsNoJournal domain text.now f) }
 {
     match JournalText::read(alloc, domain, text) {
         Ok(journal) => Ok(journal),

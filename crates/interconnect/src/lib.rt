@@ -1,6 +1,7 @@
 //! All that packets move through: the links and switches of a layout, without the agents at their ends.
 #![tactic(auto)]
 
+mod credits;
 mod ends;
 mod interconnect;
 mod lost;
@@ -9,5 +10,6 @@ mod outputs;
 mod pass;
 mod start;
 
+pub use credits::first_credits;
 pub use interconnect::Interconnect;
 pub use lost::Lost;

@@ -1,69 +1,21 @@
 //! The links and the ports of a layout at the start.
 
-ghost use Rattle.std.specs.Prelude.{◌≡◌, ◌<◌, ◌++◌, ◌∷◌, [], IfOk, OnOk, map};
-ghost use Rattle.credit.specs.Limits.{MayStart, zero_counters};
+ghost use Rattle.std.specs.Prelude.{◌≡◌, ◌++◌, ◌∷◌, [], IfOk, OnOk, map};
 ghost use Rattle.platform.specs.Tree.{is_on_bus};
 ghost use Rattle.platform.specs.Tree.{id_below};
 ghost use Rattle.topology.specs.Nodes.{ports_on};
-ghost use Rattle.layout.specs.Views.{credits_of};
 ghost use Rattle.port.specs.Configs.{downstream_config, upstream_config};
-ghost use Rattle.interconnect.specs.Starts.{AreFew, counters_of, first_credits, function_outputs, idle_port, nodes_of, ports_of, root_outputs, switch_outputs, unused_below};
+ghost use Rattle.interconnect.specs.Starts.{function_outputs, idle_port, nodes_of, ports_of, root_outputs, switch_outputs, unused_below};
 
+use crate::credits::first_credits;
 use crate::node::Node;
-use credit::{Counter, Counters, Credits, Limits};
 use fab_types::{Bdf, NoMemory};
 use layout::Layout;
 use link::Simplex;
-use platform::{CreditLimits, DownstreamPort, Switch, id_below, internal_bus, is_on_bus};
+use platform::{DownstreamPort, Switch, id_below, internal_bus, is_on_bus};
 use port::Port;
 use std::alloc::Global;
 use std::iter::once;
-
-fn credits_of(headers: u16, payload: u16) -> Credits
-    requires headers { headers < 128 }
-    requires payload { payload < 2048 }
-    ensures { result ≡ record { headers = headers; payload = payload } }
-{
-    Credits {
-        headers: Counter::new(headers),
-        payload: Counter::new(payload),
-    }
-}
-
-fn counters_of(limits: &CreditLimits) -> Limits
-    requires { AreFew limits.now }
-    ensures value { result ≡ counters_of limits.now }
-    ensures start { MayStart result }
-{
-    Counters {
-        posted: credits_of(limits.posted_headers, limits.posted_data),
-        non_posted: credits_of(limits.non_posted_headers, limits.non_posted_data),
-        completion: credits_of(limits.completion_headers, limits.completion_data),
-    }
-}
-
-fn no_credits() -> Limits
-    ensures value { result ≡ zero_counters }
-    ensures start { MayStart result }
-{
-    Counters {
-        posted: credits_of(0, 0),
-        non_posted: credits_of(0, 0),
-        completion: credits_of(0, 0),
-    }
-}
-
-fn first_credits(layout: &Layout, lower: Bdf) -> Limits
-    ensures value { result ≡ first_credits (credits_of layout.now lower) }
-    ensures start { MayStart result }
-{
-    // for the proof: what holds of every platform
-    let _ = layout.ports();
-    match layout.credits(lower) {
-        Some(limits) => counters_of(&limits),
-        None => no_credits(),
-    }
-}
 
 /// Either direction of the link with this lower end.
 fn unused_below(alloc: Global, layout: &Layout, lower: Bdf) -> Result<Simplex, NoMemory>

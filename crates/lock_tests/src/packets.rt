@@ -1,6 +1,6 @@
-//! Packets of one thread: those whose home has no lock, a read and its completion, and an alien one.
+//! Packets whose home has no lock.
 
-use crate::scenes::{FIRST, GUARDED, SECOND, UNGUARDED, entries, locks_of, read, submitted, write};
+use crate::scenes::{GUARDED, SECOND, locks_of, submitted, write};
 use fab_types::{Bdf, Direction, DomainId, Place, PortId, Way};
 use frame_log::{Frame, FrameFault};
 use locks::Locks;
@@ -56,42 +56,4 @@ fn is_taken_at_home<R: Wait>(rt: &R, alloc: Global) -> Option<bool> {
 #[test]
 fn a_packet_whose_home_has_no_lock_is_given_back(rt: HostRuntime) {
     assert_eq!(rt; is_taken_at_home(&rt, rt.alloc()), Some(true));
-}
-
-/// A function reads, and its completion closes its Tag. How many entries are there then?
-fn read_and_completed<R: Wait>(rt: &R, alloc: Global) -> Option<usize> {
-    let locks = locks_of(alloc, GUARDED, &[1, 2])?;
-    let request = submitted(rt, &locks, FIRST, &read(FIRST.bus))?;
-    let answer = locks.carry(rt, request).ok()??;
-    if !locks.complete(rt, answer).ok()? {
-        return None;
-    }
-    entries(rt, &locks, FIRST)
-}
-
-#[test]
-fn a_completion_is_recorded(rt: HostRuntime) {
-    assert_eq!(rt; read_and_completed(&rt, rt.alloc()), Some(3));
-}
-
-/// A function of domain 1 writes in the name of domain 2, which gets the packet, with the bytes that its home has in
-/// flight. How many entries has each then?
-fn alien_taken<R: Wait>(rt: &R, alloc: Global) -> Option<(usize, usize)> {
-    let locks = locks_of(alloc, UNGUARDED, &[1, 2])?;
-    let frame = submitted(rt, &locks, FIRST, &write(SECOND.bus))?;
-    let bytes = locks.bytes_of(rt, &frame)?;
-    let sent = write(SECOND.bus);
-    if bytes.as_slice() != &sent[..] {
-        return None;
-    }
-    let number = DomainId::new(SECOND.number)?;
-    let Ok(None) = locks.alien(rt, number, at_the_host(), frame, bytes.as_slice()) else {
-        return None;
-    };
-    Some((entries(rt, &locks, FIRST)?, entries(rt, &locks, SECOND)?))
-}
-
-#[test]
-fn an_alien_packet_is_an_entry_of_the_named_domain(rt: HostRuntime) {
-    assert_eq!(rt; alien_taken(&rt, rt.alloc()), Some((1, 1)));
 }

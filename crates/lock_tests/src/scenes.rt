@@ -20,18 +20,6 @@ map 03:00.0 1 frame 0 rw
 map 04:00.0 1 frame 1 rw
 ";
 
-/// The same without Source Validation at the port of domain 1.
-pub const UNGUARDED: &str = "pciefab 1
-frames 2
-switch 01:00.0 root
-port 02:00.0 03 03 90000000 900fffff 1e 1
-port 02:01.0 04 04 90100000 901fffff 1f 2
-function 03:00.0 90000000
-function 04:00.0 90100000
-map 03:00.0 1 frame 0 rw
-map 04:00.0 1 frame 1 rw
-";
-
 /// A domain, the bus of its function, and the bus of the other's.
 #[derive(Clone, Copy)]
 pub struct Side {
@@ -57,11 +45,6 @@ pub fn write(bus: u8) -> [u8; 16] {
     [
         0x40, 0, 0, 1, bus, 0, 0, 0x0f, 0, 0, 0x10, 0, 0x11, 0x22, 0x33, 0x44,
     ]
-}
-
-/// A read of page 1, in the name of the function on this bus.
-pub fn read(bus: u8) -> [u8; 12] {
-    [0, 0, 0, 1, bus, 0, 7, 0x0f, 0, 0, 0x10, 0]
 }
 
 fn domain_of(alloc: Global, layout: &Layout, log: &Arc<Log>, number: u8) -> Option<Domain> {
@@ -90,11 +73,4 @@ pub fn submitted<R: Wait>(rt: &R, locks: &Locks, side: Side, bytes: &[u8]) -> Op
     let lock = locks.lock_of(DomainId::new(side.number)?)?;
     let mut domain = lock.lock(rt);
     domain.submit(rt, function, bytes).ok()
-}
-
-/// How many entries the journal of this domain has.
-pub fn entries<R: Wait>(rt: &R, locks: &Locks, side: Side) -> Option<usize> {
-    let lock = locks.lock_of(DomainId::new(side.number)?)?;
-    let domain = lock.lock(rt);
-    Some(domain.journal().len())
 }

@@ -37,6 +37,8 @@ impl<R: Files + AllocGlobal> FileGiver for HostFiles<'_, R> {
     // Of what the host gives nothing is known.
     ghost holds = { λ files name bytes. ⊤ };
 
+    ghost withholds = { λ files name. ⊤ };
+
     fn bytes_of(&self, name: &str) -> Result<Vec<u8>, FileFault> {
         match fs::read(self.rt, name) {
             Ok(bytes) => Ok(bytes),

@@ -7,8 +7,8 @@ use Rattle.function_work.proofs.function_work.FunctionWork.TheSendSync as functi
 use Rattle.root_work.proofs.root_work.RootWork.TheSendSync as root
 use Rattle.wiring.proofs.ends.Ends.TheSendSync as ends
 use Rattle.port_threads.proofs.Sent.{port_work_send, vetted_send}
-use Rattle.port_threads.specs.contracts.job.Job as Job
-use Rattle.port_threads.specs.contracts.post.Post as Post
+use Rattle.workers.specs.contracts.job.Job as Job
+use Rattle.workers.specs.contracts.post.Post as Post
 use Rattle.port_threads.specs.contracts.worker.Worker as Worker
 
 job_field_send : IsSend (Job.the_field).row

@@ -11,11 +11,12 @@ use Rattle.vetted.specs.Vetted.{Vetted}
 use Rattle.wiring.specs.Wired.{AreWithin, Tags, dealt, table_of}
 use Rattle.wiring.specs.declared.laid.Laid.{Laid}
 use Rattle.wiring.specs.declared.wire.Wire.{Wire}
-use Rattle.port_threads.specs.Kept.{Kept, MonitorKept, kept_of, monitor_kept}
-use Rattle.port_threads.specs.Origins.{origins_in, origins_of}
-use Rattle.port_threads.specs.Roles.{role_of, roles_of, starting_numbers}
-use Rattle.port_threads.specs.Seats.{AreWatched}
-use Rattle.port_threads.specs.declared.post.Post.{Post}
+use Rattle.workers.specs.Watched.{MonitorKept}
+use Rattle.port_threads.specs.Kept.{Kept, kept_of, monitor_kept}
+use Rattle.workers.specs.Origins.{origins_in, origins_of}
+use Rattle.workers.specs.Roles.{role_of, roles_of, starting_numbers}
+use Rattle.workers.specs.Seats.{AreWatched}
+use Rattle.workers.specs.declared.post.Post.{Post}
 use Rattle.port_threads.specs.declared.resting.Resting.TheInside as resting
 use Rattle.port_threads.specs.declared.running.Running.TheInside as running
 

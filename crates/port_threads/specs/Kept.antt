@@ -1,11 +1,8 @@
 -- What no turn of a worker changes.
-use Rattle.std.specs.Prelude.{ℕ, List}
-use Rattle.atomic_table.specs.Seated.{TableId}
-use Rattle.monitor.specs.Watching.{WatchView}
-use Rattle.monitor.specs.declared.queue.Report.{Report}
 use Rattle.wiring.specs.Wired.{Tags, tags_of}
+use Rattle.workers.specs.Watched.{MonitorKept, watch_kept}
+use Rattle.workers.specs.declared.post.Post.{Post}
 use Rattle.port_threads.specs.declared.monitor_worker.Monitor.{Monitor}
-use Rattle.port_threads.specs.declared.post.Post.{Post}
 use Rattle.port_threads.specs.declared.worker.Worker.{Worker}
 
 -- which worker it is, with its work, as far as no turn changes it, and the ends of rings that it has
@@ -17,15 +14,6 @@ pub record Kept : Type 0 where
 
 abbrev pub kept_of : Worker → Kept
 kept_of w = record { post = w.post; links = tags_of w.links; credits = tags_of w.credits; pairs = tags_of w.pairs }
-
--- the monitor's queue, how many seats it gave, and what each port whose end came back reported
-pub record MonitorKept : Type 0 where
-  pub queue : TableId
-  pub seats : ℕ
-  pub ended : List (List Report)
-
-abbrev pub watch_kept : WatchView → MonitorKept
-watch_kept watch = record { queue = watch.queue; seats = watch.seats; ended = watch.ended }
 
 abbrev pub monitor_kept : Monitor → MonitorKept
 monitor_kept m = watch_kept m.watch

@@ -1,22 +1,14 @@
 -- What is left once workers were stopped.
-use Rattle.std.specs.Prelude.{◌≡◌, ℕ, ◌<◌, ◌≤◌, List, [], length, map, reverse, slice_index_or, vec_len, Option, Some, None}
+use Rattle.std.specs.Prelude.{◌≡◌, ℕ, ◌<◌, ◌≤◌, List, [], length, map, reverse, slice_index_or, vec_len}
 use Rattle.std.specs.declared.snapshot.Snapshot.{Snapshot}
-use Rattle.crew.specs.declared.worker_id.WorkerId.{WorkerId}
 use Rattle.monitor.specs.Numbering.{reports_of}
 use Rattle.monitor.specs.Order.{of_seat}
 use Rattle.monitor.specs.Reporting.{QueueSeat, ReporterView, seat_of}
 use Rattle.monitor.specs.declared.queue.Report.{Report}
-use Rattle.port.specs.Configs.{Config}
 use Rattle.wiring.specs.Returned.{row_of}
 use Rattle.wiring.specs.Wired.{numbered, table_of}
 use Rattle.wiring.specs.declared.laid.Laid.{Laid}
 use Rattle.wiring.specs.declared.wire.Wire.{Wire}
-use Rattle.port_threads.specs.declared.job.Job.{Job}
-use Rattle.port_threads.specs.declared.job.Job.TheVariants as job
-use Rattle.port_threads.specs.declared.post.Post.{Post}
-use Rattle.port_threads.specs.declared.remains.Parts.{Parts}
-use Rattle.port_threads.specs.declared.remains.Parts.TheVariants as parts
-use Rattle.port_threads.specs.declared.remains.Remains.{Remains}
 use Rattle.port_threads.specs.declared.told_table.ToldTable.{ToldTable}
 
 -- ---- rings
@@ -40,26 +32,3 @@ reported_by end = reports_of end.value.seat end.value.reported
 pub record AreReported (list : List Report) (ports : List (Snapshot ReporterView)) : Type 0 where
   pub all : (k : ℕ) → k < length ports → of_seat k list ≡ slice_index_or (map reported_by ports) k []
   pub others : (seat : ℕ) → length ports ≤ seat → of_seat seat list ≡ []
-
--- ---- workers
-
--- who it was, and of a port, which
-pub record Mark : Type 0 where
-  pub id : WorkerId
-  pub config : Option Config
-
-abbrev pub config_in : Job → Option Config
-config_in (job.Port work) = Some work.config
-config_in (job.Function work) = None
-config_in (job.Root work) = None
-
-abbrev pub mark_of : Post → Mark
-mark_of post = record { id = post.id; config = config_in post.job }
-
-abbrev pub config_left : Parts → Option Config
-config_left (parts.Port left) = Some left.port.config
-config_left (parts.Function left) = None
-config_left (parts.Root left) = None
-
-abbrev pub mark_left : Remains → Mark
-mark_left remains = record { id = remains.id; config = config_left remains.parts }

@@ -2,8 +2,4 @@ pub mod Building
 pub mod Fabrics
 pub mod Kept
 pub mod Left
-pub mod Origins
-pub mod Roles
-pub mod Seats
-pub mod Sides
 pub mod Stops

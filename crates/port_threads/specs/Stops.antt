@@ -1,8 +1,9 @@
 -- What a stop leaves of a fabric.
 use Rattle.std.specs.Prelude.{◌≡◌, length, map, vec_len}
 use Rattle.port_threads.specs.Fabrics.{FabricView, posts_in}
-use Rattle.port_threads.specs.Left.{AreBack, AreReported, mark_left, mark_of, seat_left}
-use Rattle.port_threads.specs.Seats.{seats_of}
+use Rattle.workers.specs.Marks.{mark_left, mark_of}
+use Rattle.port_threads.specs.Left.{AreBack, AreReported, seat_left}
+use Rattle.workers.specs.Seats.{seats_of}
 use Rattle.port_threads.specs.declared.stopped.Stopped.{Stopped}
 
 pub record Leaves (f : FabricView) (s : Stopped) : Type 0 where

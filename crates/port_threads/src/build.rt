@@ -3,20 +3,18 @@
 ghost use Rattle.std.specs.Prelude.{◌≡◌, IfOk, length, map};
 ghost use Rattle.std.specs.Arc.{arc_value};
 ghost use Rattle.domains.specs.Domains.{starting_domains};
-ghost use Rattle.port_threads.specs.Building.{AreRingsOf, IsSharedOf};
+ghost use Rattle.workers.specs.Building.{IsSharedOf};
+ghost use Rattle.port_threads.specs.Building.{AreRingsOf};
 ghost use Rattle.port_threads.specs.Fabrics.{IsFabricOf, posts_in};
-ghost use Rattle.port_threads.specs.Origins.{origins_in};
+ghost use Rattle.workers.specs.Origins.{origins_in};
 
-use crate::domain_starts::{domains_of, starts_of};
 use crate::joining::{Pieces, joined};
 use crate::monitor_worker::Monitor;
 use crate::resting::Resting;
 use crate::rings::{Rings, rings_of};
-use crate::shared::Shared;
-use crate::staff::Staff;
-use crate::staffing::staff_of;
 use bridge::Bridge;
 use domain::Domain;
+use domains::domains_of;
 use fab_types::NoMemory;
 use injector::Injector;
 use layout::Layout;
@@ -24,6 +22,7 @@ use locks::Locks;
 use plan::Plan;
 use std::alloc::Global;
 use std::sync::Arc;
+use workers::{Shared, Staff, staff_of, starts_of};
 
 /// The switches of a layout, and these domains of it under locks.
 fn shared_of(alloc: Global, layout: &Layout, domains: Vec<Domain>) -> Result<Shared, NoMemory>

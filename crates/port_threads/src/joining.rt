@@ -4,7 +4,6 @@ ghost use Rattle.std.specs.Prelude.{◌≡◌, IfOk, map, vec_len};
 ghost use Rattle.wiring.specs.Wired.{tags_of};
 ghost use Rattle.port_threads.specs.Kept.{kept_of};
 
-use crate::post::Post;
 use crate::worker::Worker;
 use credit::Limits;
 use fab_types::NoMemory;
@@ -12,6 +11,7 @@ use frame_log::Frame;
 use std::alloc::Global;
 use vetted::VettedFrame;
 use wiring::Ends;
+use workers::Post;
 
 /// Workers in one order, and the ends of each in the same.
 #[derive(Drop)]

@@ -28,7 +28,8 @@ impl Monitor {
 }
 
 impl Work for Monitor {
-    ghost use Rattle.port_threads.specs.Kept.{MonitorKept, monitor_kept};
+    ghost use Rattle.workers.specs.Watched.{MonitorKept};
+    ghost use Rattle.port_threads.specs.Kept.{monitor_kept};
 
     ghost Kept = { MonitorKept };
 

@@ -1,6 +1,5 @@
 //! What is left of a fabric once it was stopped.
 
-use crate::remains::Remains;
 use crate::told_table::ToldTable;
 use credit::Limits;
 use domain::Domain;
@@ -8,6 +7,7 @@ use frame_log::Frame;
 use monitor::{QueueReporter, Report};
 use std::snapshot::Snapshot;
 use vetted::VettedFrame;
+use workers::Remains;
 
 /// All that is left of a fabric whose workers have ended.
 #[derive(Drop)]

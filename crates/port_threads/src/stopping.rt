@@ -4,14 +4,14 @@ ghost use Rattle.std.specs.Prelude.{◌≡◌, IfErr, IfOk, length, map, vec_len
 ghost use Rattle.std.specs.Arc.{arc_value};
 ghost use Rattle.fab_types.specs.declared.faults.running.StopFault.TheVariants as stop_fault;
 ghost use Rattle.port_threads.specs.Fabrics.{posts_in};
-ghost use Rattle.port_threads.specs.Left.{AreBack, AreReported, mark_left, mark_of, seat_left};
-ghost use Rattle.port_threads.specs.Seats.{seats_of};
+ghost use Rattle.workers.specs.Marks.{mark_left, mark_of};
+ghost use Rattle.port_threads.specs.Left.{AreBack, AreReported, seat_left};
+ghost use Rattle.workers.specs.Seats.{seats_of};
 ghost use Rattle.port_threads.specs.Stops.{Leaves};
 
 use crate::closing::{Reported, closed};
 use crate::ending::Ending;
 use crate::joining::{Pieces, apart};
-use crate::remains::{AllRemains, remains_of};
 use crate::resting::Resting;
 use crate::running::Running;
 use crate::stopped::Stopped;
@@ -24,6 +24,7 @@ use std::alloc::Global;
 use std::sync::atomic::Ordering;
 use std::sync::{Arc, Wait};
 use std::thread::Threads;
+use workers::{AllRemains, remains_of};
 
 /// Waits until all workers and the monitor have ended. Where memory for their list is refused they have ended all the same,
 /// and are let go.

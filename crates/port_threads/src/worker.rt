@@ -3,13 +3,13 @@
 ghost use Rattle.std.specs.Prelude.{◌≡◌};
 ghost use Rattle.port_threads.specs.Kept.{kept_of};
 
-use crate::post::Post;
 use credit::Limits;
 use crew::{Work, WorkerId};
 use frame_log::Frame;
 use std::sync::Wait;
 use vetted::VettedFrame;
 use wiring::Ends;
+use workers::Post;
 
 /// A worker with the ends of its rings: those of its link, of the credits of that, and of the pairs of ports of its switch.
 #[derive(Drop)]

@@ -1,8 +1,9 @@
 -- What each command prints.
 use Rattle.std.specs.Prelude.{ℕ, List}
-use Rattle.command_line.specs.CommandLine.{Asked, First, Run, Alone, Journal, Replay}
+use Rattle.command_line.specs.CommandLine.{Asked, First, Run, Alone, Journal, Replay, Threads}
 use Rattle.commands.specs.First.{Prints}
 use Rattle.commands.specs.Runs.{AlonePrints, JournalPrints, ReplayPrints, RunPrints}
+use Rattle.threads_command.specs.Threads.{ThreadsPrints}
 
 -- what a command prints that was asked for, where files may have these bytes under these names
 abbrev pub AskedPrints : (List ℕ → List ℕ → Type 0) → Asked → List ℕ → Type 0
@@ -11,3 +12,4 @@ AskedPrints holds (Run layout script) text = RunPrints holds layout script text
 AskedPrints holds (Alone layout script number) text = AlonePrints holds layout script number text
 AskedPrints holds (Journal layout script number) text = JournalPrints holds layout script number text
 AskedPrints holds (Replay layout journal number) text = ReplayPrints holds layout journal number text
+AskedPrints holds (Threads layout script turns) text = ThreadsPrints holds layout script text

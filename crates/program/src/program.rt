@@ -15,11 +15,14 @@ use std::alloc::Global;
 use std::convert::AsStr;
 use std::io::Write;
 use std::sync::Wait;
+use std::thread::Threads;
+use std::time::Clock;
+use threads_command::threads;
 
 /// Carries out the command that the words are, without the program's name. What it prints goes to
 /// `out`, and where it stops before its work is done, one line of why goes to `err`. The files are those that
 /// the words name. Where the words ask for a command and it is done, it has written what that prints.
-pub fn command<R: Wait, S: AsStr, F: FileGiver, O: Write, E: Write>(
+pub fn command<R, S: AsStr, F: FileGiver, O: Write, E: Write>(
     rt: &R,
     alloc: Global,
     words: &[S],
@@ -27,6 +30,8 @@ pub fn command<R: Wait, S: AsStr, F: FileGiver, O: Write, E: Write>(
     out: &mut O,
     err: &mut E,
 ) -> ExitStatus
+where
+    R: Threads + Wait + Clock + Copy + Send + Sync + Drop + 'static,
     ensures asked { (asked : Asked) → Ask (map S.text words.now) asked → result ≡ ExitStatus.Done → Wrote (O.contents out.old) (O.contents out.new) (AskedPrints (F.holds files.now) asked) }
     ensures silent { result ≡ ExitStatus.Done → err.new ≡ err.old }
 {
@@ -36,13 +41,15 @@ pub fn command<R: Wait, S: AsStr, F: FileGiver, O: Write, E: Write>(
     }
 }
 
-fn carried_out<'a, R: Wait, S: AsStr, F: FileGiver, O: Write>(
+fn carried_out<'a, R, S: AsStr, F: FileGiver, O: Write>(
     rt: &R,
     alloc: Global,
     words: &'a [S],
     files: &F,
     out: &mut O,
 ) -> Result<(), Fault<'a>>
+where
+    R: Threads + Wait + Clock + Copy + Send + Sync + Drop + 'static,
     ensures { (asked : Asked) → Ask (map S.text words.entry.now) asked → OnOk result (Wrote (O.contents out.old) (O.contents out.new) (AskedPrints (F.holds files.now) asked)) }
 {
     let request = command_line::read_request(alloc, words)?;
@@ -51,13 +58,15 @@ fn carried_out<'a, R: Wait, S: AsStr, F: FileGiver, O: Write>(
     Ok(())
 }
 
-fn perform<'a, R: Wait, F: FileGiver, O: Write>(
+fn perform<'a, R, F: FileGiver, O: Write>(
     rt: &R,
     alloc: Global,
     request: Request<'a>,
     files: &F,
     out: &mut O,
 ) -> Result<(), Fault<'a>>
+where
+    R: Threads + Wait + Clock + Copy + Send + Sync + Drop + 'static,
     ensures { (asked : Asked) → IsAsked request.entry asked → OnOk result (Wrote (O.contents out.old) (O.contents out.new) (AskedPrints (F.holds files.now) asked)) }
 {
     match request {
@@ -80,6 +89,10 @@ fn perform<'a, R: Wait, F: FileGiver, O: Write>(
             journal: text,
             domain,
         } => replay(rt, alloc, files, layout, text, domain, out),
+        Request::Threads {
+            files: names,
+            turns,
+        } => threads(rt, alloc, files, names, turns, out),
     }
 }
 

@@ -17,16 +17,16 @@ const WRITE: [u8; 16] = [
 ];
 
 /// A read of the same.
-const READ: [u8; 12] = [0, 0, 0, 1, 3, 0, 7, 0x0f, 0, 0, 0x10, 0];
+pub const READ: [u8; 12] = [0, 0, 0, 1, 3, 0, 7, 0x0f, 0, 0, 0x10, 0];
 
 /// The injector of function 03:00.0, if it wasn't given yet.
 fn injector(running: &mut Running) -> Option<Injector> {
     running.injector(Origin::Function(Bdf::from_bits(0x0300)))
 }
 
-/// The first byte of data of the first completion, for which it looks at most 1,000 times, a millisecond apart.
-fn first_byte<C: Clock>(clock: &C, injector: &mut Injector) -> Option<u8> {
-    for _ in 0..1000 {
+/// The first byte of data of the first completion, for which it looks at most 20,000 times, a millisecond apart.
+pub fn first_byte<C: Clock>(clock: &C, injector: &mut Injector) -> Option<u8> {
+    for _ in 0..20_000 {
         if let Some(record) = injector.take_record() {
             return record.bytes().get(12).copied();
         }

@@ -6,6 +6,12 @@ mod begins;
 #[cfg(test)]
 mod gates;
 #[cfg(test)]
+mod largest;
+#[cfg(test)]
+mod programs;
+#[cfg(test)]
 mod scenes;
 #[cfg(test)]
 mod starts;
+#[cfg(test)]
+mod storm;

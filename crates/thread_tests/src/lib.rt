@@ -11,5 +11,3 @@ mod lanes;
 mod relays;
 #[cfg(test)]
 mod rings;
-#[cfg(test)]
-mod sides;

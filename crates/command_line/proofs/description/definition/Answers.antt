@@ -6,6 +6,7 @@ use Rattle.command_line.proofs.description.definition.Goals as goal
 pub returns : goal.returns
 returns c =
     let journal_is = c.in_ok-with_journal.ensures.shape c.in_ok-journal.ensures.1 ∙ ap₂ with_subcommand c.in_ok-with_runs.ensures (ap (λ (a : App). a.top) c.in_ok-journal.ensures.0) in
-    IfOk-weaker c.subcommand-2.result _ _
-    (λ r h. h.shape c.in_ok-replay.ensures.1 ∙ ap₂ with_subcommand journal_is (ap (λ (a : App). a.top) c.in_ok-replay.ensures.0))
-    c.subcommand-2.ensures
+    let replay_is = c.in_ok-with_replay.ensures.shape c.in_ok-replay.ensures.1 ∙ ap₂ with_subcommand journal_is (ap (λ (a : App). a.top) c.in_ok-replay.ensures.0) in
+    IfOk-weaker c.subcommand-3.result _ _
+    (λ r h. h.shape c.in_ok-threads.ensures.1 ∙ ap₂ with_subcommand replay_is (ap (λ (a : App). a.top) c.in_ok-threads.ensures.0))
+    c.subcommand-3.ensures

@@ -4,8 +4,8 @@ use Rattle.commands.proofs.run.run.Goals as goal
 
 pub returns : goal.returns
 returns g c =
-    let layout = c.in_ok-layout.ensures in
-    let script = c.in_ok-script.ensures in
+    let layout = c.in_ok-layout.ensures.layout in
+    let script = c.in_ok-script.ensures.script in
     let refused = c.in_ok-fabric.ensures.ok in
     let written = c.in_ok-write_report.ensures in (
       refused.0 ++ written.0,

@@ -1,6 +1,0 @@
-use Rattle.std.proofs.Common.{◌≡◌, ◌++◌, map, take}
-use Rattle.port_threads.specs.Roles.{role_of, upstream_role}
-use Rattle.port_threads.proofs.staffing.add_upstream.Given as goal
-
-abbrev pub invariant-loop-switch : goal.invariant-loop-switch
-invariant-loop-switch l = map role_of l.staff ≡ map role_of l.initial.staff ++ map (upstream_role l.layout) (take l.switch-index l.switch-items)

@@ -1,0 +1,4 @@
+pub mod Adding
+pub mod Answering
+pub mod Finding
+pub mod Lines

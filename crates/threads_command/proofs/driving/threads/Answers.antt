@@ -1,0 +1,19 @@
+use Rattle.threads_command.proofs.driving.threads.Goals as goal
+
+pub returns : goal.returns
+returns g c =
+    let layout = c.in_ok-layout.ensures.layout in
+    let script = c.in_ok-script.ensures.script in
+    let written = c.in_ok-write_report.ensures in (
+      written.0,
+      record {
+        platform = c.in_ok-layout.layout;
+        lines = c.in_ok-script.script;
+        files = record { layout_text = layout.0; layout_file = layout.1; layout = layout.2; script_text = script.0; script_file = script.1; script = script.2 };
+        refused = c.in_ok-ran.ran.refusals;
+        stopped = c.in_ok-ran.ran.stopped;
+        stops = rw c.into_lines.ensures at c.in_ok-ran.ensures;
+        report = written.1;
+      },
+      written.2,
+    )

@@ -1,0 +1,19 @@
+-- Workers as they are taken on, and what they share.
+use Rattle.std.specs.Prelude.{◌≡◌}
+use Rattle.std.specs.Arc.{arc_value}
+use Rattle.bridge.specs.Bridges.{of_platform}
+use Rattle.platform.specs.Platform.{Platform}
+use Rattle.workers.specs.Roles.{starting_numbers}
+use Rattle.workers.specs.Seats.{AreWatched}
+use Rattle.workers.specs.Watched.{watch_kept}
+use Rattle.workers.specs.declared.shared.Shared.{Shared}
+use Rattle.workers.specs.declared.staff.Staff.TheInside.{Inside}
+
+-- the ports among them have the seats that were given
+abbrev pub IsStaff : Inside → Type 0
+IsStaff s = AreWatched (watch_kept s.watch) s.posts.items
+
+-- it is what the workers of this layout share
+pub record IsSharedOf (platform : Platform) (shared : Shared) : Type 0 where
+  pub bridge : arc_value shared.bridge ≡ of_platform platform
+  pub locks : arc_value shared.locks ≡ starting_numbers platform

@@ -1,0 +1,7 @@
+pub mod Building
+pub mod Marks
+pub mod Origins
+pub mod Roles
+pub mod Seats
+pub mod Sides
+pub mod Watched

@@ -1,0 +1,61 @@
+//! The worker of a function: made, and taken apart.
+
+ghost use Rattle.std.specs.Prelude.{◌≡◌, IfOk, IsSome, None};
+ghost use Rattle.fab_types.specs.declared.origin.Origin.TheVariants as origin;
+ghost use Rattle.platform.specs.Owners.{domain_above};
+ghost use Rattle.workers.specs.Building.{IsSharedOf};
+ghost use Rattle.workers.specs.Marks.{config_left};
+ghost use Rattle.workers.specs.Roles.{function_role, role_of};
+ghost use Rattle.workers.specs.Seats.{seat_in};
+
+use crate::job::Job;
+use crate::post::Post;
+use crate::remains::Parts;
+use crate::shared::Shared;
+use crate::sides::side_of;
+use crew::WorkerId;
+use fab_types::{NoMemory, Origin};
+use function_work::FunctionWork;
+use injector::Injector;
+use layout::Layout;
+use outboxes::OriginBox;
+use platform::EndpointFunction;
+use std::alloc::Global;
+
+/// The worker of a function of the layout, with its outbox, and the function's injector. It answers `NoMemory` where memory
+/// was refused.
+pub(crate) fn function_post(
+    alloc: Global,
+    layout: &Layout,
+    shared: &Shared,
+    line: &EndpointFunction,
+    outbox: OriginBox,
+) -> Result<(Post, Injector), NoMemory>
+    requires shared { IsSharedOf layout.now shared.now }
+    requires own { outbox.origin ≡ origin.Function line.now.id }
+    requires placed { IsSome (domain_above layout.now.ports line.now.id) }
+    ensures role { IfOk result (λ made. role_of made.0 ≡ function_role layout.now line.now) }
+    ensures seat { IfOk result (λ made. seat_in made.0.job ≡ None) }
+    ensures origin { IfOk result (λ made. made.1.origin ≡ origin.Function line.now.id) }
+{
+    let Some(domain) = layout.domain_above(line.id) else {
+        unreachable!();
+    };
+    let side = side_of(alloc, layout, line.id)?;
+    let locks = shared.locks()?;
+    let origin = Origin::Function(line.id);
+    let (injector, ends) = Injector::open(alloc, origin, layout.budget(domain))?;
+    let work = FunctionWork::new(alloc, line.id, domain, outbox, ends, side, locks);
+    let post = Post {
+        id: WorkerId::Function(line.id),
+        job: Job::Function(work),
+    };
+    Ok((post, injector))
+}
+
+/// What is left of a function's worker.
+pub(crate) fn function_parts(work: FunctionWork) -> Parts
+    ensures { config_left result ≡ None }
+{
+    Parts::Function(work.into_parts())
+}

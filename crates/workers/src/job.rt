@@ -1,0 +1,43 @@
+//! What a worker has beside the ends of its rings.
+
+ghost use Rattle.std.specs.Prelude.{◌≡◌};
+ghost use Rattle.wiring.specs.Wired.{tags_of};
+
+use credit::Limits;
+use frame_log::Frame;
+use function_work::FunctionWork;
+use port_work::PortWork;
+use root_work::RootWork;
+use std::sync::Wait;
+use vetted::VettedFrame;
+use wiring::Ends;
+
+/// The work of a port, of a function or of the root complex.
+#[derive(Drop)]
+pub enum Job {
+    Port(PortWork),
+    Function(FunctionWork),
+    Root(RootWork),
+}
+
+impl Job {
+    /// One turn.
+    pub fn turn<R: Wait>(
+        &mut self,
+        rt: &R,
+        links: &mut Ends<Frame>,
+        credits: &mut Ends<Limits>,
+        pairs: &mut Ends<VettedFrame>,
+    )
+        ensures same { self.new ≡ self.old }
+        ensures links { tags_of links.new ≡ tags_of links.old }
+        ensures credits { tags_of credits.new ≡ tags_of credits.old }
+        ensures pairs { tags_of pairs.new ≡ tags_of pairs.old }
+    {
+        match self {
+            Job::Port(work) => work.turn(rt, links, credits, pairs),
+            Job::Function(work) => work.turn(rt, links, credits),
+            Job::Root(work) => work.turn(rt, links, credits),
+        }
+    }
+}

@@ -1,0 +1,51 @@
+//! The worker of a port: made, and taken apart.
+
+ghost use Rattle.std.specs.Prelude.{◌≡◌, ◌++◌, ◌∷◌, [], OnOk, map};
+ghost use Rattle.std.specs.Arc.{arc_value};
+ghost use Rattle.crew.specs.declared.worker_id.WorkerId.TheVariants as worker;
+ghost use Rattle.monitor.specs.Reporting.{seat_of};
+ghost use Rattle.workers.specs.Marks.{config_left};
+ghost use Rattle.workers.specs.Roles.{port_role, role_of};
+ghost use Rattle.std.specs.Prelude.{Some};
+
+use crate::remains::{Parts, PortRemains};
+use crate::shared::Shared;
+use crate::sides::side_of;
+use crate::staff::Staff;
+use fab_types::{NoMemory, PortId};
+use layout::Layout;
+use monitor::QueueReporter;
+use port::Port;
+use port_work::{PortParts, PortWork};
+use std::alloc::Global;
+
+/// Takes on the worker of a port of the layout, at its side of its link.
+pub(crate) fn add_port(
+    alloc: Global,
+    layout: &Layout,
+    shared: &Shared,
+    id: PortId,
+    port: Port,
+    staff: &mut Staff,
+) -> Result<(), NoMemory>
+    ensures { OnOk result (map role_of staff.new ≡ map role_of staff.old ++ port_role (worker.Port id) port.config (arc_value shared.now.bridge) ∷ []) }
+{
+    let side = side_of(alloc, layout, port.direction_in().lower)?;
+    let bridge = shared.bridge()?;
+    let desk = shared.desk()?;
+    staff.add_port(id, port, bridge, side, desk)?;
+    Ok(())
+}
+
+/// What is left of a port's worker, and its end of the queue of violations.
+pub(crate) fn port_parts(work: PortWork) -> (Parts, QueueReporter)
+    ensures config { config_left result.0 ≡ Some work.config }
+    ensures seat { seat_of result.1 ≡ work.seat }
+{
+    let PortParts {
+        port,
+        side,
+        reporter,
+    } = work.into_parts();
+    (Parts::Port(PortRemains { port, side }), reporter)
+}

@@ -1,0 +1,11 @@
+//! A worker without the ends of its rings.
+
+use crate::job::Job;
+use crew::WorkerId;
+
+/// Which worker it is, and its work.
+#[derive(Drop)]
+pub struct Post {
+    pub id: WorkerId,
+    pub job: Job,
+}

@@ -1,0 +1,82 @@
+//! What is left of workers.
+
+ghost use Rattle.std.specs.Prelude.{◌≡◌, ◌++◌, IfOk, OnOk, map, option_to_list};
+ghost use Rattle.monitor.specs.Reporting.{seat_of};
+ghost use Rattle.workers.specs.Marks.{config_in, config_left, mark_left, mark_of};
+ghost use Rattle.workers.specs.Seats.{seat_in, seats_of};
+
+use crate::function_job::function_parts;
+use crate::job::Job;
+use crate::port_job::port_parts;
+use crate::post::Post;
+use crate::root_job::root_parts;
+use crew::WorkerId;
+use fab_types::NoMemory;
+use function_work::FunctionParts;
+use link_side::LinkSide;
+use monitor::QueueReporter;
+use port::Port;
+use root_work::RootParts;
+use std::alloc::Global;
+
+/// What is left of a port's worker: the port, with its strays and what it holds, and its side of its link, with what waits
+/// there.
+#[derive(Drop)]
+pub struct PortRemains {
+    pub port: Port,
+    pub side: LinkSide,
+}
+
+/// What is left of a worker's work.
+#[derive(Drop)]
+pub enum Parts {
+    Port(PortRemains),
+    Function(FunctionParts),
+    Root(RootParts),
+}
+
+/// What is left of a worker.
+#[derive(Drop)]
+pub struct Remains {
+    /// Which worker it was.
+    pub id: WorkerId,
+    pub parts: Parts,
+}
+
+/// What is left of workers, and the ends of the queue of violations of the ports among them.
+#[derive(Drop)]
+pub struct AllRemains {
+    pub remains: Vec<Remains>,
+    pub reporters: Vec<QueueReporter>,
+}
+
+/// Takes a worker's work apart. The end of the queue of a port goes to the others.
+fn parts_of(job: Job, reporters: &mut Vec<QueueReporter>) -> Result<Parts, NoMemory>
+    ensures config { IfOk result (λ parts. config_left parts ≡ config_in job) }
+    ensures seat { OnOk result (map seat_of reporters.new.items ≡ map seat_of reporters.old.items ++ option_to_list (seat_in job)) }
+{
+    match job {
+        Job::Port(work) => {
+            let (parts, reporter) = port_parts(work);
+            reporters.push(reporter)?;
+            Ok(parts)
+        }
+        Job::Function(work) => Ok(function_parts(work)),
+        Job::Root(work) => Ok(root_parts(work)),
+    }
+}
+
+/// Takes workers apart, in their order. It answers `NoMemory` where memory was refused.
+pub fn remains_of(alloc: Global, posts: Vec<Post>) -> Result<AllRemains, NoMemory>
+    ensures marks { IfOk result (λ all. map mark_left all.remains.items ≡ map mark_of posts.items) }
+    ensures seats { IfOk result (λ all. map seat_of all.reporters.items ≡ seats_of posts.items) }
+{
+    let mut remains = Vec::new(alloc);
+    let mut reporters = Vec::new(alloc);
+    for post in posts {
+        let Post { id, job } = post;
+        let parts = parts_of(job, &mut reporters)?;
+        remains.push(Remains { id, parts })?;
+    }
+    Ok(AllRemains { remains, reporters })
+}

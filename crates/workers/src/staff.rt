@@ -1,0 +1,97 @@
+//! The workers of a fabric as they are taken on.
+
+ghost use Rattle.std.specs.Prelude.{◌≡◌, ◌++◌, ◌∷◌, [], IfOk, None, OnErr, OnOk, map};
+ghost use Rattle.std.specs.Arc.{arc_value};
+ghost use Rattle.crew.specs.declared.worker_id.WorkerId.TheVariants as worker;
+ghost use Rattle.workers.specs.Watched.{watch_kept};
+ghost use Rattle.workers.specs.Roles.{port_role, role_of};
+ghost use Rattle.workers.specs.Seats.{AreWatched, seat_in};
+
+use crate::job::Job;
+use crate::post::Post;
+use bridge::Bridge;
+use crew::WorkerId;
+use fab_types::{NoMemory, PortId};
+use link_side::LinkSide;
+use locks::LockedDesk;
+use monitor::Watch;
+use port::Port;
+use port_work::PortWork;
+use std::alloc::Global;
+use std::marker::Model;
+use std::sync::Arc;
+
+/// Workers without the ends of their rings, and the monitor's end of the queue of violations, at which the ports among
+/// them have their seats. A contract sees the list of the workers.
+#[derive(Drop)]
+pub struct Staff {
+    watch: Watch,
+    posts: Vec<Post>,
+}
+
+impl Model for Staff {
+    ghost use Rattle.std.specs.Prelude.{List};
+    ghost use Rattle.workers.specs.declared.post.Post.{Post};
+    ghost use Rattle.workers.specs.Building.{IsStaff};
+
+    ghost Value = { List Post };
+
+    ghost view = { λ s. s.posts.items };
+
+    ghost invariant = { IsStaff };
+}
+
+impl Staff {
+    /// No worker, and an empty queue of violations. It answers `NoMemory` where memory was refused.
+    pub(crate) fn open(alloc: Global) -> Result<Staff, NoMemory>
+        ensures { IfOk result (λ staff. staff ≡ []) }
+    {
+        Ok(Staff {
+            watch: Watch::open(alloc)?,
+            posts: Vec::new(alloc),
+        })
+    }
+
+    /// One worker more, which has no seat. After `NoMemory` there are those that there were.
+    pub(crate) fn add(&mut self, post: Post) -> Result<(), NoMemory>
+        requires { seat_in post.job ≡ None }
+        ensures ok { OnOk result (self.new ≡ self.old ++ post ∷ []) }
+        ensures err { OnErr result (self.new ≡ self.old) }
+    {
+        self.posts.reserve(1)?;
+        self.posts.push_reserved(post);
+        Ok(())
+    }
+
+    /// The worker of a port more, at the next seat. After `NoMemory` there are those that there were.
+    pub(crate) fn add_port(
+        &mut self,
+        id: PortId,
+        port: Port,
+        bridge: Arc<Bridge, Global>,
+        side: LinkSide,
+        desk: LockedDesk,
+    ) -> Result<(), NoMemory>
+        ensures ok { OnOk result (map role_of self.new ≡ map role_of self.old ++ port_role (worker.Port id) port.config (arc_value bridge) ∷ []) }
+        ensures err { OnErr result (self.new ≡ self.old) }
+    {
+        // Room first: a seat that was given is taken.
+        self.posts.reserve(1)?;
+        let reporter = self.watch.admit()?;
+        let work = PortWork::new(port, bridge, side, desk, reporter);
+        self.posts.push_reserved(Post {
+            id: WorkerId::Port(id),
+            job: Job::Port(work),
+        });
+        Ok(())
+    }
+
+    /// The workers and the monitor's end of the queue.
+    pub fn into_parts(self) -> (Vec<Post>, Watch)
+        ensures posts { result.0.items ≡ self }
+        ensures watched { AreWatched (watch_kept result.1) result.0.items }
+    {
+        let Staff { watch, posts } = self;
+        (posts, watch)
+    }
+}
