@@ -1,5 +1,10 @@
 //! A fabric of two domains on threads of its own, from start to stop.
 
+ghost use Rattle.std.specs.Prelude.{◌≡◌, IfSome, true};
+ghost use Rattle.fab_types.specs.Id.{id_of};
+ghost use Rattle.fab_types.specs.Origins.{same_origin};
+ghost use Rattle.fab_types.specs.declared.origin.Origin.TheVariants.{Function};
+
 use crate::tenant::{Writer, write_and_read};
 use domain::{Domain, Record};
 use fab_types::{Bdf, Origin};
@@ -64,9 +69,11 @@ pub struct Ran {
     pub domains: Vec<Domain>,
 }
 
-/// The injector of the function on this bus.
-fn injector(running: &mut Running, writer: Writer) -> Option<Injector> {
-    running.injector(Origin::Function(Bdf::from_bits(u16::from(writer.bus) << 8)))
+/// The injector of the function on this bus. A tenant's thread gets that of its own function, and no other.
+fn injector(running: &mut Running, writer: Writer) -> Option<Injector>
+    ensures { IfSome result (λ injector. same_origin injector.origin (Function (id_of writer.bus 0 0)) ≡ true) }
+{
+    running.injector(Origin::Function(Bdf::new(writer.bus, 0, 0)?))
 }
 
 /// Two threads, each with the injector of a function: what they take.
