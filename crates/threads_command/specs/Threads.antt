@@ -1,7 +1,9 @@
 -- What the command `threads` prints.
-use Rattle.std.specs.Prelude.{◌≡◌, ℕ, ◌++◌, List, map}
+use Rattle.std.specs.Prelude.{◌≡◌, ℕ, ⊤, ◌++◌, List, map}
 use Rattle.std.specs.List.{flat_map}
 use Rattle.inputs.specs.Inputs.{AreFiles}
+use Rattle.inputs.specs.declared.fault.Fault.{Fault}
+use Rattle.inputs.specs.declared.fault.Fault.TheVariants as fault
 use Rattle.platform.specs.Platform.{Platform}
 use Rattle.port_threads.specs.Fabrics.{FabricView, IsFabricOf}
 use Rattle.port_threads.specs.Stops.{Leaves}
@@ -20,6 +22,14 @@ pub record IsStopped (platform : Platform) (lines : List Line) (refused : Counts
   pub begins : AllBegin lines (none_begun fabric.origins) begun
   pub leaves : Leaves (record fabric { origins = begun.left }) stopped
   pub counts : refused ≡ all_added begun.refused (flat_map refused_by stopped.remains.items)
+
+-- What may stop a run in threads: want of memory, a thread that isn't made or a ring that stays full, and an output that takes
+-- no more
+abbrev pub IsThreadsFault : Fault → Type 0
+IsThreadsFault fault.NoMemory = ⊤
+IsThreadsFault fault.ThreadsFailed = ⊤
+IsThreadsFault fault.Unwritable = ⊤
+IsThreadsFault _ = ⊥
 
 -- the refused begins, then the violations as the monitor took them, and then each domain
 pub record IsReport (refused : Counts) (stopped : Stopped) (text : List ℕ) : Type 0 where

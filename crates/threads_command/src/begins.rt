@@ -1,11 +1,12 @@
 //! The begins of a script, each asked of the injector of its function or host.
 
-ghost use Rattle.std.specs.Prelude.{◌≡◌, ◌<◌, List, [], Err, IfOk, IfSome, Ok, OnOk, length};
+ghost use Rattle.std.specs.Prelude.{◌≡◌, ◌<◌, List, [], Err, IfErr, IfOk, IfSome, Ok, OnOk, length};
 ghost use Rattle.fab_types.specs.declared.faults.injector.InjectorFault.{InjectorFault};
 ghost use Rattle.fab_types.specs.declared.origin.Origin.{Origin};
 ghost use Rattle.injector.specs.declared.begin.Ask.{Ask};
 ghost use Rattle.injector.specs.Injectors.{SendsNothing};
 ghost use Rattle.threads_command.specs.Asking.{Sends, ask_of, origin_of};
+ghost use Rattle.threads_command.specs.Threads.{IsThreadsFault};
 ghost use Rattle.threads_command.specs.Begins.{AllBegin, Asks, Begins, BeginsOf, Counted, Finds, begun_by, place_in};
 
 use crate::asking::{Answer, ask, ask_again, origin_of};
@@ -94,7 +95,8 @@ fn send<C: Clock>(
 
 /// Counts what came of a begin.
 fn count<'a>(refusals: &mut Refusals, origin: &Origin, answer: Answer) -> Result<(), Fault<'a>>
-    ensures { OnOk result (Counted answer origin.now refusals.old refusals.new) }
+    ensures ok { OnOk result (Counted answer origin.now refusals.old refusals.new) }
+    ensures fault { IfErr result (λ fault. IsThreadsFault fault) }
 {
     match answer {
         Answer::Sent => Ok(()),
@@ -116,7 +118,8 @@ fn ask_at<'a, C: Clock>(
     command: Command,
 ) -> Result<(), Fault<'a>>
     requires { place < length begun.old.injectors.items }
-    ensures { (left : List Origin) → OnOk result (Asks command origin.now place (begun_by left begun.old) (begun_by left begun.new)) }
+    ensures ok { (left : List Origin) → OnOk result (Asks command origin.now place (begun_by left begun.old) (begun_by left begun.new)) }
+    ensures fault { IfErr result (λ fault. IsThreadsFault fault) }
 {
     let answer = send(clock, gate, &mut begun.injectors[place], command);
     count(&mut begun.refusals, origin, answer)
@@ -131,6 +134,7 @@ fn begin_of<'a, C: Clock>(
     origin: &Origin,
     command: Command,
 ) -> Result<(), Fault<'a>>
+    ensures fault { IfErr result (λ fault. IsThreadsFault fault) }
     ensures ok { OnOk result (BeginsOf origin.now command (begun_by running.old.origins begun.old) (begun_by running.new.origins begun.new)) }
     ensures rest { running.new ≡ record running.old { origins = running.new.origins } }
 {
@@ -151,6 +155,7 @@ fn begin<'a, C: Clock>(
     begun: &mut Begun,
     command: Command,
 ) -> Result<(), Fault<'a>>
+    ensures fault { IfErr result (λ fault. IsThreadsFault fault) }
     ensures ok { OnOk result (Begins command (begun_by running.old.origins begun.old) (begun_by running.new.origins begun.new)) }
     ensures rest { running.new ≡ record running.old { origins = running.new.origins } }
 {
@@ -172,6 +177,7 @@ pub(crate) fn begin_all<'a, C: Clock>(
     begun: &mut Begun,
     lines: Vec<Line>,
 ) -> Result<(), Fault<'a>>
+    ensures fault { IfErr result (λ fault. IsThreadsFault fault) }
     ensures ok { OnOk result (AllBegin lines.items (begun_by running.old.origins begun.old) (begun_by running.new.origins begun.new)) }
     ensures rest { running.new ≡ record running.old { origins = running.new.origins } }
 {

@@ -1,11 +1,12 @@
 //! The command `threads`: a layout's fabric on threads of its own, driven by a script.
 
-ghost use Rattle.std.specs.Prelude.{IfOk, OnOk};
+ghost use Rattle.std.specs.Prelude.{◌≡◌, ◌⊎◌, IfErr, IfOk, OnOk};
 ghost use Rattle.std.specs.Arc.{arc_value};
 ghost use Rattle.platform.specs.Platform.{Platform};
+ghost use Rattle.inputs.specs.Refusals.{HasNoText, IsNoLayout, IsNoScript};
 ghost use Rattle.port_threads.specs.Fabrics.{IsFabricOf};
 ghost use Rattle.reports.specs.Writing.{Wrote};
-ghost use Rattle.threads_command.specs.Threads.{IsStopped, ThreadsPrints};
+ghost use Rattle.threads_command.specs.Threads.{IsStopped, IsThreadsFault, ThreadsPrints};
 
 use crate::begins::{Begun, begin_all};
 use crate::refusals::Refusals;
@@ -39,7 +40,8 @@ fn driven<'a, R>(
 ) -> Result<Ran, Fault<'a>>
 where
     R: Threads + Wait + Clock,
-    ensures { (platform : Platform) → IsFabricOf platform running → IfOk result (λ ran. IsStopped platform lines.items ran.refusals ran.stopped) }
+    ensures fault { IfErr result (λ fault. IsThreadsFault fault) }
+    ensures ok { (platform : Platform) → IsFabricOf platform running → IfOk result (λ ran. IsStopped platform lines.items ran.refusals ran.stopped) }
 {
     let mut running = running;
     let mut begun = Begun::new(alloc);
@@ -71,7 +73,8 @@ fn run<'a, R>(
 ) -> Result<Ran, Fault<'a>>
 where
     R: Threads + Wait + Clock + Copy + Send + Sync + Drop + 'static,
-    ensures { IfOk result (λ ran. IsStopped layout lines.items ran.refusals ran.stopped) }
+    ensures fault { IfErr result (λ fault. IsThreadsFault fault) }
+    ensures ok { IfOk result (λ ran. IsStopped layout lines.items ran.refusals ran.stopped) }
 {
     let Ok(gate) = Arc::new(alloc, EvenGate::new(alloc, *rt, &layout)?) else {
         return Err(Fault::NoMemory);
@@ -101,7 +104,8 @@ pub fn threads<'a, R, F: FileGiver, W: Write>(
 ) -> Result<(), Fault<'a>>
 where
     R: Threads + Wait + Clock + Copy + Send + Sync + Drop + 'static,
-    ensures { OnOk result (Wrote (W.contents out.old) (W.contents out.new) (ThreadsPrints (F.holds files.now) names.entry.layout.now names.entry.script.now)) }
+    ensures ok { OnOk result (Wrote (W.contents out.old) (W.contents out.new) (ThreadsPrints (F.holds files.now) names.entry.layout.now names.entry.script.now)) }
+    ensures fault { IfErr result (λ f. (f ≡ Fault.NoMemory) ⊎ ((f ≡ Fault.Unreadable names.entry.layout) × HasNoText (F.withholds files.now names.entry.layout.now) (F.holds files.now names.entry.layout.now)) ⊎ IsNoLayout (F.holds files.now names.entry.layout.now) f ⊎ ((f ≡ Fault.Unreadable names.entry.script) × HasNoText (F.withholds files.now names.entry.script.now) (F.holds files.now names.entry.script.now)) ⊎ IsNoScript (F.holds files.now names.entry.script.now) f ⊎ IsThreadsFault f) }
 {
     let layout = layout_of(alloc, files, names.layout)?;
     let script = script_of(alloc, files, names.script)?;

@@ -35,4 +35,4 @@ returns-in-Replay g c = λ asked is.
 pub returns-in-Threads : goal.returns-in-Threads
 returns-in-Threads g c = λ asked is.
     asked_alone (λ a. OnOk c.threads.result (Wrote (g.O.Write.contents c.args.out.now) (g.O.Write.contents c.threads.new.out) (AskedPrints (g.F.FileGiver.holds c.args.files.now) a)))
-    (request.Threads c.in-Threads.names c.in-Threads.turns) (Threads c.in-Threads.names.layout.now c.in-Threads.names.script.now c.in-Threads.turns) asked refl c.threads.ensures (rw c.in-Threads.is at is)
+    (request.Threads c.in-Threads.names c.in-Threads.turns) (Threads c.in-Threads.names.layout.now c.in-Threads.names.script.now c.in-Threads.turns) asked refl c.threads.ensures.ok (rw c.in-Threads.is at is)

@@ -4,8 +4,8 @@ use Rattle.port_threads.specs.Stops.{Leaves}
 use Rattle.threads_command.specs.Begins.{begun_by}
 use Rattle.threads_command.proofs.driving.driven.Goals as goal
 
-pub returns : goal.returns
-returns g c = λ platform is.
+pub returns-clause-ok : goal.returns-clause-ok
+returns-clause-ok g c = λ platform is.
     let left : Leaves c.begin_all-begins.new.running c.in_ok-stopped.stopped = record {
       links = c.in_ok-stopped.ensures.links;
       credits = c.in_ok-stopped.ensures.credits;
