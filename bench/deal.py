@@ -118,10 +118,27 @@ class Deal:
         host, nobody = self.dice.randrange(5) << 3, self.dice.choice([0x0100, 0xfe00, bdf | 8])
         return self.dice.choice([other, other, host, nobody])
 
+    def fetch_add(self, bdf):
+        """Mostly of one or two words at an address that is a multiple of their size."""
+        count = self.dice.choice([1, 1, 1, 2, 2, 2, 2, 3])
+        address = self.address() + self.dice.choice([0, 0, 0, 0, 4, 2])
+        is_long = address >> 32 != 0 or self.dice.random() < 0.03
+        head = 0x4c << 24 | is_long << 29 | self.dice.choice([0, 0, 0x2000, 0x1000, 0x40000]) | count
+        if self.dice.random() < 0.2:
+            # Address types.
+            head |= self.dice.choice([0x400, 0x800, 0x800, 0xc00])
+        words = [head, self.requester(bdf) << 16 | self.dice.randrange(8) << 8 | self.dice.randrange(256)]
+        words += [address >> 32, address & 0xffffffff] if is_long else [address & 0xffffffff]
+        # Operands that carry, and others.
+        data = self.dice.choice([b'\xff' * 4 * count, self.dice.randbytes(4 * count), b'\x01' + bytes(4 * count - 1)])
+        return b''.join(word.to_bytes(4, 'big') for word in words).hex() + data.hex()
+
     def packet(self, bdf):
         """Mostly a request to memory, by the function or in the name of another."""
         if self.dice.random() < 0.05:
             return self.dice.randbytes(self.dice.randrange(0, 40)).hex()
+        if self.dice.random() < 0.17:
+            return self.fetch_add(bdf)
         kind = self.dice.choice([0, 0, 0, 0, 0, 0, 0, 2, 4, 0x34, 0x0a, 0x0c])
         has_data = self.dice.random() < 0.4
         count = self.dice.choice([1, 1, 1, 2, 4, 33, 64, 65])

@@ -45,7 +45,7 @@ def dword(*numbers):
     return ''.join(f'{number:08x}' for number in numbers)
 
 
-# A write or a read of a mapped page, of a page that isn't mapped, of another's register page, or with the name of
+# A write, a read or a FetchAdd of a mapped page, of a page that isn't mapped, of another's register page, or with the name of
 # another; with tags in turn.
 def packet(tag):
     bdf, owner, base = dice.choice(functions)
@@ -56,6 +56,9 @@ def packet(tag):
     if dice.random() < 0.6:
         head = dword(0x40000000 | count, requester << 16 | enables, address)
         return bdf, head + f'{dice.getrandbits(32):08x}' * count
+    if dice.random() < 0.1:
+        operands = dice.choice([1, 2])
+        return bdf, dword(0x4c000000 | operands, requester << 16 | tag % 256 << 8, address) + '01000000' * operands
     return bdf, dword(count, requester << 16 | tag % 256 << 8 | enables, address)
 
 

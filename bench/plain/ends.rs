@@ -96,7 +96,7 @@ impl Tenants {
         let page = usize::try_from(header.address / 4096).unwrap_or(usize::MAX);
         let service = match header.address_type {
             0 => self.owner(header.requester).map(Service::Table),
-            2 => self.memory.get(page).and_then(Option::as_ref).map(|holder| Service::Number(holder.domain, page)),
+            2 if header.kind != Kind::FetchAdd => self.memory.get(page).and_then(Option::as_ref).map(|holder| Service::Number(holder.domain, page)),
             _ => None,
         };
         service.unwrap_or(Service::Nothing)
@@ -125,20 +125,25 @@ impl Tenants {
             return refused_by_host(&packet);
         }
         let function = self.function(header.requester).map(|f| &self.functions[f]);
-        match function.and_then(|f| f.lookup(header.address / 4096, header.kind == Kind::MWr)) {
+        let look = |is_write| function.and_then(|f| f.lookup(header.address / 4096, is_write));
+        let target = match header.kind {
+            Kind::FetchAdd => look(false).and(look(true)),
+            kind => look(kind == Kind::MWr),
+        };
+        match target {
             Some(Target::Frame(k)) => self.at_frame(k, &packet),
-            Some(Target::Peer(g)) => {
+            Some(Target::Peer(g)) if header.kind != Kind::FetchAdd => {
                 let address = self.functions[g].bar + (header.address % 4096) as u32;
                 Some((Party::Host(g as u8), packet.moved(address)))
             }
-            None => {
+            _ => {
                 self.domains[d].blocked += 1;
                 refused_by_host(&packet)
             }
         }
     }
 
-    /// A frame of memory is read or written.
+    /// A frame of memory is read, written or added to.
     fn at_frame(&mut self, k: usize, packet: &Packet) -> Reply {
         if is_long_read(packet) {
             return refused_by_host(packet);
@@ -148,6 +153,11 @@ impl Tenants {
         if packet.header.kind == Kind::MWr {
             packet.store(stored);
             return None;
+        }
+        if packet.header.kind == Kind::FetchAdd {
+            let answer = packet.old_value(HOST, stored);
+            packet.add(stored);
+            return Some((Party::HostAnswer, answer));
         }
         Some((Party::HostAnswer, packet.success(HOST, stored)))
     }
@@ -200,7 +210,7 @@ impl Tenants {
     fn access_at_function(&mut self, f: usize, packet: &Packet) -> Reply {
         let function = &mut self.functions[f];
         let is_here = packet.header.address / 4096 == u64::from(function.bar / 4096);
-        let answer = if is_here && !is_long_read(packet) {
+        let answer = if is_here && !is_long_read(packet) && packet.header.kind != Kind::FetchAdd {
             function.access(packet, packet.header.kind == Kind::MWr)
         } else {
             unserved(packet, function.id)

@@ -71,15 +71,19 @@ impl Kind {
         }
     }
 
-    /// Ports take no requests of other kinds.
-    pub fn is_memory(self) -> bool {
-        matches!(self, Kind::MRd | Kind::MWr)
+    /// Ports take no requests of other kinds than those with an address.
+    pub fn has_address(self) -> bool {
+        matches!(self, Kind::MRd | Kind::MWr | Kind::FetchAdd)
     }
 
-    /// Must its Length be 1?
-    fn is_of_one_dw(self) -> bool {
+    /// May its Length be so many DW?
+    fn may_have(self, dws: u16) -> bool {
         use Kind::*;
-        matches!(self, IORd | IOWr | CfgRd0 | CfgWr0 | CfgRd1 | CfgWr1)
+        match self {
+            IORd | IOWr | CfgRd0 | CfgWr0 | CfgRd1 | CfgWr1 => dws == 1,
+            FetchAdd => dws <= 2,
+            _ => true,
+        }
     }
 }
 
@@ -195,12 +199,13 @@ fn well_formed(bytes: &[u8]) -> Result<Header, Cause> {
     // A field of 0 stands for 1,024.
     let dws = ((word(bytes, 0) & 0x3ff).wrapping_sub(1) & 0x3ff) as u16 + 1;
     let data = if has_data { 4 * usize::from(dws) } else { 0 };
-    let is_sized = bytes.len() == size + data && data <= 256 && (dws == 1 || !kind.is_of_one_dw());
+    let is_sized = bytes.len() == size + data && data <= 256 && kind.may_have(dws);
     refuse_if(!is_sized, Cause::Size)?;
     let relaxed = bytes[2] & 0x20 != 0;
     let common = Header { size: size as u8, dws, relaxed, ..Header::new(kind) };
     let header = match (kind, common.class) {
         (Kind::MRd | Kind::MWr, _) => memory(bytes, is_wide, common)?,
+        (Kind::FetchAdd, _) => fetch_add(bytes, is_wide, common)?,
         (_, Class::Completion) => completion(bytes, common)?,
         _ => Header { requester: id_at(bytes, 4), tag: bytes[6], ..common },
     };
@@ -209,14 +214,27 @@ fn well_formed(bytes: &[u8]) -> Result<Header, Cause> {
     Ok(header)
 }
 
-fn memory(bytes: &[u8], is_wide: bool, common: Header) -> Result<Header, Cause> {
+fn address_in(bytes: &[u8], is_wide: bool) -> u64 {
     let low = u64::from(word(bytes, if is_wide { 12 } else { 8 }));
     let high = if is_wide { u64::from(word(bytes, 8)) } else { 0 };
-    let address = high << 32 | low;
+    high << 32 | low
+}
+
+/// Byte 7 isn't looked at.
+fn fetch_add(bytes: &[u8], is_wide: bool, common: Header) -> Result<Header, Cause> {
+    let address = address_in(bytes, is_wide);
+    refuse_if(is_wide && address >> 32 == 0, Cause::HighForm)?;
+    refuse_if(address % (4 * u64::from(common.dws)) != 0, Cause::Field)?;
+    let address_type = bytes[2] >> 2 & 3;
+    Ok(Header { requester: id_at(bytes, 4), tag: bytes[6], address_type, address, ..common })
+}
+
+fn memory(bytes: &[u8], is_wide: bool, common: Header) -> Result<Header, Cause> {
+    let address = address_in(bytes, is_wide);
     let (first, last) = (bytes[7] & 15, bytes[7] >> 4);
     refuse_if(!are_enables(first, last, common.dws, address), Cause::Enables)?;
     refuse_if((address & !3) % 4096 + 4 * u64::from(common.dws) > 4096, Cause::Crosses)?;
-    refuse_if(is_wide && high == 0, Cause::HighForm)?;
+    refuse_if(is_wide && address >> 32 == 0, Cause::HighForm)?;
     refuse_if(address % 4 != 0, Cause::Field)?;
     let address_type = bytes[2] >> 2 & 3;
     Ok(Header { requester: id_at(bytes, 4), tag: bytes[6], address_type, first, last, address, ..common })

@@ -167,7 +167,7 @@ impl Display for Comment<'_> {
         }
         write!(f, "{kind:?} requester {requester} tag {tag:02x}")?;
         match (kind, class) {
-            (Kind::MRd | Kind::MWr, _) => write!(f, " address {address:x}"),
+            (Kind::MRd | Kind::MWr | Kind::FetchAdd, _) => write!(f, " address {address:x}"),
             (_, Class::Completion) => write!(f, " status {}", status.name()),
             _ => Ok(()),
         }

@@ -75,6 +75,11 @@ impl Packet {
         self.completion(completer, Status::Success, 4 * dws - skipped - unused, lower, stored)
     }
 
+    /// The completion of this FetchAdd, with what stood there.
+    pub fn old_value(&self, completer: Id, stored: &[u8]) -> Packet {
+        self.completion(completer, Status::Success, 4 * self.header.dws, 0, stored)
+    }
+
     fn completion(&self, completer: Id, status: Status, count: u16, lower: u8, data: &[u8]) -> Packet {
         let Header { requester, tag, relaxed, .. } = self.header;
         let (form, kind) = if data.is_empty() { (0x0a, Kind::Cpl) } else { (0x4a, Kind::CplD) };
@@ -124,7 +129,17 @@ impl Packet {
         }
     }
 
-    /// The bytes of a page that this memory request is about.
+    /// Adds the operand of a FetchAdd, the low byte first, to what stands there.
+    pub fn add(&self, places: &mut [u8]) {
+        let mut carry = 0;
+        for (place, byte) in places.iter_mut().zip(self.payload()) {
+            let sum = u16::from(*place) + u16::from(*byte) + carry;
+            *place = sum as u8;
+            carry = sum >> 8;
+        }
+    }
+
+    /// The bytes of a page that this request is about.
     pub fn range(&self) -> std::ops::Range<usize> {
         let start = (self.header.address % 4096) as usize;
         start..start + 4 * usize::from(self.header.dws)

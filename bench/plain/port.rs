@@ -91,7 +91,7 @@ impl Switch {
     pub fn upward(&self, own: usize, frame: &Frame) -> Course {
         let exit = &self.exits[own];
         let header = &frame.packet.header;
-        let is_memory = header.kind.is_memory();
+        let has_address = header.kind.has_address();
         if matches!(header.kind, Kind::Malformed(_)) {
             return Course::Stop(Status::Unsupported, None);
         }
@@ -99,10 +99,10 @@ impl Switch {
             if exit.controls & VALIDATES_SOURCE != 0 && !exit.buses.contains(&header.requester.bus()) {
                 return Course::Stop(Status::Abort, Some(Test::Source));
             }
-            if exit.controls & BLOCKS_TRANSLATED != 0 && is_memory && header.address_type != 0 {
+            if exit.controls & BLOCKS_TRANSLATED != 0 && has_address && header.address_type != 0 {
                 return Course::Stop(Status::Abort, Some(Test::Translation));
             }
-            if !is_memory {
+            if !has_address {
                 return Course::Stop(Status::Unsupported, None);
             }
         }

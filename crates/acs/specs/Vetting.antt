@@ -1,5 +1,5 @@
 -- The tests of a request at a downstream port (PCIe 4.0, 6.12.1.1). That Translation Blocking tests no kinds but memory
--- reads and writes is this project's own: the standard tests every memory request.
+-- reads and writes and FetchAdds is this project's own: the standard tests every memory request.
 use Rattle.std.specs.Prelude.{ℕ, Bool, true, false, ◌&&◌, not, is_some, Option, Some, None, if◌then◌else◌}
 use Rattle.fab_types.specs.Id.{bus_of}
 use Rattle.fab_types.specs.Controls.{validates_source, blocks_translated}
@@ -35,7 +35,7 @@ is_translated TranslationRequest = true
 is_translated Translated = true
 is_translated Reserved = true
 
--- is it a memory read or write with such a field?
+-- is it a memory read or write or a FetchAdd with such a field?
 abbrev pub claims_translation : Header → Bool
 claims_translation header.Malformed = false
 claims_translation (header.Memory requester address_type address) = is_translated address_type

@@ -72,7 +72,7 @@ fn fails_translation(port: &DownstreamPort, header: &Header) -> bool
 
 /// Tests a packet that comes up to a downstream port (PCIe 4.0, 6.12.1.1), by the controls that are
 /// set there: first Source Validation, of each request, then Translation Blocking, of memory reads
-/// and writes alone, which is this project's own. Completions pass. Malformed packets pass too: they
+/// and writes and FetchAdds alone, which is this project's own. Completions pass. Malformed packets pass too: they
 /// are discarded before this test.
 pub fn vet(port: &DownstreamPort, header: &Header) -> Verdict
     ensures { result ≡ verdict_of port.now header.now }

@@ -8,10 +8,10 @@ use Rattle.tlp_view.specs.Bytes.{packet_of}
 use Rattle.tlp_view.specs.Runs.{runs}
 use Rattle.domain_parts.proofs.FlightLemmas.{clear_push, item_push}
 use Rattle.request_handling.specs.declared.handling.Effect.{Effect}
-use Rattle.request_handling.specs.declared.handling.Effect.TheVariants.{Leave, Block, Store, Access}
+use Rattle.request_handling.specs.declared.handling.Effect.TheVariants.{Leave, Block, Store, Add, Access}
 use Rattle.function.specs.declared.tags.OpenTag.{OpenTag}
 use Rattle.domain_parts.specs.Closings.{closed}
-use Rattle.domain_parts.specs.Ends.{EffectFits, blocked, done, replied, with_access, with_stored}
+use Rattle.domain_parts.specs.Ends.{EffectFits, blocked, done, replied, with_access, with_added, with_stored}
 use Rattle.request_handling.specs.Emissions.{Emission}
 use Rattle.domain_parts.specs.State.{Alone, Delivery, item_at, without}
 use Rattle.domain_parts.specs.Tags.{is_open, same_origin}
@@ -30,6 +30,7 @@ done_replied s None bytes d = refl
 done_replied s (Some x) bytes Leave = refl
 done_replied s (Some x) bytes Block = refl
 done_replied s (Some x) bytes (Store k first) = refl
+done_replied s (Some x) bytes (Add k first) = refl
 done_replied s (Some x) bytes (Access g) = refl
 
 pub item_replied : (s : Alone) (o : Option Emission) (n : ℕ) → IsSome (item_at s.flight n) → item_at (replied s o).flight n ≡ item_at s.flight n
@@ -40,10 +41,12 @@ ended_answered : (s : Alone) (o : Option Emission) (n : ℕ) (bytes : List ℕ) 
 ended_answered s None n bytes Leave h = refl
 ended_answered s None n bytes Block h = refl
 ended_answered s None n bytes (Store k first) h = refl
+ended_answered s None n bytes (Add k first) h = refl
 ended_answered s None n bytes (Access g) h = refl
 ended_answered s (Some x) n bytes Leave h = ap (with_flight s) (clear_push s.flight (Some x) n h)
 ended_answered s (Some x) n bytes Block h = ap (with_flight (blocked s)) (clear_push s.flight (Some x) n h)
 ended_answered s (Some x) n bytes (Store k first) h = ap (with_flight (with_stored s k first (runs (packet_of bytes)))) (clear_push s.flight (Some x) n h)
+ended_answered s (Some x) n bytes (Add k first) h = ap (with_flight (with_added s k first (packet_of bytes).payload)) (clear_push s.flight (Some x) n h)
 ended_answered s (Some x) n bytes (Access g) h = ap (with_flight (with_access s g (packet_of bytes))) (clear_push s.flight (Some x) n h)
 
 pub concludes : (s t u : Alone) (o : Option Emission) (n : ℕ) (e : Emission) (d : Effect) → IsSome (item_at s.flight n) → item_at s.flight n ≡ Some e → t ≡ replied s o

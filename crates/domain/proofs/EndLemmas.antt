@@ -16,14 +16,15 @@ use Rattle.tlp_view.specs.Bytes.{packet_of}
 use Rattle.tlp_view.specs.Malformed.{malformed}
 use Rattle.tlp_view.specs.Packet.{Packet, dw_count}
 use Rattle.tlp_view.specs.Runs.{is_write}
-use Rattle.domain_parts.proofs.PageFits.{write_in_page}
+use Rattle.domain_parts.proofs.PageFits.{operand_in_page, write_in_page}
 use Rattle.request_handling.specs.declared.handling.Effect.TheVariants.{Leave, Access}
 use Rattle.request_handling.specs.declared.handling.Handling.{Handling}
 use Rattle.domain.specs.declared.entry.Entry.TheVariants.{Carry, Deliver, Refuse}
 use Rattle.request_handling.specs.declared.fate.Fate.{Fate}
 use Rattle.request_handling.specs.declared.fate.Fate.TheVariants.{Vanish, Refused, ToHost}
+use Rattle.tlp_view.specs.Kinds.{is_fetch_add}
 use Rattle.request_handling.specs.Answers.{address_of, bar_of, function_answer, host_refusal}
-use Rattle.request_handling.specs.Carries.{access_of, carriage_by, carriage_end, carriage_of, forward, is_carried, port_id, read_from, refusal_by, refusal_end, refusal_of, serve, serve_read, write_to}
+use Rattle.request_handling.specs.Carries.{access_of, add_if, carriage_by, carriage_end, carriage_of, forward, frame_for, is_carried, port_id, read_from, refusal_by, refusal_end, refusal_of, serve, serve_add, serve_read, write_to}
 use Rattle.domain.specs.Domains.{DomainView, EndsBy}
 use Rattle.domain_parts.specs.Ends.{EffectFits, conclude}
 use Rattle.request_handling.specs.Fates.{fate, fate_below, fate_unless}
@@ -95,11 +96,18 @@ serve_read_fits share frames x t a e =
     either_fits (nat_lt 64 (dw_count t.length)) (Some (record { effect = Leave; reply = Some (host_refusal share t) })) (read_from share frames t target) x a
     (λ long is. subst (Fits x) (some_is _ a is) tt) (read_fits share frames x t target a) e
 
+add_fits : (share : Share) (frames : List (ℕ × List ℕ)) (x : Emission) (to_read to_write : Option ℕ) → malformed x.bytes ≡ None → is_fetch_add (packet_of x.bytes).kind ≡ true → Fits x (add_if share frames (packet_of x.bytes) to_read to_write)
+add_fits share frames x None to_write good f = tt
+add_fits share frames x (Some k) None good f = tt
+add_fits share frames x (Some k) (Some m) good f = let o = operand_in_page x.bytes good f in (good, o.0, o.1)
+
 pub serve_fits : (share : Share) (frames : List (ℕ × List ℕ)) (x : Emission) (a : Handling) → malformed x.bytes ≡ None → serve share frames (packet_of x.bytes) ≡ Some a → EffectFits x a.effect
 serve_fits share frames x a good e =
     let t = packet_of x.bytes in
     let target = target_of share.maps t.requester (address_of t / 4096) Write in
-    either_fits (is_write t.kind) (write_to share t target) (serve_read share frames t) x a (write_fits share x target a good) (serve_read_fits share frames x t a) e
+    either_fits (is_write t.kind) (write_to share t target) (cond (is_fetch_add t.kind) (Some (serve_add share frames t)) (serve_read share frames t)) x a (write_fits share x target a good)
+    (either_fits (is_fetch_add t.kind) (Some (serve_add share frames t)) (serve_read share frames t) x a
+    (λ f is. subst (Fits x) (some_is _ a is) (add_fits share frames x (frame_for share t Read) (frame_for share t Write) good f)) (serve_read_fits share frames x t a)) e
 
 carriage_by_fits : (share : Share) (frames : List (ℕ × List ℕ)) (x : Emission) (g : Fate) (a : Handling) → (g ≡ ToHost → malformed x.bytes ≡ None) → carriage_by share frames x.bytes g ≡ Some a → Fits x a
 carriage_by_fits share frames x Vanish a good e = absurd cc

@@ -7,7 +7,7 @@ use Rattle.fab_types.specs.declared.place.Place.{Place}
 use Rattle.platform.specs.Share.{Share}
 use Rattle.domain.specs.declared.deliver.Arrival.{Arrival}
 use Rattle.request_handling.specs.declared.handling.Effect.{Effect}
-use Rattle.request_handling.specs.declared.handling.Effect.TheVariants.{Leave, Block, Store, Access}
+use Rattle.request_handling.specs.declared.handling.Effect.TheVariants.{Leave, Block, Store, Add, Access}
 use Rattle.request_handling.specs.declared.handling.Handling.{Handling}
 use Rattle.domain.specs.declared.entry.Entry.TheVariants.{Refuse, Carry, Deliver, Alien}
 use Rattle.domain.specs.declared.receive.Reception.{Reception}
@@ -36,6 +36,7 @@ done_flight : (s : Alone) (b : List ℕ) (d : Effect) → (done s b d).flight �
 done_flight s b Leave = refl
 done_flight s b Block = refl
 done_flight s b (Store k first) = refl
+done_flight s b (Add k first) = refl
 done_flight s b (Access g) = refl
 
 pub replied_flight : (s : Alone) (o : Option Emission) → (replied s o).flight ≡ joined s.flight o

@@ -1,5 +1,5 @@
--- A well-formed memory write stays in its page, and its runs in its payload.
-use Rattle.std.proofs.Common.{◌≡◌, ℕ, ◌+◌, ◌*◌, ◌/◌, ◌%◌, ◌≤◌, Bool, true, false, cond, ◌||◌, not, ◌==◌, List, [], ◌∷◌, length, drop, Option, Some, None, refl, ap, ◌∙◌, subst, arith, length-drop}
+-- A well-formed memory write or FetchAdd stays in its page, and the runs of a write in its payload.
+use Rattle.std.proofs.Common.{◌≡◌, ℕ, ◌+◌, ◌*◌, ◌/◌, ◌%◌, ◌≤◌, Bool, true, false, cond, ◌||◌, not, ◌==◌, List, [], ◌∷◌, length, drop, Option, Some, None, IfSome, zero, suc, refl, ap, ◌∙◌, subst, arith, length-drop}
 use Rattle.std.specs.Prelude.{unwrap_or}
 use Rattle.std.specs.List.{AllByRecursion}
 use Rattle.std.proofs.lemmas.Bool.{ltb-false, eqb-true}
@@ -9,11 +9,14 @@ use Rattle.tlp_view.specs.declared.enables.Enables.{Enables}
 use Rattle.tlp_view.specs.declared.kind.Kind.{Kind}
 use Rattle.tlp_view.specs.declared.kind.Kind.TheVariants.{MWr}
 use Rattle.tlp_view.specs.Packet.{Packet, dw_count, address_in, enables_in}
-use Rattle.tlp_view.specs.Kinds.{kind_at}
+use Rattle.tlp_view.specs.Kinds.{is_fetch_add, kind_at}
 use Rattle.tlp_view.specs.Bytes.{fmt_at, type_at, header_len, length_at, address_at, packet_of, packet_of_kind}
 use Rattle.tlp_view.specs.Malformed.{is_short, has_bad_size, crosses, has_bad_field, has_bad_common, malformed, malformed_of, malformed_of_kind}
 use Rattle.tlp_view.specs.Runs.{is_enabled, joined, runs_from, runs_with, is_write, runs}
-use Rattle.tlp_view.specs.View.{IsView}
+use Rattle.tlp_view.specs.View.{IsSound, IsView}
+use Rattle.host_memory.specs.Additions.{is_operand}
+use Rattle.tlp_view.proofs.Operands.{operand_size}
+use Rattle.tlp_view.proofs.Sound.{well_formed_sound}
 use Rattle.tlp_view.proofs.WellFormed.{view_from, packet-kind}
 
 -- a test that found no cause
@@ -68,6 +71,30 @@ pub write_in_page : (bytes : List ℕ) → malformed bytes ≡ None → is_write
     → unwrap_or (address_in (packet_of bytes).body) 0 % 4096 + length (packet_of bytes).payload ≤ 4096
 unfolding malformed
 write_in_page bytes e w = by_length bytes (is_short bytes) refl e w
+
+-- ---- the operand of a FetchAdd
+
+-- one DW or two are an operand
+operand_bytes : (size count : ℕ) → size ≡ 4 * count → 1 ≤ count → count ≤ 2 → is_operand size ≡ true
+operand_bytes size zero is some few = absurd (omega (arith, some))
+operand_bytes size (suc zero) is some few = ap is_operand is
+operand_bytes size (suc (suc zero)) is some few = ap is_operand is
+operand_bytes size (suc (suc (suc n))) is some few = absurd (omega (arith, few))
+
+-- what has no address counts as one at 0
+ends_within : (o : Option ℕ) (n : ℕ) → n ≤ 2 → IfSome o (λ a. a % 4096 + 4 * n ≤ 4096) → unwrap_or o 0 % 4096 + 4 * n ≤ 4096
+ends_within None n small h = omega (arith, small)
+ends_within (Some a) n small h = h
+
+operand_of : (t : Packet) → IsSound t → is_fetch_add t.kind ≡ true → (is_operand (length t.payload) ≡ true) × (unwrap_or (address_in t.body) 0 % 4096 + length t.payload ≤ 4096)
+operand_of t sound f =
+    let size = operand_size t sound f in
+    (operand_bytes (length t.payload) (dw_count t.length) size.0 size.1 size.2, omega (arith, size.0, ends_within (address_in t.body) (dw_count t.length) size.2 sound.within))
+
+-- a FetchAdd's operand has 4 bytes or 8, and ends within the page of its address
+pub operand_in_page : (bytes : List ℕ) → malformed bytes ≡ None → is_fetch_add (packet_of bytes).kind ≡ true
+    → (is_operand (length (packet_of bytes).payload) ≡ true) × (unwrap_or (address_in (packet_of bytes).body) 0 % 4096 + length (packet_of bytes).payload ≤ 4096)
+operand_in_page bytes good f = operand_of (packet_of bytes) (well_formed_sound bytes good) f
 
 -- ---- runs
 

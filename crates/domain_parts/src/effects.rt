@@ -51,6 +51,11 @@ impl Contents {
                     access(&mut self.registers, function, &view);
                 }
             }
+            Effect::Add(frame, first) => {
+                if let Ok(view) = TlpView::read(bytes) {
+                    self.memory.fetch_add(frame, first, view.payload());
+                }
+            }
         }
     }
 }

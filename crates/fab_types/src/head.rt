@@ -39,7 +39,7 @@ pub enum Parties {
 pub enum Header {
     /// Of no well-formed packet.
     Malformed,
-    /// Of a memory read or write, with its address in bytes.
+    /// Of a memory read or write or a FetchAdd, with its address in bytes.
     Memory {
         requester: Bdf,
         address_type: AddressType,

@@ -1,6 +1,6 @@
 //! A function in a thread of its own.
 
-ghost use Rattle.std.specs.Prelude.{◌≡◌};
+ghost use Rattle.std.specs.Prelude.{◌≡◌, []};
 ghost use Rattle.std.specs.Arc.{arc_value};
 ghost use Rattle.wiring.specs.Wired.{tags_of};
 
@@ -24,7 +24,7 @@ const ROUNDS: usize = 16;
 
 /// A function with all that is its own: its outbox, its ends of its injector's rings, its side of its link, its way to the
 /// domains, and the packets that nobody had a case for. The ends of links' rings that it has are lent to each call. A contract
-/// sees what no turn changes, a `FunctionWorkView`.
+/// sees a `FunctionWorkView`: what no turn changes, and all that is its own.
 #[derive(Drop)]
 pub struct FunctionWork {
     function: Bdf,
@@ -56,7 +56,11 @@ impl FunctionWork {
         side: LinkSide,
         locks: Arc<Locks, Global>,
     ) -> FunctionWork
-        ensures { result ≡ record { function = function; domain = domain; locks = arc_value locks } }
+        ensures kept { result.kept ≡ record { function = function; domain = domain; locks = arc_value locks } }
+        ensures outbox { result.parts.outbox ≡ outbox }
+        ensures ends { (result.parts.begins ≡ ends.begins) × (result.parts.records ≡ ends.records) }
+        ensures side { result.parts.side ≡ side }
+        ensures strays { result.parts.strays.items ≡ [] }
     {
         FunctionWork {
             function,
@@ -71,7 +75,7 @@ impl FunctionWork {
 
     /// The function takes the eligible packet of a class. Did it leave its queue?
     fn arrive<R: Wait>(&mut self, rt: &R, class: Class) -> bool
-        ensures { self.new ≡ self.old }
+        ensures { self.new.kept ≡ self.old.kept }
     {
         let ending = arrive(
             rt,
@@ -88,7 +92,7 @@ impl FunctionWork {
     }
 
     fn arrive_each<R: Wait>(&mut self, rt: &R) -> bool
-        ensures { self.new ≡ self.old }
+        ensures { self.new.kept ≡ self.old.kept }
     {
         let posted = self.arrive(rt, Class::Posted);
         let non_posted = self.arrive(rt, Class::NonPosted);
@@ -98,7 +102,7 @@ impl FunctionWork {
 
     /// Its domain has the next begin of its injector, if there is one. Did one leave the ring for good?
     fn serve<R: Wait>(&mut self, rt: &R) -> bool
-        ensures { self.new ≡ self.old }
+        ensures { self.new.kept ≡ self.old.kept }
     {
         let serving = serve_begin(
             rt,
@@ -118,7 +122,7 @@ impl FunctionWork {
         links: &mut Ends<Frame>,
         credits: &mut Ends<Limits>,
     ) -> bool
-        ensures same { self.new ≡ self.old }
+        ensures kept { self.new.kept ≡ self.old.kept }
         ensures links { tags_of links.new ≡ tags_of links.old }
         ensures credits { tags_of credits.new ≡ tags_of credits.old }
     {
@@ -135,7 +139,7 @@ impl FunctionWork {
 
     /// One turn of the worker: round after round while anything moves, at most 16.
     pub fn turn<R: Wait>(&mut self, rt: &R, links: &mut Ends<Frame>, credits: &mut Ends<Limits>)
-        ensures same { self.new ≡ self.old }
+        ensures kept { self.new.kept ≡ self.old.kept }
         ensures links { tags_of links.new ≡ tags_of links.old }
         ensures credits { tags_of credits.new ≡ tags_of credits.old }
     {
@@ -148,7 +152,7 @@ impl FunctionWork {
 
     /// All that is its own, for whoever stops the fabric. Its way to the domains is let go.
     pub fn into_parts(self) -> FunctionParts
-        ensures { result.function ≡ self.function }
+        ensures { result ≡ self.parts }
     {
         let FunctionWork {
             function,

@@ -23,7 +23,7 @@ use Rattle.platform.specs.declared.parts.Switch.{Switch}
 use Rattle.platform.specs.Owners.{holds_address, holds_bus}
 use Rattle.platform.specs.Tree.{port_at, id_below}
 use Rattle.tlp_view.specs.Packet.{Packet}
-use Rattle.tlp_view.specs.Kinds.{is_completion, is_memory, class_of_kind}
+use Rattle.tlp_view.specs.Kinds.{is_completion, has_address, class_of_kind}
 use Rattle.tlp_view.specs.Bytes.{packet_of}
 use Rattle.tlp_view.specs.Malformed.{malformed}
 use Rattle.tlp_view.specs.Costs.{cost_of}
@@ -113,9 +113,9 @@ agrees_other tree config line function cost r x class first =
 
 agrees_packet : RoutesUp → (tree : Routes) (config : Config) (line : DownstreamPort) (function : ℕ) (cost : Cost) (t : Packet) → IsGuardedFirst tree.ports config line function → is_completion t.kind ≡ false
     → Agrees tree config line function cost (packet_header (Upward function) t) (verdict_of line (packet_header (Upward function) t)) (fates.packet_fate line t)
-agrees_packet up tree config line function cost t first request = go (is_memory t.kind) refl
+agrees_packet up tree config line function cost t first request = go (has_address t.kind) refl
   where
-    go : (mem : Bool) → is_memory t.kind ≡ mem → Agrees tree config line function cost (packet_header (Upward function) t) (verdict_of line (packet_header (Upward function) t)) (fates.packet_fate line t)
+    go : (mem : Bool) → has_address t.kind ≡ mem → Agrees tree config line function cost (packet_header (Upward function) t) (verdict_of line (packet_header (Upward function) t)) (fates.packet_fate line t)
     go true e = rw (request, e) (agrees_memory up tree config line function cost t.requester t.address_type _ (class_of_kind t.kind) first)
     go false e = rw (request, e) (agrees_other tree config line function cost t.requester _ (class_of_kind t.kind) first)
 

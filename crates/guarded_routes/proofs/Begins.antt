@@ -32,7 +32,7 @@ use Rattle.layout.specs.Views.{share_of_domain}
 use Rattle.bridge.specs.declared.target.Target.TheVariants.{Address}
 use Rattle.bridge.specs.Routes.{target_of}
 use Rattle.tlp_view.specs.Bytes.{packet_of}
-use Rattle.tlp_view.specs.Kinds.{is_completion, is_memory}
+use Rattle.tlp_view.specs.Kinds.{is_completion, has_address}
 use Rattle.tlp_view.specs.Malformed.{malformed}
 use Rattle.tlp_view.specs.Packet.{Packet}
 use Rattle.tlp_view.specs.Requests.{packet_bytes}
@@ -63,9 +63,9 @@ use Rattle.guarded_routes.proofs.Spelled.{no_reply, request_read}
 
 -- a packet of a kind that is no completion has no completion's header
 packet_no_reply : (p : Parties) (t : Packet) → is_completion t.kind ≡ false → is_reply (packet_header p t) ≡ false
-packet_no_reply p t other = go (is_memory t.kind) refl
+packet_no_reply p t other = go (has_address t.kind) refl
   where
-    go : (m : Bool) → is_memory t.kind ≡ m → is_reply (packet_header p t) ≡ false
+    go : (m : Bool) → has_address t.kind ≡ m → is_reply (packet_header p t) ≡ false
     go true e = rw (other, e) refl
     go false e = rw (other, e) refl
 

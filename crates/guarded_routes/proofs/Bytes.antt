@@ -11,7 +11,7 @@ use Rattle.fab_types.specs.declared.head.Parties.{Parties}
 use Rattle.platform.specs.declared.parts.DownstreamPort.{DownstreamPort}
 use Rattle.platform.specs.Owners.{first_port, holds_bus}
 use Rattle.tlp_view.specs.Bytes.{packet_of}
-use Rattle.tlp_view.specs.Kinds.{is_completion, is_memory}
+use Rattle.tlp_view.specs.Kinds.{has_address, is_completion}
 use Rattle.tlp_view.specs.Malformed.{malformed}
 use Rattle.tlp_view.specs.Packet.{Packet, address_in}
 use Rattle.request_handling.specs.declared.fate.Fate.TheVariants.{ToHost}
@@ -19,11 +19,11 @@ use Rattle.request_handling.specs.Fates as fates
 use Rattle.request_handling.specs.Heads.{header_unless, target_for}
 use Rattle.guarded_routes.proofs.Ports.{Set, and_false}
 
--- the bytes of a memory request
+-- the bytes of a memory request or a FetchAdd
 pub record MemoryBytes (bytes : List ℕ) (requester : ℕ) (address_type : AddressType) (address : ℕ) : Type 0 where
   pub well : malformed bytes ≡ None
   pub request : is_completion (packet_of bytes).kind ≡ false
-  pub memory : is_memory (packet_of bytes).kind ≡ true
+  pub addressed : has_address (packet_of bytes).kind ≡ true
   pub requester_is : (packet_of bytes).requester ≡ requester
   pub type_is : (packet_of bytes).address_type ≡ address_type
   pub address_is : unwrap_or (address_in (packet_of bytes).body) 0 ≡ address
@@ -31,17 +31,17 @@ pub record MemoryBytes (bytes : List ℕ) (requester : ℕ) (address_type : Addr
 pub memory_bytes : (parties : Parties) (bytes : List ℕ) (requester : ℕ) (address_type : AddressType) (address : ℕ) → header_unless (malformed bytes) parties bytes ≡ header.Memory requester address_type address → MemoryBytes bytes requester address_type address
 memory_bytes parties bytes requester address_type address e = go (malformed bytes) refl e
   where
-    kinds : (c m : Bool) → malformed bytes ≡ None → is_completion (packet_of bytes).kind ≡ c → is_memory (packet_of bytes).kind ≡ m
+    kinds : (c m : Bool) → malformed bytes ≡ None → is_completion (packet_of bytes).kind ≡ c → has_address (packet_of bytes).kind ≡ m
         → cond c (header.Completion (target_for parties (packet_of bytes).requester) (packet_of bytes).attributes.relaxed_ordering)
         (cond m (header.Memory (packet_of bytes).requester (packet_of bytes).address_type (unwrap_or (address_in (packet_of bytes).body) 0)) (header.OtherRequest (packet_of bytes).requester)) ≡ header.Memory requester address_type address
         → MemoryBytes bytes requester address_type address
     kinds true m well i j e = absurd cc
     kinds false false well i j e = absurd cc
-    kinds false true well i j e = record { well = well; request = i; memory = j; requester_is = cc; type_is = cc; address_is = cc }
+    kinds false true well i j e = record { well = well; request = i; addressed = j; requester_is = cc; type_is = cc; address_is = cc }
 
     go : (m : Option Malformed) → malformed bytes ≡ m → header_unless m parties bytes ≡ header.Memory requester address_type address → MemoryBytes bytes requester address_type address
     go (Some cause) i e = absurd cc
-    go None i e = kinds (is_completion (packet_of bytes).kind) (is_memory (packet_of bytes).kind) i refl refl e
+    go None i e = kinds (is_completion (packet_of bytes).kind) (has_address (packet_of bytes).kind) i refl refl e
 
 -- what a guarded first port lets pass has the host as its fate
 pub goes_to_host : (ports : List DownstreamPort) (f : ℕ) (line : DownstreamPort) (bytes : List ℕ) (requester address : ℕ) → first_port ports f ≡ Some line → Set line → holds_bus line (bus_of requester) ≡ true → MemoryBytes bytes requester Untranslated address → fates.fate ports f bytes ≡ ToHost
@@ -49,7 +49,7 @@ goes_to_host ports f line bytes requester address first set held b =
     let held' : holds_bus line (bus_of (packet_of bytes).requester) ≡ true = ap (λ (r : ℕ). holds_bus line (bus_of r)) b.requester_is ∙ held in
     ap (λ (o : Option DownstreamPort). fates.fate_below o bytes) first
     ∙ (ap (λ (m : Option Malformed). fates.fate_unless m line bytes) b.well
-    ∙ packet_is line (packet_of bytes) set held' b.type_is b.memory)
+    ∙ packet_is line (packet_of bytes) set held' b.type_is b.addressed)
   where
-    packet_is : (line : DownstreamPort) (t : Packet) → Set line → holds_bus line (bus_of t.requester) ≡ true → t.address_type ≡ Untranslated → is_memory t.kind ≡ true → fates.packet_fate line t ≡ ToHost
-    packet_is line t set held type memory = rw (held, type, memory, set.upstream, and_false (validates_source line.controls), and_false (blocks_translated line.controls && true)) refl
+    packet_is : (line : DownstreamPort) (t : Packet) → Set line → holds_bus line (bus_of t.requester) ≡ true → t.address_type ≡ Untranslated → has_address t.kind ≡ true → fates.packet_fate line t ≡ ToHost
+    packet_is line t set held type addressed = rw (held, type, addressed, set.upstream, and_false (validates_source line.controls), and_false (blocks_translated line.controls && true)) refl

@@ -26,8 +26,9 @@ use Rattle.tlp_view.specs.Packet.{Packet, dw_count}
 use Rattle.tlp_view.specs.Runs.{is_write}
 use Rattle.domain.specs.declared.entry.Entry.TheVariants.{Carry, Deliver}
 use Rattle.request_handling.specs.declared.fate.Fate.TheVariants.{ToHost}
+use Rattle.tlp_view.specs.Kinds.{is_fetch_add}
 use Rattle.request_handling.specs.Answers.{address_of, bar_of}
-use Rattle.request_handling.specs.Carries.{carriage_by, carriage_of, forward, is_carried, is_owner, read_from, refused_by_host, serve, serve_read, write_to}
+use Rattle.request_handling.specs.Carries.{carriage_by, carriage_of, forward, is_carried, is_owner, read_from, refused_by_host, serve, serve_add, serve_read, write_to}
 use Rattle.domain.specs.Deliveries.{arrival_of}
 use Rattle.domain_parts.specs.Ends.{conclude}
 use Rattle.request_handling.specs.Fates as fates
@@ -119,9 +120,13 @@ module _ (platform : Platform) (g : IsGuarded platform) where
       read true = refl
       read false = reads d frames t _ (λ h e. peer_of platform g.laws d t.requester (address_of t / 4096) Read h e)
 
-      go : (b : Bool) → IsSome (cond b (write_to (share_of_domain platform d) t (target_of (share_of_domain platform d).maps t.requester (address_of t / 4096) Write)) (serve_read (share_of_domain platform d) frames t))
+      other : (b : Bool) → IsSome (cond b (Some (serve_add (share_of_domain platform d) frames t)) (serve_read (share_of_domain platform d) frames t))
+      other true = refl
+      other false = read (nat_lt 64 (dw_count t.length))
+
+      go : (b : Bool) → IsSome (cond b (write_to (share_of_domain platform d) t (target_of (share_of_domain platform d).maps t.requester (address_of t / 4096) Write)) (cond (is_fetch_add t.kind) (Some (serve_add (share_of_domain platform d) frames t)) (serve_read (share_of_domain platform d) frames t)))
       go true = writes d t _ (λ h e. peer_of platform g.laws d t.requester (address_of t / 4096) Write h e)
-      go false = read (nat_lt 64 (dw_count t.length))
+      go false = other (is_fetch_add t.kind)
 
   untranslated_is : (at : AddressType) → at ≡ Untranslated → fates.is_untranslated at ≡ true
   untranslated_is at e = rw e refl

@@ -27,14 +27,15 @@ use Rattle.platform.specs.Share.{Share}
 use Rattle.layout.specs.Tables.{target_of as mapped_to}
 use Rattle.layout.specs.Views.{share_of_domain}
 use Rattle.tlp_view.specs.Bytes.{address_at, enables_at, packet_of}
-use Rattle.tlp_view.specs.Completions.{completion_bytes, read_completion, refusal}
+use Rattle.tlp_view.specs.Completions.{atomic_completion, completion_bytes, read_completion, refusal}
+use Rattle.tlp_view.specs.Kinds.{has_address, is_fetch_add, is_memory}
 use Rattle.tlp_view.specs.Malformed.{malformed}
 use Rattle.tlp_view.specs.Packet.{Body, Memory, Packet, dw_count}
 use Rattle.tlp_view.specs.Requests.{is_high, moved, moved_body, packet_bytes}
 use Rattle.tlp_view.specs.Runs.{is_write}
 use Rattle.tlp_view.proofs.Again.{body_memory}
-use Rattle.request_handling.specs.Answers.{address_of, answered_by, bar_of, forwarded, function_answer, host_data, host_refusal, page_at, port_answer, shown}
-use Rattle.request_handling.specs.Carries.{access_of, carriage_of, forward, port_id, read_from, refusal_by, refusal_of, refused_by_host, serve, serve_read, write_to}
+use Rattle.request_handling.specs.Answers.{address_of, answered_by, bar_of, forwarded, function_answer, host_data, host_operand, host_refusal, page_at, port_answer, shown}
+use Rattle.request_handling.specs.Carries.{access_of, add_if, carriage_of, forward, frame_for, port_id, read_from, refusal_by, refusal_of, refused_by_host, serve, serve_add, serve_read, write_to}
 use Rattle.domain_parts.specs.Ends.{conclude}
 use Rattle.request_handling.specs.Heads.{descriptor_of, header_unless}
 use Rattle.domain.specs.Machine.{carry, change, refuse}
@@ -60,7 +61,8 @@ use Rattle.guarded_routes.proofs.Passing.{below, first_port_of, holds_first, rep
 use Rattle.guarded_routes.proofs.Reaching.{reach_is}
 use Rattle.guarded_routes.proofs.Taking.{home_at, meant_at}
 use Rattle.domain.proofs.CompletionsRead.{refusal_read}
-use Rattle.guarded_routes.proofs.Spelled.{completion_read, request_read}
+use Rattle.guarded_routes.proofs.Spelled.{atomic_read, completion_read, request_read}
+use Rattle.request_handling.proofs.WellMadeLemmas.{left_memory, write_memory}
 
 -- what an ending makes it replies with
 pub replied_with : {A : Type 0} (f : A → Change) (r : A → Option Emission) (o : Option A) (c : Change) (e : Emission) → ((a : A) → (f a).emission ≡ r a) → option_map f o ≡ Some c → c.emission ≡ Some e → option_and_then r o ≡ Some e
@@ -77,36 +79,46 @@ then_map f r (Some a) = refl
 pub data Reply (platform : Platform) (d : ℕ) (t : Packet) : Emission → Type 0 where
   Refuses : Reply platform d t (host_refusal (share_of_domain platform d) t)
   Shows : (bytes : List ℕ) → Reply platform d t (host_data (share_of_domain platform d) t bytes)
-  Forwards : (h bar : ℕ) → IsFunctionOf platform d h → bar_of platform.functions h ≡ Some bar → Reply platform d t (forwarded h bar t)
+  Adds : (bytes : List ℕ) → Reply platform d t (host_operand (share_of_domain platform d) t bytes)
+  Forwards : (h bar : ℕ) → is_memory t.kind ≡ true → IsFunctionOf platform d h → bar_of platform.functions h ≡ Some bar → Reply platform d t (forwarded h bar t)
 
 module _ (platform : Platform) (g : IsGuarded platform) (d : ℕ) (t : Packet) where
   replies_to : (e e' : Emission) → some e ≡ some e' → Reply platform d t e → Reply platform d t e'
   replies_to e e' same r = subst (Reply platform d t) (some_is e e' same) r
 
-  forward_reply : (h : ℕ) (bar : Option ℕ) (e : Emission) → IsFunctionOf platform d h → bar_of platform.functions h ≡ bar → option_and_then (λ a. a.reply) (forward h t bar) ≡ Some e → Reply platform d t e
-  forward_reply h None e own found is = absurd cc
-  forward_reply h (Some bar) e own found is = replies_to (forwarded h bar t) e is (Reply.Forwards h bar own found)
+  forward_reply : (h : ℕ) (bar : Option ℕ) (e : Emission) → is_memory t.kind ≡ true → IsFunctionOf platform d h → bar_of platform.functions h ≡ bar → option_and_then (λ a. a.reply) (forward h t bar) ≡ Some e → Reply platform d t e
+  forward_reply h None e memory own found is = absurd cc
+  forward_reply h (Some bar) e memory own found is = replies_to (forwarded h bar t) e is (Reply.Forwards h bar memory own found)
 
-  write_reply : (o : Option MapTarget) (e : Emission) → ((h : ℕ) → o ≡ Some (Peer h) → IsFunctionOf platform d h) → option_and_then (λ a. a.reply) (write_to (share_of_domain platform d) t o) ≡ Some e → Reply platform d t e
-  write_reply None e peers is = absurd cc
-  write_reply (Some (Frame k)) e peers is = absurd cc
-  write_reply (Some (Peer h)) e peers is = forward_reply h (bar_of platform.functions h) e (peers h refl) refl is
+  write_reply : (o : Option MapTarget) (e : Emission) → is_memory t.kind ≡ true → ((h : ℕ) → o ≡ Some (Peer h) → IsFunctionOf platform d h) → option_and_then (λ a. a.reply) (write_to (share_of_domain platform d) t o) ≡ Some e → Reply platform d t e
+  write_reply None e memory peers is = absurd cc
+  write_reply (Some (Frame k)) e memory peers is = absurd cc
+  write_reply (Some (Peer h)) e memory peers is = forward_reply h (bar_of platform.functions h) e memory (peers h refl) refl is
 
-  read_reply : (frames : List (ℕ × List ℕ)) (o : Option MapTarget) (e : Emission) → ((h : ℕ) → o ≡ Some (Peer h) → IsFunctionOf platform d h) → option_and_then (λ a. a.reply) (read_from (share_of_domain platform d) frames t o) ≡ Some e → Reply platform d t e
-  read_reply frames None e peers is = replies_to (host_refusal (share_of_domain platform d) t) e is Reply.Refuses
-  read_reply frames (Some (Frame k)) e peers is = replies_to (host_data (share_of_domain platform d) t (shown frames k t)) e is (Reply.Shows (shown frames k t))
-  read_reply frames (Some (Peer h)) e peers is = forward_reply h (bar_of platform.functions h) e (peers h refl) refl is
+  read_reply : (frames : List (ℕ × List ℕ)) (o : Option MapTarget) (e : Emission) → is_memory t.kind ≡ true → ((h : ℕ) → o ≡ Some (Peer h) → IsFunctionOf platform d h) → option_and_then (λ a. a.reply) (read_from (share_of_domain platform d) frames t o) ≡ Some e → Reply platform d t e
+  read_reply frames None e memory peers is = replies_to (host_refusal (share_of_domain platform d) t) e is Reply.Refuses
+  read_reply frames (Some (Frame k)) e memory peers is = replies_to (host_data (share_of_domain platform d) t (shown frames k t)) e is (Reply.Shows (shown frames k t))
+  read_reply frames (Some (Peer h)) e memory peers is = forward_reply h (bar_of platform.functions h) e memory (peers h refl) refl is
 
-  pub serve_reply : (frames : List (ℕ × List ℕ)) (e : Emission) → option_and_then (λ a. a.reply) (serve (share_of_domain platform d) frames t) ≡ Some e → Reply platform d t e
-  serve_reply frames e is = go (is_write t.kind) is
+  add_reply : (frames : List (ℕ × List ℕ)) (to_read to_write : Option ℕ) (e : Emission) → (add_if (share_of_domain platform d) frames t to_read to_write).reply ≡ Some e → Reply platform d t e
+  add_reply frames None to_write e is = replies_to (host_refusal (share_of_domain platform d) t) e is Reply.Refuses
+  add_reply frames (Some k) None e is = replies_to (host_refusal (share_of_domain platform d) t) e is Reply.Refuses
+  add_reply frames (Some k) (Some m) e is = replies_to (host_operand (share_of_domain platform d) t (shown frames m t)) e is (Reply.Adds (shown frames m t))
+
+  pub serve_reply : (frames : List (ℕ × List ℕ)) (e : Emission) → has_address t.kind ≡ true → option_and_then (λ a. a.reply) (serve (share_of_domain platform d) frames t) ≡ Some e → Reply platform d t e
+  serve_reply frames e addressed is = go (is_write t.kind) refl is
     where
-      read : (b : Bool) → option_and_then (λ a. a.reply) (cond b (Some (refused_by_host (share_of_domain platform d) t)) (read_from (share_of_domain platform d) frames t (mapped_to (share_of_domain platform d).maps t.requester (address_of t / 4096) Read))) ≡ Some e → Reply platform d t e
-      read true is = replies_to (host_refusal (share_of_domain platform d) t) e is Reply.Refuses
-      read false is = read_reply frames _ e (λ h e. peer_of platform g.laws d t.requester (address_of t / 4096) Read h e) is
+      read : (b : Bool) → is_memory t.kind ≡ true → option_and_then (λ a. a.reply) (cond b (Some (refused_by_host (share_of_domain platform d) t)) (read_from (share_of_domain platform d) frames t (mapped_to (share_of_domain platform d).maps t.requester (address_of t / 4096) Read))) ≡ Some e → Reply platform d t e
+      read true memory is = replies_to (host_refusal (share_of_domain platform d) t) e is Reply.Refuses
+      read false memory is = read_reply frames _ e memory (λ h e. peer_of platform g.laws d t.requester (address_of t / 4096) Read h e) is
 
-      go : (b : Bool) → option_and_then (λ a. a.reply) (cond b (write_to (share_of_domain platform d) t (mapped_to (share_of_domain platform d).maps t.requester (address_of t / 4096) Write)) (serve_read (share_of_domain platform d) frames t)) ≡ Some e → Reply platform d t e
-      go true is = write_reply _ e (λ h e. peer_of platform g.laws d t.requester (address_of t / 4096) Write h e) is
-      go false is = read (nat_lt 64 (dw_count t.length)) is
+      other : (b : Bool) → is_fetch_add t.kind ≡ b → option_and_then (λ a. a.reply) (cond b (Some (serve_add (share_of_domain platform d) frames t)) (serve_read (share_of_domain platform d) frames t)) ≡ Some e → Reply platform d t e
+      other true f is = add_reply frames _ _ e is
+      other false f is = read (nat_lt 64 (dw_count t.length)) (left_memory t.kind addressed f) is
+
+      go : (b : Bool) → is_write t.kind ≡ b → option_and_then (λ a. a.reply) (cond b (write_to (share_of_domain platform d) t (mapped_to (share_of_domain platform d).maps t.requester (address_of t / 4096) Write)) (cond (is_fetch_add t.kind) (Some (serve_add (share_of_domain platform d) frames t)) (serve_read (share_of_domain platform d) frames t))) ≡ Some e → Reply platform d t e
+      go true w is = write_reply _ e (write_memory t.kind w) (λ h e. peer_of platform g.laws d t.requester (address_of t / 4096) Write h e) is
+      go false w is = other (is_fetch_add t.kind) refl is
 
 -- a memory request at another address, by its fields
 moved_is : (t : Packet) (address : ℕ) (body : Body) → t.body ≡ body
@@ -147,15 +159,20 @@ module _ (platform : Platform) (g : IsGuarded platform) where
       let held' : has_id platform f t.requester ≡ true = ap (has_id platform f) b.requester_is ∙ held in
       let reached = reach_is platform g d f t.requester (Some (Function f)) own (Reaches.ByBus f own held') in
       host_answer d number f t (Some (Function f)) (completion_bytes (read_completion 0 t data_bytes)) own held' reached refl (completion_read (Answer by.Host (Some (Function f))) 0 t data_bytes well.0)
-  host_reply d number f bytes requester address e own held b (Reply.Forwards h bar other found) well =
+  host_reply d number f bytes requester address e own held b (Reply.Adds old) well =
+      let t = packet_of bytes in
+      let held' : has_id platform f t.requester ≡ true = ap (has_id platform f) b.requester_is ∙ held in
+      let reached = reach_is platform g d f t.requester (Some (Function f)) own (Reaches.ByBus f own held') in
+      host_answer d number f t (Some (Function f)) (completion_bytes (atomic_completion 0 t old)) own held' reached refl (atomic_read (Answer by.Host (Some (Function f))) 0 t old well.0)
+  host_reply d number f bytes requester address e own held b (Reply.Forwards h bar memory other found) well =
       let t = packet_of bytes in
       let offset = address_of t % 4096 in
       let address' = page_at bar + offset in
-      let body = body_memory t.kind bytes b.memory in
+      let body = body_memory t.kind bytes memory in
       let moved' = moved_is t address' (Memory (enables_at bytes) (address_at bytes)) body in
       let well' = ap malformed (sym moved') ∙ well.0 in
       let low = low_at platform g d h bar offset other found (omega arith) in
-      let read = request_read t.kind t.attributes t.address_type t.length t.requester t.tag (enables_at bytes) address' t.payload b.memory (Downward h) (is_high address') refl low well' in
+      let read = request_read t.kind t.attributes t.address_type t.length t.requester t.tag (enables_at bytes) address' t.payload memory (Downward h) (is_high address') refl low well' in
       let is : header_unless (malformed (packet_bytes (moved t address'))) (Downward h) (packet_bytes (moved t address')) ≡ header.Memory t.requester read.0 address' =
       ap (λ (bytes : List ℕ). header_unless (malformed bytes) (Downward h) bytes) moved' ∙ read.1 in
       let held' : has_id platform f t.requester ≡ true = ap (has_id platform f) b.requester_is ∙ held in
@@ -172,7 +189,7 @@ module _ (platform : Platform) (g : IsGuarded platform) where
       let made' : option_map (conclude state frame.number bytes) (serve share state.frames (packet_of bytes)) ≡ Some c =
       ap (option_map (conclude state frame.number bytes)) (sym (carriage platform g frame state r fl.emission fl.head)) ∙ (ap (carry share state frame.number) (sym fl.there) ∙ made) in
       let reply = replied_with (conclude state frame.number bytes) (λ a. a.reply) (serve share state.frames (packet_of bytes)) c e (λ a. refl) made' sent in
-      host_reply frame.domain number r.function bytes q.requester q.address e r.own q.held b (serve_reply platform g frame.domain (packet_of bytes) state.frames e reply) well
+      host_reply frame.domain number r.function bytes q.requester q.address e r.own q.held b (serve_reply platform g frame.domain (packet_of bytes) state.frames e b.addressed reply) well
 
   -- ---- at a function
 

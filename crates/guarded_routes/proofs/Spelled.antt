@@ -1,5 +1,5 @@
 -- The header of a packet that a domain makes, as it is read from the packet's bytes.
-use Rattle.std.proofs.Common.{◌≡◌, ℕ, ◌+◌, ◌*◌, ◌/◌, ◌%◌, ◌^◌, ◌<◌, Bool, true, false, cond, List, Option, Some, None, refl, sym, ap, ◌∙◌, arith, nat_lt}
+use Rattle.std.proofs.Common.{◌≡◌, ℕ, ◌+◌, ◌*◌, ◌/◌, ◌%◌, ◌^◌, ◌<◌, Bool, true, false, cond, List, length, Option, Some, None, refl, sym, ap, ◌∙◌, arith, nat_lt}
 use Rattle.std.specs.Option.{unwrap_or}
 use Rattle.std.proofs.lemmas.Bool.{cond-false, ltb-true, false≢true}
 use Rattle.std.proofs.lemmas.Nat.{from_be_bytes-to_be_bytes_4, from_be_bytes-to_be_bytes_8}
@@ -14,13 +14,13 @@ use Rattle.tlp_view.specs.declared.enables.Enables.{Enables}
 use Rattle.tlp_view.specs.declared.kind.Kind.{Kind}
 use Rattle.tlp_view.specs.declared.kind.Kind.TheVariants.{MRd, MWr, CplD}
 use Rattle.tlp_view.specs.Bytes.{address_at, packet_of, packet_of_kind, be_u16_at}
-use Rattle.tlp_view.specs.Completions.{completion_bytes, data_body, read_completion}
-use Rattle.tlp_view.specs.Kinds.{has_form, is_completion, is_memory}
+use Rattle.tlp_view.specs.Completions.{atomic_completion, completion_bytes, data_body, read_completion}
+use Rattle.tlp_view.specs.Kinds.{has_address, has_form, is_completion, is_memory}
 use Rattle.tlp_view.specs.Malformed.{malformed}
 use Rattle.tlp_view.specs.Packet.{Body, Memory, Completion, Packet, address_in, dw_count, enables_in}
 use Rattle.tlp_view.specs.Requests.{is_high, packet_bytes}
 use Rattle.tlp_view.proofs.Again.{address_narrow, address_wide, body_memory}
-use Rattle.tlp_view.proofs.KindFacts.{kind_again, memory_no_completion, wide_again}
+use Rattle.tlp_view.proofs.KindFacts.{kind_again, memory_addressed, memory_no_completion, wide_again}
 use Rattle.request_handling.specs.Heads.{header_unless, packet_header, target_for}
 use Rattle.domain.proofs.CompletionsRead.{read, reply_read, word_again}
 use Rattle.guarded_routes.specs.Sound.{is_reply}
@@ -30,7 +30,7 @@ form_memory MRd wide e = refl
 form_memory MWr wide e = refl
 form_memory _ wide e = absurd cc
 
-memory_header : (p : Parties) (q : Packet) → is_completion q.kind ≡ false → is_memory q.kind ≡ true → packet_header p q ≡ header.Memory q.requester q.address_type (unwrap_or (address_in q.body) 0)
+memory_header : (p : Parties) (q : Packet) → is_completion q.kind ≡ false → has_address q.kind ≡ true → packet_header p q ≡ header.Memory q.requester q.address_type (unwrap_or (address_in q.body) 0)
 memory_header p q other memory = rw (other, memory) refl
 
 -- ---- requests
@@ -64,7 +64,7 @@ module _ (kind : Kind) (attributes : Attributes) (at : AddressType) (length requ
       let q = packet_of_kind kind (bytes wide) in
       let body : unwrap_or (address_in q.body) 0 ≡ address = ap (λ (b : Body). unwrap_or (address_in b) 0) (body_memory kind (bytes wide) memory) ∙ found wide high fits in (
         q.address_type,
-        read p (bytes wide) q well (kind_is wide) ∙ (memory_header p q (memory_no_completion kind memory) memory
+        read p (bytes wide) q well (kind_is wide) ∙ (memory_header p q (memory_no_completion kind memory) (memory_addressed kind memory)
             ∙ (ap (λ (r : ℕ). header.Memory r q.address_type (unwrap_or (address_in q.body) 0)) (requester_is wide) ∙ ap (λ (a : ℕ). header.Memory requester q.address_type a) body)),
       )
 
@@ -77,7 +77,7 @@ module _ (kind : Kind) (attributes : Attributes) (at : AddressType) (length requ
 
       go : (m : Option Malformed) → malformed (bytes wide) ≡ m → is_reply (header_unless m p (bytes wide)) ≡ false
       go (Some cause) e = refl
-      go None e = ap is_reply (ap (packet_header p) (kind_is wide) ∙ memory_header p q (memory_no_completion kind memory) memory)
+      go None e = ap is_reply (ap (packet_header p) (kind_is wide) ∙ memory_header p q (memory_no_completion kind memory) (memory_addressed kind memory))
 
 -- ---- completions
 
@@ -108,3 +108,10 @@ completion_read p completer t bytes well =
     let made = read_completion completer t bytes in
     let d = data_is completer (dw_count t.length) (enables_in t.body) (address_in t.body) in
     data_read p made.attributes made.address_type made.length t.requester t.tag completer d.0 d.1 bytes made.body d.2 made refl well
+
+-- and so does that of a FetchAdd
+pub atomic_read : (p : Parties) (completer : ℕ) (t : Packet) (bytes : List ℕ) → malformed (completion_bytes (atomic_completion completer t bytes)) ≡ None
+    → (relaxed_ordering : Bool) × (header_unless (malformed (completion_bytes (atomic_completion completer t bytes))) p (completion_bytes (atomic_completion completer t bytes)) ≡ header.Completion (target_for p t.requester) relaxed_ordering)
+atomic_read p completer t bytes well =
+    let made = atomic_completion completer t bytes in
+    data_read p made.attributes made.address_type made.length t.requester t.tag completer (length bytes) 0 bytes made.body refl made refl well

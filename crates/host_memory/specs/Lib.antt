@@ -1,3 +1,4 @@
+pub mod Additions
 pub mod Pages
 pub mod Memory
 pub mod PageLends

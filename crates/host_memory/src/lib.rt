@@ -1,6 +1,7 @@
 //! The memory of a domain's host: its frames of 4,096 bytes.
 #![tactic(auto)]
 
+mod addition;
 mod memory;
 mod page;
 

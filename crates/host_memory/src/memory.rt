@@ -1,12 +1,14 @@
 //! All pages of a domain.
 
-ghost use Rattle.std.specs.Prelude.{◌≡◌, ◌≢◌, ℕ, ◌+◌, ◌<◌, ◌≤◌, IfOk, IfSome, IsSome, MatchOption};
+ghost use Rattle.std.specs.Prelude.{true, ◌≡◌, ◌≢◌, ℕ, ◌+◌, ◌<◌, ◌≤◌, IfOk, IfSome, IsSome, MatchOption};
 ghost use Rattle.std.specs.Prelude.{length, map, slice_index};
 ghost use Rattle.std.specs.List.Sorted.{IsStrictlyIncreasing};
 ghost use Rattle.std.specs.Option.{option_copied, option_copied_mut};
 ghost use Rattle.std.specs.Borrow.{sem};
+ghost use Rattle.host_memory.specs.Additions.{added, is_operand};
 ghost use Rattle.host_memory.specs.Pages.{zeroed, page_of, part_of, written};
 
+use crate::addition::{sum_of_4, sum_of_8};
 use crate::page::Page;
 use fab_types::NoMemory;
 use layout::Start;
@@ -112,6 +114,26 @@ impl HostMemory {
     {
         let at = place(&self.numbers, frame).unwrap();
         self.pages[at].part_mut(range.start, range.end)
+    }
+
+    /// Adds an operand of 4 or 8 bytes, the lowest first, to the bytes from `offset` on, if the frame is of the domain.
+    /// What goes over is lost.
+    pub fn fetch_add(&mut self, frame: u16, offset: usize, operand: &[u8])
+        requires size { is_operand (length operand.now) ≡ true }
+        requires within { offset + length operand.now ≤ 4096 }
+        ensures { self.new ≡ added self.old frame offset operand.now }
+    {
+        let end = offset + operand.len();
+        let Some(old) = self.part(frame, offset..end) else {
+            return;
+        };
+        if operand.len() == 4 {
+            let sum = sum_of_4(old, operand);
+            self.write(frame, offset, &sum);
+        } else {
+            let sum = sum_of_8(old, operand);
+            self.write(frame, offset, &sum);
+        }
     }
 
     /// Writes these bytes from `offset` on, if the frame is of the domain.

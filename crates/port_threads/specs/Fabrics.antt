@@ -11,12 +11,12 @@ use Rattle.vetted.specs.Vetted.{Vetted}
 use Rattle.wiring.specs.Wired.{AreWithin, Tags, dealt, table_of}
 use Rattle.wiring.specs.declared.laid.Laid.{Laid}
 use Rattle.wiring.specs.declared.wire.Wire.{Wire}
+use Rattle.workers.specs.Kept.{PostKept, role_of}
 use Rattle.workers.specs.Watched.{MonitorKept}
 use Rattle.port_threads.specs.Kept.{Kept, kept_of, monitor_kept}
 use Rattle.workers.specs.Origins.{origins_in, origins_of}
-use Rattle.workers.specs.Roles.{role_of, roles_of, starting_numbers}
+use Rattle.workers.specs.Roles.{roles_of, starting_numbers}
 use Rattle.workers.specs.Seats.{AreWatched}
-use Rattle.workers.specs.declared.post.Post.{Post}
 use Rattle.port_threads.specs.declared.resting.Resting.TheInside as resting
 use Rattle.port_threads.specs.declared.running.Running.TheInside as running
 
@@ -32,7 +32,7 @@ pub record FabricView : Type 0 where
   pub numbers : List ℕ
   pub origins : List Origin
 
-abbrev pub posts_in : FabricView → List Post
+abbrev pub posts_in : FabricView → List PostKept
 posts_in f = map (λ k. k.post) f.workers
 
 -- ---- what is kept

@@ -1,19 +1,19 @@
 -- What no turn of a worker changes.
 use Rattle.wiring.specs.Wired.{Tags, tags_of}
+use Rattle.workers.specs.Kept.{PostKept, post_kept}
 use Rattle.workers.specs.Watched.{MonitorKept, watch_kept}
-use Rattle.workers.specs.declared.post.Post.{Post}
 use Rattle.port_threads.specs.declared.monitor_worker.Monitor.{Monitor}
 use Rattle.port_threads.specs.declared.worker.Worker.{Worker}
 
--- which worker it is, with its work, as far as no turn changes it, and the ends of rings that it has
+-- which worker it is, what for, and at which seat, and the ends of rings that it has
 pub record Kept : Type 0 where
-  pub post : Post
+  pub post : PostKept
   pub links : Tags
   pub credits : Tags
   pub pairs : Tags
 
 abbrev pub kept_of : Worker → Kept
-kept_of w = record { post = w.post; links = tags_of w.links; credits = tags_of w.credits; pairs = tags_of w.pairs }
+kept_of w = record { post = post_kept w.post; links = tags_of w.links; credits = tags_of w.credits; pairs = tags_of w.pairs }
 
 abbrev pub monitor_kept : Monitor → MonitorKept
 monitor_kept m = watch_kept m.watch

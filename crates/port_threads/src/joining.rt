@@ -3,6 +3,7 @@
 ghost use Rattle.std.specs.Prelude.{◌≡◌, IfOk, map, vec_len};
 ghost use Rattle.wiring.specs.Wired.{tags_of};
 ghost use Rattle.port_threads.specs.Kept.{kept_of};
+ghost use Rattle.workers.specs.Kept.{post_kept};
 
 use crate::worker::Worker;
 use credit::Limits;
@@ -27,7 +28,7 @@ pub(crate) fn joined(alloc: Global, parts: Pieces) -> Result<Vec<Worker>, NoMemo
     requires links { vec_len parts.links ≡ vec_len parts.posts }
     requires credits { vec_len parts.credits ≡ vec_len parts.posts }
     requires pairs { vec_len parts.pairs ≡ vec_len parts.posts }
-    ensures posts { IfOk result (λ workers. map (λ k. k.post) (map kept_of workers.items) ≡ parts.posts.items) }
+    ensures posts { IfOk result (λ workers. map (λ k. k.post) (map kept_of workers.items) ≡ map post_kept parts.posts.items) }
     ensures links { IfOk result (λ workers. map (λ k. k.links) (map kept_of workers.items) ≡ map tags_of parts.links.items) }
     ensures credits { IfOk result (λ workers. map (λ k. k.credits) (map kept_of workers.items) ≡ map tags_of parts.credits.items) }
     ensures pairs { IfOk result (λ workers. map (λ k. k.pairs) (map kept_of workers.items) ≡ map tags_of parts.pairs.items) }
@@ -64,7 +65,7 @@ pub(crate) fn joined(alloc: Global, parts: Pieces) -> Result<Vec<Worker>, NoMemo
 
 /// Workers without their ends, and the ends. It answers `NoMemory` where memory was refused.
 pub(crate) fn apart(alloc: Global, workers: Vec<Worker>) -> Result<Pieces, NoMemory>
-    ensures posts { IfOk result (λ parts. parts.posts.items ≡ map (λ k. k.post) (map kept_of workers.items)) }
+    ensures posts { IfOk result (λ parts. map post_kept parts.posts.items ≡ map (λ k. k.post) (map kept_of workers.items)) }
     ensures links { IfOk result (λ parts. map tags_of parts.links.items ≡ map (λ k. k.links) (map kept_of workers.items)) }
     ensures credits { IfOk result (λ parts. map tags_of parts.credits.items ≡ map (λ k. k.credits) (map kept_of workers.items)) }
     ensures pairs { IfOk result (λ parts. map tags_of parts.pairs.items ≡ map (λ k. k.pairs) (map kept_of workers.items)) }

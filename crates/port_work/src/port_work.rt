@@ -28,8 +28,8 @@ use wiring::Ends;
 const ROUNDS: usize = 16;
 
 /// A port of a switch with all that is its own: its side of the link that it is at, its way to the domains, and its end
-/// of the queue of violations. The ends of rings that it has are lent to each call. A contract sees what no turn
-/// changes, a `PortWorkView`.
+/// of the queue of violations. The ends of rings that it has are lent to each call. A contract sees a
+/// `PortWorkView`: what no turn changes, and all that is its own.
 #[derive(Drop)]
 pub struct PortWork {
     port: Port,
@@ -57,7 +57,8 @@ impl PortWork {
         desk: LockedDesk,
         reporter: QueueReporter,
     ) -> PortWork
-        ensures { result ≡ record { config = port.config; routes = arc_value bridge; seat = seat_of reporter } }
+        ensures kept { result.kept ≡ record { config = port.config; routes = arc_value bridge; seat = seat_of reporter } }
+        ensures parts { result.parts ≡ record { port = port; side = side; reporter = reporter } }
     {
         PortWork {
             port,
@@ -71,7 +72,7 @@ impl PortWork {
     /// What came in goes on, is refused, or is lost: the eligible packet of this class. Did it move? Where the worker
     /// hasn't one end for each lane of its switch nothing moves.
     fn pass<R: Wait>(&mut self, rt: &R, class: Class, pairs: &mut Ends<VettedFrame>) -> bool
-        ensures same { self.new ≡ self.old }
+        ensures kept { self.new.kept ≡ self.old.kept }
         ensures pairs { tags_of pairs.new ≡ tags_of pairs.old }
     {
         if pairs.outs.len() != self.port.lanes() {
@@ -88,7 +89,7 @@ impl PortWork {
     #[tactic(auto, using(wiring::proofs::Used::same_outs))]
     fn lose<R: Wait>(&mut self, rt: &R, class: Class, pairs: &mut Ends<VettedFrame>) -> Losing
         requires { HasLanes self.old (tags_of pairs.old) }
-        ensures same { self.new ≡ self.old }
+        ensures kept { self.new.kept ≡ self.old.kept }
         ensures pairs { tags_of pairs.new ≡ tags_of pairs.old }
     {
         let own = self.port.own_lane();
@@ -107,7 +108,7 @@ impl PortWork {
     /// A turn of the port.
     fn forward<R: Wait>(&mut self, rt: &R, class: Class, pairs: &mut Ends<VettedFrame>) -> bool
         requires { HasLanes self.old (tags_of pairs.old) }
-        ensures same { self.new ≡ self.old }
+        ensures kept { self.new.kept ≡ self.old.kept }
         ensures pairs { tags_of pairs.new ≡ tags_of pairs.old }
     {
         let outcome = turn_over(
@@ -127,7 +128,7 @@ impl PortWork {
     }
 
     fn pass_each<R: Wait>(&mut self, rt: &R, pairs: &mut Ends<VettedFrame>) -> bool
-        ensures same { self.new ≡ self.old }
+        ensures kept { self.new.kept ≡ self.old.kept }
         ensures pairs { tags_of pairs.new ≡ tags_of pairs.old }
     {
         let posted = self.pass(rt, Class::Posted, pairs);
@@ -144,7 +145,7 @@ impl PortWork {
         credits: &mut Ends<Limits>,
         pairs: &mut Ends<VettedFrame>,
     ) -> bool
-        ensures same { self.new ≡ self.old }
+        ensures kept { self.new.kept ≡ self.old.kept }
         ensures links { tags_of links.new ≡ tags_of links.old }
         ensures credits { tags_of credits.new ≡ tags_of credits.old }
         ensures pairs { tags_of pairs.new ≡ tags_of pairs.old }
@@ -166,7 +167,7 @@ impl PortWork {
         credits: &mut Ends<Limits>,
         pairs: &mut Ends<VettedFrame>,
     )
-        ensures same { self.new ≡ self.old }
+        ensures kept { self.new.kept ≡ self.old.kept }
         ensures links { tags_of links.new ≡ tags_of links.old }
         ensures credits { tags_of credits.new ≡ tags_of credits.old }
         ensures pairs { tags_of pairs.new ≡ tags_of pairs.old }
@@ -180,8 +181,9 @@ impl PortWork {
 
     /// All that is its own, for whoever stops the fabric. Its ways to the domains and to the switches are let go.
     pub fn into_parts(self) -> PortParts
-        ensures port { result.port.config ≡ self.config }
-        ensures seat { seat_of result.reporter ≡ self.seat }
+        ensures parts { result ≡ self.parts }
+        ensures port { result.port.config ≡ self.kept.config }
+        ensures seat { seat_of result.reporter ≡ self.kept.seat }
     {
         let PortWork {
             port,

@@ -6,8 +6,8 @@ use Rattle.fab_types.specs.declared.head.Parties.{Parties}
 use Rattle.fab_types.specs.declared.head.Parties.TheVariants.{Upward, Downward, Answer}
 use Rattle.function.specs.Accesses.{IsAccess, IsAccessKind}
 use Rattle.tlp_view.specs.declared.kind.Kind.{Kind}
-use Rattle.tlp_view.specs.declared.kind.Kind.TheVariants.{MRd, MWr}
-use Rattle.tlp_view.specs.Kinds.{is_memory}
+use Rattle.tlp_view.specs.declared.kind.Kind.TheVariants.{MRd, MWr, FetchAdd}
+use Rattle.tlp_view.specs.Kinds.{has_address, is_fetch_add, is_memory}
 use Rattle.tlp_view.specs.Malformed.{malformed}
 use Rattle.tlp_view.specs.Packet.{Packet, dw_count}
 use Rattle.tlp_view.specs.Runs.{is_write}
@@ -46,6 +46,17 @@ access_kind _ n e = absurd cc
 
 pub is_an_access : (t : Packet) → is_access t ≡ true → IsAccess t
 is_an_access t e = access_kind t.kind (dw_count t.length) e
+
+-- of what has an address all but a FetchAdd is a memory read or write
+pub left_memory : (k : Kind) → has_address k ≡ true → is_fetch_add k ≡ false → is_memory k ≡ true
+left_memory MRd a f = refl
+left_memory MWr a f = refl
+left_memory FetchAdd a f = absurd cc
+left_memory _ a f = absurd cc
+
+pub write_memory : (k : Kind) → is_write k ≡ true → is_memory k ≡ true
+write_memory MWr w = refl
+write_memory _ w = absurd cc
 
 -- a write may be of any length
 write_kind : (k : Kind) (n : ℕ) → is_write k ≡ true → IsAccessKind k n

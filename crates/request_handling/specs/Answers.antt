@@ -15,7 +15,7 @@ use Rattle.layout.specs.Reach.{reach}
 use Rattle.platform.specs.Share.{Share}
 use Rattle.tlp_view.specs.declared.enables.Enables.{Enables}
 use Rattle.tlp_view.specs.Bytes.{packet_of}
-use Rattle.tlp_view.specs.Completions.{completion_bytes, read_completion, refusal}
+use Rattle.tlp_view.specs.Completions.{atomic_completion, completion_bytes, read_completion, refusal}
 use Rattle.tlp_view.specs.Packet.{Packet, address_in, dw_count, enables_in}
 use Rattle.tlp_view.specs.Requests.{moved, packet_bytes}
 use Rattle.platform.specs.declared.parts.EndpointFunction.{EndpointFunction}
@@ -58,6 +58,10 @@ host_refusal share t = answer by.Host (reach share t.requester) (refusal host_id
 abbrev pub host_data : Share → Packet → List ℕ → Emission
 host_data share t bytes = answer by.Host (reach share t.requester) (read_completion host_id t bytes)
 
+-- of an AtomicOp, with what stood there
+abbrev pub host_operand : Share → Packet → List ℕ → Emission
+host_operand share t bytes = answer by.Host (reach share t.requester) (atomic_completion host_id t bytes)
+
 abbrev pub address_of : Packet → ℕ
 address_of t = unwrap_or (address_in t.body) 0
 
@@ -72,8 +76,8 @@ reads_nothing t = (dw_count t.length == 1) && enables_nothing (enables_in t.body
 abbrev pub blank : Packet → List ℕ
 blank t = replicate (4 * dw_count t.length) 0
 
--- What a read of a frame shows: what is stored there, disabled bytes too. A read of no bytes shows 0; that is
--- this project's own choice
+-- What a read or an AtomicOp of a frame shows: what is stored there, disabled bytes too. A read of no bytes shows 0;
+-- that is this project's own choice
 abbrev pub shown : List (ℕ × List ℕ) → ℕ → Packet → List ℕ
 shown frames k t =
     if reads_nothing t then blank t

@@ -3,6 +3,7 @@
 use Rattle.std.specs.Prelude.{ℕ, ◌/◌, ◌%◌, ◌==◌, Bool, ◌&&◌, nat_lt, List, Option, Some, None, option_map, if◌then◌else◌, false}
 use Rattle.platform.specs.declared.parts.MapTarget.{MapTarget}
 use Rattle.platform.specs.declared.parts.MapTarget.TheVariants.{Frame, Peer}
+use Rattle.platform.specs.declared.parts.Access.{Access as AccessLetter}
 use Rattle.platform.specs.declared.parts.Access.TheVariants.{Read, Write}
 use Rattle.platform.specs.declared.parts.DownstreamPort.{DownstreamPort}
 use Rattle.platform.specs.Share.{Share}
@@ -13,15 +14,16 @@ use Rattle.fab_types.specs.declared.head.Answerer.TheVariants as by
 use Rattle.fab_types.specs.declared.head.Parties.{Parties}
 use Rattle.fab_types.specs.declared.head.Parties.TheVariants.{Upward, Downward, Answer}
 use Rattle.tlp_view.specs.Packet.{Packet, dw_count}
+use Rattle.tlp_view.specs.Kinds.{is_fetch_add}
 use Rattle.tlp_view.specs.Runs.{is_write}
 use Rattle.tlp_view.specs.Bytes.{packet_of}
 use Rattle.tlp_view.specs.Malformed.{malformed}
 use Rattle.fab_types.specs.declared.faults.malformed.Malformed.{Malformed}
-use Rattle.request_handling.specs.declared.handling.Effect.TheVariants.{Leave, Block, Store, Access}
+use Rattle.request_handling.specs.declared.handling.Effect.TheVariants.{Leave, Block, Store, Add, Access}
 use Rattle.request_handling.specs.declared.handling.Handling.{Handling}
 use Rattle.request_handling.specs.Emissions.{Emission}
 use Rattle.host_memory.specs.Pages.{page_of}
-use Rattle.request_handling.specs.Answers.{address_of, bar_of, forwarded, function_answer, host_data, host_refusal, port_answer, shown}
+use Rattle.request_handling.specs.Answers.{address_of, bar_of, forwarded, function_answer, host_data, host_operand, host_refusal, port_answer, shown}
 use Rattle.request_handling.specs.declared.fate.Fate.{Fate}
 use Rattle.request_handling.specs.declared.fate.Fate.TheVariants.{Vanish, Refused, ToHost}
 use Rattle.request_handling.specs.Fates.{fate, is_untranslated, returns_completion}
@@ -82,6 +84,14 @@ to_frame k t = record { effect = Store k (address_of t % 4096); reply = None }
 abbrev pub from_frame : Share → List (ℕ × List ℕ) → Packet → ℕ → Handling
 from_frame share frames t k = record { effect = Leave; reply = Some (host_data share t (shown frames k t)) }
 
+-- a FetchAdd of a frame, which is answered with what stood there
+abbrev pub add_to_frame : Share → List (ℕ × List ℕ) → Packet → ℕ → Handling
+add_to_frame share frames t k = record { effect = Add k (address_of t % 4096); reply = Some (host_operand share t (shown frames k t)) }
+
+-- a non-posted request whose page isn't mapped for it is counted and refused
+abbrev pub blocked_by_host : Share → Packet → Handling
+blocked_by_host share t = record { effect = Block; reply = Some (host_refusal share t) }
+
 -- a write goes where its page is mapped
 abbrev pub write_to : Share → Packet → Option MapTarget → Option Handling
 write_to share t None = Some (record { effect = Block; reply = None })
@@ -90,7 +100,7 @@ write_to share t (Some (Peer function)) = forward function t (bar_of share.funct
 
 -- a read is answered with what its page is mapped to
 abbrev pub read_from : Share → List (ℕ × List ℕ) → Packet → Option MapTarget → Option Handling
-read_from share frames t None = Some (record { effect = Block; reply = Some (host_refusal share t) })
+read_from share frames t None = Some (blocked_by_host share t)
 read_from share frames t (Some (Frame k)) = Some (from_frame share frames t k)
 read_from share frames t (Some (Peer function)) = forward function t (bar_of share.functions function)
 
@@ -104,11 +114,29 @@ serve_read share frames t =
     then Some (refused_by_host share t)
     else read_from share frames t (target_of share.maps t.requester (address_of t / 4096) Read)
 
+-- the frame that a page is mapped to
+abbrev pub frame_in : Option MapTarget → Option ℕ
+frame_in None = None
+frame_in (Some (Frame k)) = Some k
+frame_in (Some (Peer function)) = None
+
+abbrev pub frame_for : Share → Packet → AccessLetter → Option ℕ
+frame_for share t access = frame_in (target_of share.maps t.requester (address_of t / 4096) access)
+
+-- a FetchAdd reads and writes, so its page has to be mapped to a frame for both. No two lines map one page, so it is one frame
+abbrev pub add_if : Share → List (ℕ × List ℕ) → Packet → Option ℕ → Option ℕ → Handling
+add_if share frames t None to_write = blocked_by_host share t
+add_if share frames t (Some to_read) None = blocked_by_host share t
+add_if share frames t (Some to_read) (Some to_write) = add_to_frame share frames t to_write
+
+abbrev pub serve_add : Share → List (ℕ × List ℕ) → Packet → Handling
+serve_add share frames t = add_if share frames t (frame_for share t Read) (frame_for share t Write)
+
 abbrev pub serve : Share → List (ℕ × List ℕ) → Packet → Option Handling
 serve share frames t =
     if is_write t.kind
     then write_to share t (target_of share.maps t.requester (address_of t / 4096) Write)
-    else serve_read share frames t
+    else (if is_fetch_add t.kind then Some (serve_add share frames t) else serve_read share frames t)
 
 abbrev pub is_owner : Option ℕ → ℕ → Bool
 is_owner None domain = false

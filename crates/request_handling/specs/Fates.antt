@@ -1,5 +1,5 @@
 -- What the first port of a function does with what the function sends (PCIe 4.0, 6.12.1). That translation blocking tests
--- no kinds but memory reads and writes is this project's own.
+-- no kinds but memory reads and writes and FetchAdds is this project's own.
 use Rattle.std.specs.Prelude.{ℕ, Bool, true, false, ◌&&◌, ◌||◌, not, List, Option, Some, None, unwrap_or, if◌then◌else◌}
 use Rattle.fab_types.specs.Id.{bus_of}
 use Rattle.fab_types.specs.Controls.{validates_source, blocks_translated, forwards_upstream}
@@ -15,7 +15,7 @@ use Rattle.platform.specs.Owners.{holds_bus, holds_address, first_port}
 use Rattle.request_handling.specs.declared.fate.Fate.{Fate}
 use Rattle.request_handling.specs.declared.fate.Fate.TheVariants.{Vanish, Refused, ToHost}
 use Rattle.tlp_view.specs.Packet.{Packet, address_in}
-use Rattle.tlp_view.specs.Kinds.{class_of_kind, is_memory}
+use Rattle.tlp_view.specs.Kinds.{class_of_kind, has_address}
 use Rattle.tlp_view.specs.Bytes.{packet_of}
 use Rattle.tlp_view.specs.Malformed.{malformed}
 
@@ -27,9 +27,9 @@ is_untranslated _ = false
 abbrev pub fails_source : DownstreamPort → Packet → Bool
 fails_source port t = validates_source port.controls && not (holds_bus port (bus_of t.requester))
 
--- Translation Blocking: a memory read or write claims a translated address
+-- Translation Blocking: a memory read or write or a FetchAdd claims a translated address
 abbrev pub fails_translation : DownstreamPort → Packet → Bool
-fails_translation port t = blocks_translated port.controls && is_memory t.kind && not (is_untranslated t.address_type)
+fails_translation port t = blocks_translated port.controls && has_address t.kind && not (is_untranslated t.address_type)
 
 -- without Upstream Forwarding a port doesn't send back what is for its own window
 abbrev pub returns_to_sender : DownstreamPort → Packet → Bool
@@ -48,7 +48,7 @@ stopped status Completion = Vanish
 abbrev pub packet_fate : DownstreamPort → Packet → Fate
 packet_fate port t =
     if fails_source port t || fails_translation port t then stopped CA (class_of_kind t.kind)
-    else (if not (is_memory t.kind) || returns_to_sender port t then stopped UR (class_of_kind t.kind)
+    else (if not (has_address t.kind) || returns_to_sender port t then stopped UR (class_of_kind t.kind)
     else ToHost)
 
 abbrev pub fate_unless : Option Malformed → DownstreamPort → List ℕ → Fate

@@ -12,7 +12,7 @@ use Rattle.fab_types.specs.declared.head.Parties.TheVariants.{Upward, Downward, 
 use Rattle.fab_types.specs.Origins.{origin_id}
 use Rattle.frame_log.specs.Descriptor.{Descriptor}
 use Rattle.tlp_view.specs.Packet.{Packet, address_in}
-use Rattle.tlp_view.specs.Kinds.{is_memory, is_completion}
+use Rattle.tlp_view.specs.Kinds.{has_address, is_completion}
 use Rattle.tlp_view.specs.Bytes.{packet_of}
 use Rattle.tlp_view.specs.Malformed.{malformed}
 use Rattle.tlp_view.specs.Costs.{cost_of}
@@ -31,7 +31,7 @@ abbrev pub packet_header : Parties → Packet → Header
 packet_header parties t =
     if is_completion t.kind
     then header.Completion (target_for parties t.requester) t.attributes.relaxed_ordering
-    else (if is_memory t.kind
+    else (if has_address t.kind
     then header.Memory t.requester t.address_type (unwrap_or (address_in t.body) 0)
     else header.OtherRequest t.requester)
 

@@ -63,12 +63,13 @@ frame_at numbers page = find (λ k. k == page) numbers
 abbrev pub by_number : Share → List (ℕ × List ℕ) → Packet → Handling
 by_number share frames t = at_frame_if share frames t (frame_at share.frames (address_of t / 4096))
 
--- only memory reads and writes have an AT field that is looked at
+-- Only memory reads and writes and FetchAdds have an AT field that is looked at, and of those with a translated address
+-- reads and writes alone are served
 abbrev pub request_at_host : Share → List (ℕ × List ℕ) → Packet → Option AddressType → Handling
 request_at_host share frames t None = unserved_by_host share t
 request_at_host share frames t (Some Untranslated) = by_table share frames t
 request_at_host share frames t (Some TranslationRequest) = unserved_by_host share t
-request_at_host share frames t (Some Translated) = by_number share frames t
+request_at_host share frames t (Some Translated) = if is_memory t.kind then by_number share frames t else unserved_by_host share t
 request_at_host share frames t (Some Reserved) = unserved_by_host share t
 
 -- ---- a request at a function

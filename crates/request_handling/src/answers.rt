@@ -3,10 +3,11 @@
 ghost use Rattle.std.specs.Prelude.{◌≡◌, ◌+◌, ◌*◌, ◌%◌, ◌≤◌, IfSome, length, true, unwrap_or};
 ghost use Rattle.std.specs.Option.{option_copied};
 ghost use Rattle.host_memory.specs.Pages.{part_of};
-ghost use Rattle.tlp_view.specs.Completions.{HeadFits, completion_of, read_completion};
+ghost use Rattle.tlp_view.specs.Completions.{HeadFits, atomic_completion, completion_of, read_completion};
+ghost use Rattle.tlp_view.specs.Kinds.{is_fetch_add};
 ghost use Rattle.tlp_view.specs.Packet.{dw_count};
 ghost use Rattle.request_handling.specs.Carries.{forward};
-ghost use Rattle.request_handling.specs.Answers.{address_of, bar_of, blank, forwarded, function_answer, function_refusal, host_data, host_refusal, port_answer, reads_nothing, shown};
+ghost use Rattle.request_handling.specs.Answers.{address_of, bar_of, blank, forwarded, function_answer, function_refusal, host_data, host_operand, host_refusal, port_answer, reads_nothing, shown};
 ghost use Rattle.function.specs.Accesses.{IsAccess};
 
 use crate::handling::{Effect, Handling, Reply};
@@ -59,6 +60,18 @@ pub(crate) fn host_data(start: &Start, memory: &HostMemory, frame: u16, view: &T
         Answerer::Host,
         start.reach(view.requester()),
         completed_read(view, part_read(memory, frame, view)),
+    )
+}
+
+/// The host answers a FetchAdd of a frame of memory with what stands there before it.
+pub(crate) fn host_operand(start: &Start, memory: &HostMemory, frame: u16, view: &TlpView) -> Reply
+    requires { is_fetch_add (view.now).kind ≡ true }
+    ensures { result ≡ host_operand start.now view.now (shown memory.now frame view.now) }
+{
+    Reply::answer(
+        Answerer::Host,
+        start.reach(view.requester()),
+        completed_atomic(view, part_read(memory, frame, view)),
     )
 }
 
@@ -120,7 +133,7 @@ fn reads_nothing(view: &TlpView) -> bool
     }
 }
 
-/// The bytes that a read shows, where they are not all 0 for another cause.
+/// The bytes that a read or an AtomicOp shows, where they are not all 0 for another cause.
 fn part_read<'a>(memory: &'a HostMemory, frame: u16, view: &TlpView) -> Option<&'a [u8]>
     ensures value { unwrap_or (option_copied result) (blank view.now) ≡ shown memory.now frame view.now }
     ensures size { IfSome result (λ part. length part.now ≡ 4 * dw_count (view.now).length) }
@@ -138,7 +151,29 @@ fn completed_read(view: &TlpView, part: Option<&[u8]>) -> CplBuf
     requires size { IfSome part (λ bytes. length bytes.now ≡ 4 * dw_count (view.now).length) }
     ensures { result ≡ read_completion 0 view.now (unwrap_or (option_copied part.entry) (blank view.now)) }
 {
-    let head = CompletionHead::of_read(Bdf::from_bits(0), view);
+    completed(CompletionHead::of_read(Bdf::from_bits(0), view), view, part)
+}
+
+/// The successful completion of a FetchAdd that shows this part, or 0 without one.
+fn completed_atomic(view: &TlpView, part: Option<&[u8]>) -> CplBuf
+    requires atomic { is_fetch_add (view.now).kind ≡ true }
+    requires size { IfSome part (λ bytes. length bytes.now ≡ 4 * dw_count (view.now).length) }
+    ensures { result ≡ atomic_completion 0 view.now (unwrap_or (option_copied part.entry) (blank view.now)) }
+{
+    completed(
+        CompletionHead::of_atomic(Bdf::from_bits(0), view),
+        view,
+        part,
+    )
+}
+
+/// A completion that shows this part, or as many bytes of 0 without one.
+fn completed(head: CompletionHead, view: &TlpView, part: Option<&[u8]>) -> CplBuf
+    requires fits { HeadFits head }
+    requires short { dw_count (view.now).length ≤ 64 }
+    requires size { IfSome part (λ bytes. length bytes.now ≡ 4 * dw_count (view.now).length) }
+    ensures { result ≡ completion_of head (unwrap_or (option_copied part.entry) (blank view.now)) }
+{
     match part {
         Some(bytes) => with_data(head, bytes),
         None => CplBuf::new(head, usize::from(view.dw_length())),

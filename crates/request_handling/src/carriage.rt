@@ -4,17 +4,17 @@ ghost use Rattle.std.specs.Prelude.{◌≡◌, ◌/◌, ◌≤◌, true, None, i
 ghost use Rattle.fab_types.specs.declared.head.Parties.TheVariants.{Downward, Upward};
 ghost use Rattle.function.specs.Accesses.{IsAccess};
 ghost use Rattle.tlp_view.specs.Bytes.{packet_of};
-ghost use Rattle.tlp_view.specs.Kinds.{is_memory};
+ghost use Rattle.tlp_view.specs.Kinds.{has_address, is_fetch_add, is_memory};
 ghost use Rattle.tlp_view.specs.Packet.{dw_count};
 ghost use Rattle.tlp_view.specs.Runs.{is_write};
 ghost use Rattle.request_handling.specs.WellMade.{IsWellMade};
-ghost use Rattle.request_handling.specs.Carries.{access_of, carriage_by, carriage_of, from_frame, is_carried, is_owner, refused_by_host, serve, serve_read, to_frame, write_to, read_from};
+ghost use Rattle.request_handling.specs.Carries.{access_of, add_to_frame, blocked_by_host, carriage_by, carriage_of, frame_for, from_frame, is_carried, is_owner, refused_by_host, serve, serve_add, serve_read, to_frame, write_to, read_from};
 ghost use Rattle.layout.specs.Tables.{target_of};
 ghost use Rattle.platform.specs.declared.parts.Access.TheVariants as access;
 ghost use Rattle.request_handling.specs.Answers.{address_of};
 ghost use Rattle.request_handling.specs.Fates.{fate, fate_at};
 
-use crate::answers::{forward, function_answer, host_data, host_refusal};
+use crate::answers::{forward, function_answer, host_data, host_operand, host_refusal};
 use crate::fate::{Fate, is_untranslated, packet_fate};
 use crate::handling::{Effect, Handling};
 use crate::page::place;
@@ -43,7 +43,7 @@ pub(crate) fn is_owner(owner: Option<DomainId>, domain: DomainId) -> bool
 
 /// Does the request claim no translation, in the name of a requester of this domain?
 fn is_carried(start: &Start, view: &TlpView) -> bool
-    requires { is_memory (view.now).kind ≡ true }
+    requires { has_address (view.now).kind ≡ true }
     ensures { result ≡ is_carried start.now view.now }
 {
     match view.at() {
@@ -73,6 +73,28 @@ pub(crate) fn from_frame(start: &Start, memory: &HostMemory, view: &TlpView, fra
     Handling {
         effect: Effect::Leave,
         reply: Some(host_data(start, memory, frame, view)),
+    }
+}
+
+/// The host adds to a frame, and answers with what stood there.
+fn add_to_frame(start: &Start, memory: &HostMemory, view: &TlpView, frame: u16) -> Handling
+    requires { is_fetch_add (view.now).kind ≡ true }
+    ensures { result ≡ add_to_frame start.now memory.now view.now frame }
+{
+    let first = (view.address().unwrap_or(0) % 4096) as usize;
+    Handling {
+        effect: Effect::Add(frame, first),
+        reply: Some(host_operand(start, memory, frame, view)),
+    }
+}
+
+/// The host counts a non-posted request whose page isn't mapped for it, and refuses it.
+fn blocked_by_host(start: &Start, view: &TlpView) -> Handling
+    ensures { result ≡ blocked_by_host start.now view.now }
+{
+    Handling {
+        effect: Effect::Block,
+        reply: Some(host_refusal(start, view)),
     }
 }
 
@@ -121,14 +143,40 @@ fn serve_read(
     match table.lookup(view.requester(), page, Access::Read) {
         Target::Frame(frame) => Some(from_frame(start, memory, view, frame)),
         Target::Peer(function) => forward(start, function, view),
-        Target::None => Some(Handling {
-            effect: Effect::Block,
-            reply: Some(host_refusal(start, view)),
-        }),
+        Target::None => Some(blocked_by_host(start, view)),
     }
 }
 
-/// What the host does with a memory request, by the table of its Requester ID.
+/// The frame that the page of this request is mapped to for this access.
+fn frame_for(start: &Start, table: &HostTable, view: &TlpView, access: Access) -> Option<u16>
+    requires table { table.now ≡ (start.now).maps }
+    ensures { result ≡ frame_for start.now view.now access }
+{
+    let page = view.address().unwrap_or(0) / 4096;
+    match table.lookup(view.requester(), page, access) {
+        Target::Frame(frame) => Some(frame),
+        Target::Peer(_) => None,
+        Target::None => None,
+    }
+}
+
+/// What the host does with a FetchAdd, which reads and writes (PCIe 4.0, 6.15).
+fn serve_add(start: &Start, table: &HostTable, memory: &HostMemory, view: &TlpView) -> Handling
+    requires table { table.now ≡ (start.now).maps }
+    requires atomic { is_fetch_add (view.now).kind ≡ true }
+    ensures { result ≡ serve_add start.now memory.now view.now }
+{
+    let to_read = frame_for(start, table, view, Access::Read);
+    let to_write = frame_for(start, table, view, Access::Write);
+    match (to_read, to_write) {
+        (Some(_), Some(frame)) => add_to_frame(start, memory, view, frame),
+        (Some(_), None) => blocked_by_host(start, view),
+        (None, _) => blocked_by_host(start, view),
+    }
+}
+
+/// What the host does with a request for memory, by the table of its Requester ID.
+#[tactic(auto, using(crate::proofs::WellMadeLemmas::left_memory))]
 pub(crate) fn serve(
     start: &Start,
     table: &HostTable,
@@ -136,17 +184,20 @@ pub(crate) fn serve(
     view: &TlpView,
 ) -> Option<Handling>
     requires table { table.now ≡ (start.now).maps }
-    requires is_memory { is_memory (view.now).kind ≡ true }
+    requires addressed { has_address (view.now).kind ≡ true }
     ensures { result ≡ serve start.now memory.now view.now }
 {
-    if is_write(view.kind()) {
+    let kind = view.kind();
+    if is_write(kind) {
         serve_write(start, table, view)
+    } else if kind.is_fetch_add() {
+        Some(serve_add(start, table, memory, view))
     } else {
         serve_read(start, table, memory, view)
     }
 }
 
-/// What the host does with a memory request of this domain.
+/// What the host does with a request for memory of this domain.
 fn carried(
     start: &Start,
     table: &HostTable,
@@ -154,7 +205,7 @@ fn carried(
     view: &TlpView,
 ) -> Option<Handling>
     requires table { table.now ≡ (start.now).maps }
-    requires is_memory { is_memory (view.now).kind ≡ true }
+    requires addressed { has_address (view.now).kind ≡ true }
     ensures { result ≡ (if is_carried start.now view.now then serve start.now memory.now view.now else None) }
 {
     if is_carried(start, view) {

@@ -1,7 +1,7 @@
 //! What the first port of a function does with what the function sends.
 
 ghost use Rattle.std.specs.Prelude.{◌≡◌, true};
-ghost use Rattle.tlp_view.specs.Kinds.{is_memory};
+ghost use Rattle.tlp_view.specs.Kinds.{has_address};
 ghost use Rattle.request_handling.specs.Fates.{fails_source, fails_translation, fate, fate_at, is_untranslated, packet_fate, returns_completion, returns_to_sender, stopped};
 
 use fab_types::{AddressType, Bdf, Class, Status};
@@ -66,12 +66,12 @@ pub(crate) fn returns_completion(port: &DownstreamPort, view: &TlpView) -> bool
 
 pub(crate) fn packet_fate(port: &DownstreamPort, view: &TlpView) -> Fate
     ensures value { result ≡ packet_fate port.now view.now }
-    ensures memory { result ≡ Fate.ToHost → is_memory (view.now).kind ≡ true }
+    ensures addressed { result ≡ Fate.ToHost → has_address (view.now).kind ≡ true }
 {
     let class = view.class();
     if fails_source(port, view) || fails_translation(port, view) {
         stopped(Status::CA, class)
-    } else if !view.kind().is_memory() || returns_to_sender(port, view) {
+    } else if !view.kind().has_address() || returns_to_sender(port, view) {
         stopped(Status::UR, class)
     } else {
         Fate::ToHost

@@ -18,6 +18,8 @@ pub enum Effect {
     Block,
     /// It writes the enabled bytes to this frame, from this byte on.
     Store(u16, usize),
+    /// It adds its operand to the bytes of this frame, from this byte on.
+    Add(u16, usize),
     /// It writes or reads this function's register page.
     Access(Bdf),
 }

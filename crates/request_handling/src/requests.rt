@@ -2,7 +2,7 @@
 
 ghost use Rattle.std.specs.Prelude.{◌≡◌, ◌==◌, true};
 ghost use Rattle.std.specs.List.{find};
-ghost use Rattle.tlp_view.specs.Kinds.{is_memory};
+ghost use Rattle.tlp_view.specs.Kinds.{has_address};
 ghost use Rattle.tlp_view.specs.View.{address_type_in};
 ghost use Rattle.request_handling.specs.Requests.{at_frame, at_port, by_number, by_table, frame_at, is_access, lies_in, or_discarded, request_at_function, request_at_host, unserved, unserved_by_host};
 
@@ -52,7 +52,7 @@ fn unserved_by_host(start: &Start, view: &TlpView) -> Handling
 /// By the table of the Requester ID, if that is one of this domain.
 fn by_table(start: &Start, table: &HostTable, memory: &HostMemory, view: &TlpView) -> Handling
     requires table { table.now ≡ (start.now).maps }
-    requires is_memory { is_memory (view.now).kind ≡ true }
+    requires addressed { has_address (view.now).kind ≡ true }
     ensures { result ≡ by_table start.now memory.now view.now }
 {
     if is_owner(start.owner(view.requester()), start.domain()) {
@@ -107,7 +107,8 @@ pub fn request_at_host(
 {
     match view.at() {
         Some(AddressType::Untranslated) => by_table(start, table, memory, view),
-        Some(AddressType::Translated) => by_number(start, memory, view),
+        Some(AddressType::Translated) if view.kind().is_memory() => by_number(start, memory, view),
+        Some(AddressType::Translated) => unserved_by_host(start, view),
         Some(AddressType::TranslationRequest) => unserved_by_host(start, view),
         Some(AddressType::Reserved) => unserved_by_host(start, view),
         None => unserved_by_host(start, view),

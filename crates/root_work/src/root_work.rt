@@ -1,6 +1,6 @@
 //! The root complex in a thread of its own.
 
-ghost use Rattle.std.specs.Prelude.{◌≡◌};
+ghost use Rattle.std.specs.Prelude.{◌≡◌, []};
 ghost use Rattle.std.specs.Arc.{arc_value};
 ghost use Rattle.wiring.specs.Wired.{tags_of};
 
@@ -60,7 +60,10 @@ impl RootWork {
         bridge: Arc<Bridge, Global>,
         locks: Arc<Locks, Global>,
     ) -> RootWork
-        ensures { result ≡ record { shares = frames; routes = arc_value bridge; locks = arc_value locks } }
+        ensures kept { result.kept ≡ record { shares = frames; routes = arc_value bridge; locks = arc_value locks } }
+        ensures hosts { result.parts.hosts ≡ hosts }
+        ensures side { result.parts.side ≡ side }
+        ensures strays { result.parts.strays.items ≡ [] }
     {
         RootWork {
             hosts,
@@ -74,7 +77,7 @@ impl RootWork {
 
     /// The root complex takes the eligible packet of a class: it relays it, or it ends here. Did it leave its queue?
     fn take<R: Wait>(&mut self, rt: &R, class: Class) -> bool
-        ensures { self.new ≡ self.old }
+        ensures { self.new.kept ≡ self.old.kept }
     {
         let Some(head) = self.side.ingress.next(class) else {
             return false;
@@ -97,7 +100,7 @@ impl RootWork {
     }
 
     fn take_each<R: Wait>(&mut self, rt: &R) -> bool
-        ensures { self.new ≡ self.old }
+        ensures { self.new.kept ≡ self.old.kept }
     {
         let posted = self.take(rt, Class::Posted);
         let non_posted = self.take(rt, Class::NonPosted);
@@ -113,7 +116,7 @@ impl RootWork {
         links: &mut Ends<Frame>,
         credits: &mut Ends<Limits>,
     ) -> bool
-        ensures same { self.new ≡ self.old }
+        ensures kept { self.new.kept ≡ self.old.kept }
         ensures links { tags_of links.new ≡ tags_of links.old }
         ensures credits { tags_of credits.new ≡ tags_of credits.old }
     {
@@ -130,7 +133,7 @@ impl RootWork {
 
     /// One turn of the worker: round after round while anything moves, at most 16.
     pub fn turn<R: Wait>(&mut self, rt: &R, links: &mut Ends<Frame>, credits: &mut Ends<Limits>)
-        ensures same { self.new ≡ self.old }
+        ensures kept { self.new.kept ≡ self.old.kept }
         ensures links { tags_of links.new ≡ tags_of links.old }
         ensures credits { tags_of credits.new ≡ tags_of credits.old }
     {
@@ -142,7 +145,9 @@ impl RootWork {
     }
 
     /// All that is its own, for whoever stops the fabric. Its ways to the domains and to the switches are let go.
-    pub fn into_parts(self) -> RootParts {
+    pub fn into_parts(self) -> RootParts
+        ensures { result ≡ self.parts }
+    {
         let RootWork {
             hosts,
             frames: _,

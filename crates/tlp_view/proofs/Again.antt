@@ -12,11 +12,11 @@ use Rattle.tlp_view.specs.declared.attributes.Attributes.{Attributes}
 use Rattle.tlp_view.specs.declared.enables.Enables.{Enables}
 use Rattle.tlp_view.specs.declared.kind.Kind.{Kind}
 use Rattle.tlp_view.specs.declared.kind.Kind.TheVariants.{MRd}
-use Rattle.tlp_view.specs.Packet.{Packet, Body, Memory, Message, Request, Completion}
-use Rattle.tlp_view.specs.Kinds.{kind_at, has_form, is_memory, is_message, is_completion}
+use Rattle.tlp_view.specs.Packet.{Packet, Body, Memory, Atomic, Message, Request, Completion}
+use Rattle.tlp_view.specs.Kinds.{kind_at, has_form, is_memory, is_fetch_add, is_message, is_completion}
 use Rattle.tlp_view.specs.Bytes.{bits, is_set, be_u16_at, fmt_at, type_at, has_4dw_header_at, attributes_at, address_type_of, length_at, enables_at, address_at, status_of, status_at, body_at, packet_of_kind, packet_of}
 use Rattle.tlp_view.specs.Spelling.{flag, address_type_bits, status_bits, header, HasUnused, BodyFits, Fits, Spells}
-use Rattle.tlp_view.proofs.KindFacts.{byte_0, flag_again, flag_small, kind_again, wide_again, routing_again, memory_no_completion, message_no_memory, message_no_completion, completion_no_memory, completion_no_message, completion_is_narrow}
+use Rattle.tlp_view.proofs.KindFacts.{byte_0, flag_again, flag_small, kind_again, wide_again, routing_again, memory_no_completion, message_no_memory, message_no_completion, completion_no_memory, completion_no_message, completion_is_narrow, fetch_add_no_memory, fetch_add_no_message, fetch_add_no_completion}
 
 address_type_again : (at : AddressType) → address_type_of (address_type_bits at) ≡ at
 address_type_again Untranslated = refl
@@ -123,8 +123,11 @@ body_message kind bytes m = rw (message_no_memory kind m, m) refl
 pub body_completion : (kind : Kind) (bytes : List ℕ) → is_completion kind ≡ true → body_at kind bytes ≡ Completion (be_u16_at bytes 4) (unwrap_or (status_at bytes) SC) (bits (slice_index bytes 6) 0 4 * 256 + slice_index bytes 7) (slice_index bytes 11 % 128)
 body_completion kind bytes m = rw (completion_no_memory kind m, completion_no_message kind m, m) refl
 
-pub body_request : (kind : Kind) (bytes : List ℕ) → is_memory kind ≡ false → is_message kind ≡ false → is_completion kind ≡ false → body_at kind bytes ≡ Request
-body_request kind bytes m n c = rw (m, n, c) refl
+pub body_atomic : (kind : Kind) (bytes : List ℕ) → is_fetch_add kind ≡ true → body_at kind bytes ≡ Atomic (address_at bytes)
+body_atomic kind bytes a = rw (fetch_add_no_memory kind a, fetch_add_no_message kind a, fetch_add_no_completion kind a, a) refl
+
+pub body_request : (kind : Kind) (bytes : List ℕ) → is_memory kind ≡ false → is_message kind ≡ false → is_completion kind ≡ false → is_fetch_add kind ≡ false → body_at kind bytes ≡ Request
+body_request kind bytes m n c a = rw (m, n, c, a) refl
 
 pub address_wide : (bytes : List ℕ) → has_4dw_header_at bytes ≡ true → address_at bytes ≡ from_be_bytes w64 (slice_index bytes 8 ∷ slice_index bytes 9 ∷ slice_index bytes 10 ∷ slice_index bytes 11 ∷ slice_index bytes 12 ∷ slice_index bytes 13 ∷ slice_index bytes 14 ∷ slice_index bytes 15 ∷ [])
 unfolding address_at
@@ -180,6 +183,29 @@ module _ (kind : Kind) (attributes : Attributes) (at : AddressType) (len : ℕ) 
         let e = wide_again kind false 0 (omega arith) in
         memory_body false rest form refl (address_narrow (request_bytes false 0 cells) e ∙ from_be_bytes-to_be_bytes_4 address fits)
 
+  -- byte 7 of a FetchAdd has no field
+  module _ (byte_7 : ℕ) (address : ℕ) (atomic : is_fetch_add kind ≡ true) where
+    atomic_body : (wide : Bool) (rest : List ℕ) → has_form kind wide ≡ true → drop (cond wide 16 12) (request_bytes wide 0 (byte_7 ∷ rest)) ≡ payload
+        → address_at (request_bytes wide 0 (byte_7 ∷ rest)) ≡ address → packet_of (request_bytes wide 0 (byte_7 ∷ rest)) ≡ read_as wide (Atomic address)
+    atomic_body wide rest form after found =
+        let cells : List ℕ = byte_7 ∷ rest in
+        let other = fetch_add_no_completion kind atomic in
+        let is_body : body_at kind (request_bytes wide 0 cells) ≡ Atomic address = body_atomic kind (request_bytes wide 0 cells) atomic ∙ ap Atomic found in
+        packet_again kind wide attributes at len form len_fits 0 (omega arith) (requester / 256 ∷ requester % 256 ∷ tag ∷ cells) requester tag (Atomic address) payload
+        (requester_again wide 0 cells other) (tag_again wide 0 cells other) is_body after
+
+    atomic_wide : has_form kind true ≡ true → address < 2 ^ 64 → packet_of (header (read_as true (Atomic address)) (byte_7 ∷ []) ++ payload) ≡ read_as true (Atomic address)
+    atomic_wide form fits =
+        let rest = to_be_bytes w64 address ++ payload in
+        let e = wide_again kind true 0 (omega arith) in
+        atomic_body true rest form refl (address_wide (request_bytes true 0 (byte_7 ∷ rest)) e ∙ from_be_bytes-to_be_bytes_8 address fits)
+
+    atomic_narrow : has_form kind false ≡ true → address < 2 ^ 32 → packet_of (header (read_as false (Atomic address)) (byte_7 ∷ []) ++ payload) ≡ read_as false (Atomic address)
+    atomic_narrow form fits =
+        let rest = to_be_bytes w32 address ++ payload in
+        let e = wide_again kind false 0 (omega arith) in
+        atomic_body false rest form refl (address_narrow (request_bytes false 0 (byte_7 ∷ rest)) e ∙ from_be_bytes-to_be_bytes_4 address fits)
+
   module _ (unused : List ℕ) where
     unused_after : (wide : Bool) (routing : ℕ) → length unused ≡ cond wide 9 5 → drop (cond wide 16 12) (request_bytes wide routing (unused ++ payload)) ≡ payload
     unused_after true routing long = drop_at unused payload 9 long
@@ -197,10 +223,10 @@ module _ (kind : Kind) (attributes : Attributes) (at : AddressType) (len : ℕ) 
         request_body wide (Message routing) routing form fits (message_no_completion kind message) long
         (body_message kind (request_bytes wide routing (unused ++ payload)) message ∙ ap Message (routing_again kind wide routing message fits))
 
-    other_body : (wide : Bool) → is_memory kind ≡ false → is_message kind ≡ false → is_completion kind ≡ false → has_form kind wide ≡ true → length unused ≡ cond wide 9 5
+    other_body : (wide : Bool) → is_memory kind ≡ false → is_message kind ≡ false → is_completion kind ≡ false → is_fetch_add kind ≡ false → has_form kind wide ≡ true → length unused ≡ cond wide 9 5
         → packet_of (header (read_as wide Request) unused ++ payload) ≡ read_as wide Request
-    other_body wide memory message completion form long =
-        request_body wide Request 0 form (omega arith) completion long (body_request kind (request_bytes wide 0 (unused ++ payload)) memory message completion)
+    other_body wide memory message completion atomic form long =
+        request_body wide Request 0 form (omega arith) completion long (body_request kind (request_bytes wide 0 (unused ++ payload)) memory message completion atomic)
 
     completion_body : (completer : ℕ) (status : Status) (count lower : ℕ) → is_completion kind ≡ true → has_form kind false ≡ true → count < 4096 → lower < 128 → length unused < 2
         → packet_of (header (read_as false (Completion completer status count lower)) unused ++ payload) ≡ read_as false (Completion completer status count lower)
@@ -219,8 +245,12 @@ module _ (kind : Kind) (attributes : Attributes) (at : AddressType) (len : ℕ) 
   again_of : (wide : Bool) (body : Body) (unused : List ℕ) → has_form kind wide ≡ true → BodyFits kind wide body → HasUnused body wide unused → packet_of (header (read_as wide body) unused ++ payload) ≡ read_as wide body
   again_of true (Memory enables address) unused form fits none = memory_wide enables address fits.0 fits.1 form fits.3
   again_of false (Memory enables address) unused form fits none = memory_narrow enables address fits.0 fits.1 form fits.3
+  again_of wide (Atomic address) [] form fits long = absurd cc
+  again_of true (Atomic address) (byte_7 ∷ []) form fits long = atomic_wide byte_7 address fits.0 form fits.1
+  again_of false (Atomic address) (byte_7 ∷ []) form fits long = atomic_narrow byte_7 address fits.0 form fits.1
+  again_of wide (Atomic address) (byte_7 ∷ other ∷ more) form fits long = absurd (omega (arith, long))
   again_of wide (Message routing) unused form fits long = message_body unused wide routing fits.0 form fits.1 long
-  again_of wide Request unused form fits long = other_body unused wide fits.0 fits.1 fits.2 form long
+  again_of wide Request unused form fits long = other_body unused wide fits.0 fits.1 fits.2 fits.3 form long
   again_of true (Completion completer status count lower) unused form fits long = absurd (completion_is_narrow kind fits.0 form)
   again_of false (Completion completer status count lower) unused form fits long = completion_body unused completer status count lower fits.0 form fits.2 fits.3 long
 

@@ -4,10 +4,10 @@ use Rattle.fab_types.specs.declared.status.Status.TheVariants.{SC}
 use Rattle.tlp_view.specs.declared.kind.Kind.{Kind}
 use Rattle.tlp_view.specs.declared.kind.Kind.TheVariants.{MRd, MRdLk, MWr, IORd, IOWr, CfgRd0, CfgWr0, CfgRd1, CfgWr1, Msg, MsgD, Cpl, CplD, CplLk, CplDLk, FetchAdd, Swap, CAS}
 use Rattle.tlp_view.specs.Packet.{address_in, enables_in, status_in, byte_count_in, lower_address_in}
-use Rattle.tlp_view.specs.Kinds.{is_memory, is_completion}
+use Rattle.tlp_view.specs.Kinds.{has_address, is_memory, is_completion}
 use Rattle.tlp_view.specs.Bytes.{bits, address_at, enables_at, status_at, body_at}
 
-pub address_of_body : (kind : Kind) (bytes : List ℕ) → address_in (body_at kind bytes) ≡ cond (is_memory kind) (Some (address_at bytes)) None
+pub address_of_body : (kind : Kind) (bytes : List ℕ) → address_in (body_at kind bytes) ≡ cond (has_address kind) (Some (address_at bytes)) None
 address_of_body MRd bytes = refl
 address_of_body MRdLk bytes = refl
 address_of_body MWr bytes = refl

@@ -7,7 +7,7 @@ use Rattle.tlp_view.specs.declared.completion.CompletionHead.{CompletionHead}
 use Rattle.tlp_view.specs.declared.kind.Kind.{Kind}
 use Rattle.tlp_view.specs.declared.kind.Kind.TheVariants.{Cpl, CplD}
 use Rattle.tlp_view.specs.Packet.{Packet, dw_count}
-use Rattle.tlp_view.specs.Kinds.{kind_at, has_form, is_memory, is_completion}
+use Rattle.tlp_view.specs.Kinds.{kind_at, has_form, has_address, is_memory, is_completion}
 use Rattle.tlp_view.specs.Bytes.{bits, is_set, has_4dw_header_at, fmt_at, type_at, length_at, status_of}
 use Rattle.tlp_view.specs.Malformed.{is_short, has_bad_size, has_bad_common, has_bad_field, malformed_of_kind, malformed}
 use Rattle.tlp_view.specs.Spelling.{flag, status_bits, Spells}
@@ -15,9 +15,9 @@ use Rattle.tlp_view.specs.Completions.{completion, completion_bytes, HeadFits}
 use Rattle.tlp_view.proofs.KindFacts.{flag_small}
 use Rattle.tlp_view.proofs.Again.{status_again, status_small}
 
-well_formed_by : (kind : Kind) (bytes : List ℕ) → is_short bytes ≡ false → kind_at (fmt_at bytes) (type_at bytes) ≡ Some kind → has_bad_size kind bytes ≡ false → is_memory kind ≡ false → has_bad_field kind bytes ≡ false → malformed bytes ≡ None
+well_formed_by : (kind : Kind) (bytes : List ℕ) → is_short bytes ≡ false → kind_at (fmt_at bytes) (type_at bytes) ≡ Some kind → has_bad_size kind bytes ≡ false → is_memory kind ≡ false → has_address kind ≡ false → has_bad_field kind bytes ≡ false → malformed bytes ≡ None
 unfolding malformed malformed_of_kind
-well_formed_by kind bytes long is_kind size memory field = rw (long, is_kind, size, memory, field) refl
+well_formed_by kind bytes long is_kind size memory addressed field = rw (long, is_kind, size, memory, addressed, field) refl
 
 fine_flags : (i r n : Bool)
     → (is_set (4 * flag i) 7 || not (eqb (4 * flag i / 16 % 8) 0) || is_set (4 * flag i) 3 || is_set (4 * flag i) 1 || is_set (4 * flag i) 0 || is_set (32 * flag r + 16 * flag n + 4 * 0 + 0) 7 || is_set (32 * flag r + 16 * flag n + 4 * 0 + 0) 6) ≡ false
@@ -69,7 +69,7 @@ module _ (head : CompletionHead) (payload : List ℕ) (fits : HeadFits head) whe
       let whole : length bytes ≡ 12 + 0 = omega (arith, long) in
       let common = fine_common 10 0 head.attributes 0 (drop 4 bytes) (omega arith) in
       let status = fine_status head.status head.byte_count fits.byte_count in
-      well_formed_by Cpl bytes (fine_length bytes (omega (arith, whole)) refl) refl (fine_size bytes 0 whole (omega arith)) refl (or_from _ _ (or_from _ _ common refl) status)
+      well_formed_by Cpl bytes (fine_length bytes (omega (arith, whole)) refl) refl (fine_size bytes 0 whole (omega arith)) refl refl (or_from _ _ (or_from _ _ common refl) status)
 
   well_formed_data : (count : ℕ) → 0 < count → count ≤ 64 → length payload ≡ 4 * count → malformed (completion_bytes (of_kind CplD count)) ≡ None
   unfolding kind_at has_bad_size has_bad_field
@@ -82,7 +82,7 @@ module _ (head : CompletionHead) (payload : List ℕ) (fits : HeadFits head) whe
       let common = fine_common 74 (count % 256) head.attributes count (drop 4 bytes) (omega arith) in
       let status = fine_status head.status head.byte_count fits.byte_count in
       let size : has_bad_size CplD bytes ≡ false = rw counted (fine_size bytes (4 * count) whole (omega arith)) in
-      well_formed_by CplD bytes (fine_length bytes (omega (arith, whole)) refl) refl size refl (or_from _ _ (or_from _ _ common refl) status)
+      well_formed_by CplD bytes (fine_length bytes (omega (arith, whole)) refl) refl size refl refl (or_from _ _ (or_from _ _ common refl) status)
 
   -- a completion without payload is a Cpl, and else a CplD
   pub completion_well_formed : (count : ℕ) → count ≤ 64 → length payload ≡ 4 * count → malformed (completion_bytes (completion head count payload)) ≡ None

@@ -8,7 +8,7 @@ use Rattle.tlp_view.specs.Bytes.{address_at, packet_of}
 use Rattle.tlp_view.specs.Malformed.{has_bad_size, has_bad_enables, crosses, has_bad_common, has_bad_field, malformed_of_kind, malformed}
 use Rattle.tlp_view.specs.Packet.{address_in}
 use Rattle.tlp_view.specs.Runs.{runs}
-use Rattle.tlp_view.specs.Completions.{completion_bytes, refusal, read_completion}
+use Rattle.tlp_view.specs.Completions.{atomic_completion, completion_bytes, refusal, read_completion}
 
 -- eight bytes at 1000h, of which the second, the fourth, the fifth and the seventh are enabled
 abbrev write : List ℕ
@@ -70,3 +70,24 @@ read_answered = refl
 read_refused : completion_bytes (refusal 0 UR (packet_of read)) ≡ 0x0a ∷ 0 ∷ 0 ∷ 0 ∷ 0 ∷ 0 ∷ 0x20 ∷ 4 ∷ 3 ∷ 0 ∷ 0x20 ∷ 0 ∷ []
 unfolding kind_at address_at
 read_refused = refl
+
+-- eight bytes to be added at 1008h, with Tag 51h; byte 7 may be anything
+abbrev fetch_add : List ℕ
+fetch_add = 0x4c ∷ 0 ∷ 0 ∷ 2 ∷ 3 ∷ 0 ∷ 0x51 ∷ 0x33 ∷ 0 ∷ 0 ∷ 0x10 ∷ 8 ∷ 1 ∷ 0 ∷ 0 ∷ 0 ∷ 0 ∷ 0 ∷ 0 ∷ 0 ∷ []
+
+fetch_add_is_well_formed : malformed fetch_add ≡ None
+unfolding malformed kind_at malformed_of_kind has_bad_size has_bad_field has_bad_common address_at
+fetch_add_is_well_formed = refl
+
+eight_bytes_at_a_multiple_of_4 : malformed (0x4c ∷ 0 ∷ 0 ∷ 2 ∷ 3 ∷ 0 ∷ 0x51 ∷ 0 ∷ 0 ∷ 0 ∷ 0x10 ∷ 4 ∷ 1 ∷ 0 ∷ 0 ∷ 0 ∷ 0 ∷ 0 ∷ 0 ∷ 0 ∷ []) ≡ Some Field
+unfolding malformed kind_at malformed_of_kind has_bad_size has_bad_field has_bad_common address_at
+eight_bytes_at_a_multiple_of_4 = refl
+
+an_operand_of_three_dw : malformed (0x4c ∷ 0 ∷ 0 ∷ 3 ∷ 3 ∷ 0 ∷ 0x51 ∷ 0 ∷ 0 ∷ 0 ∷ 0x10 ∷ 0 ∷ 1 ∷ 0 ∷ 0 ∷ 0 ∷ 0 ∷ 0 ∷ 0 ∷ 0 ∷ 0 ∷ 0 ∷ 0 ∷ 0 ∷ []) ≡ Some Size
+unfolding malformed kind_at malformed_of_kind has_bad_size
+an_operand_of_three_dw = refl
+
+fetch_add_answered : completion_bytes (atomic_completion 0 (packet_of fetch_add) (0xff ∷ 0xff ∷ 0xff ∷ 0xff ∷ 0 ∷ 0 ∷ 0 ∷ 0 ∷ []))
+    ≡ 0x4a ∷ 0 ∷ 0 ∷ 2 ∷ 0 ∷ 0 ∷ 0 ∷ 8 ∷ 3 ∷ 0 ∷ 0x51 ∷ 0 ∷ 0xff ∷ 0xff ∷ 0xff ∷ 0xff ∷ 0 ∷ 0 ∷ 0 ∷ 0 ∷ []
+unfolding kind_at address_at
+fetch_add_answered = refl

@@ -3,7 +3,7 @@ use Rattle.std.proofs.Common.{◌≡◌, ℕ, zero, suc, ◌+◌, ◌*◌, ◌/�
 use Rattle.std.proofs.lemmas.Bool.{false≢true, true≢false, and_parts, eqb-true, agree_below_at}
 use Rattle.tlp_view.specs.declared.kind.Kind.{Kind}
 use Rattle.tlp_view.specs.declared.kind.Kind.TheVariants.{MRd, MRdLk, MWr, IORd, IOWr, CfgRd0, CfgWr0, CfgRd1, CfgWr1, Msg, MsgD, Cpl, CplD, CplLk, CplDLk, FetchAdd, Swap, CAS}
-use Rattle.tlp_view.specs.Kinds.{has_data, has_form, type_of, kind_at, is_memory, is_message, is_completion}
+use Rattle.tlp_view.specs.Kinds.{has_data, has_form, type_of, kind_at, has_address, is_memory, is_fetch_add, is_message, is_completion}
 use Rattle.tlp_view.specs.Bytes.{bits, is_set}
 use Rattle.tlp_view.specs.Spelling.{flag}
 
@@ -312,3 +312,143 @@ message_is_wide CplDLk h f = false≢true h
 message_is_wide FetchAdd h f = false≢true h
 message_is_wide Swap h f = false≢true h
 message_is_wide CAS h f = false≢true h
+
+pub fetch_add_no_memory : (kind : Kind) → is_fetch_add kind ≡ true → is_memory kind ≡ false
+fetch_add_no_memory MRd h = absurd (false≢true h)
+fetch_add_no_memory MRdLk h = absurd (false≢true h)
+fetch_add_no_memory MWr h = absurd (false≢true h)
+fetch_add_no_memory IORd h = absurd (false≢true h)
+fetch_add_no_memory IOWr h = absurd (false≢true h)
+fetch_add_no_memory CfgRd0 h = absurd (false≢true h)
+fetch_add_no_memory CfgWr0 h = absurd (false≢true h)
+fetch_add_no_memory CfgRd1 h = absurd (false≢true h)
+fetch_add_no_memory CfgWr1 h = absurd (false≢true h)
+fetch_add_no_memory Msg h = absurd (false≢true h)
+fetch_add_no_memory MsgD h = absurd (false≢true h)
+fetch_add_no_memory Cpl h = absurd (false≢true h)
+fetch_add_no_memory CplD h = absurd (false≢true h)
+fetch_add_no_memory CplLk h = absurd (false≢true h)
+fetch_add_no_memory CplDLk h = absurd (false≢true h)
+fetch_add_no_memory FetchAdd h = refl
+fetch_add_no_memory Swap h = absurd (false≢true h)
+fetch_add_no_memory CAS h = absurd (false≢true h)
+
+pub fetch_add_no_message : (kind : Kind) → is_fetch_add kind ≡ true → is_message kind ≡ false
+fetch_add_no_message MRd h = absurd (false≢true h)
+fetch_add_no_message MRdLk h = absurd (false≢true h)
+fetch_add_no_message MWr h = absurd (false≢true h)
+fetch_add_no_message IORd h = absurd (false≢true h)
+fetch_add_no_message IOWr h = absurd (false≢true h)
+fetch_add_no_message CfgRd0 h = absurd (false≢true h)
+fetch_add_no_message CfgWr0 h = absurd (false≢true h)
+fetch_add_no_message CfgRd1 h = absurd (false≢true h)
+fetch_add_no_message CfgWr1 h = absurd (false≢true h)
+fetch_add_no_message Msg h = absurd (false≢true h)
+fetch_add_no_message MsgD h = absurd (false≢true h)
+fetch_add_no_message Cpl h = absurd (false≢true h)
+fetch_add_no_message CplD h = absurd (false≢true h)
+fetch_add_no_message CplLk h = absurd (false≢true h)
+fetch_add_no_message CplDLk h = absurd (false≢true h)
+fetch_add_no_message FetchAdd h = refl
+fetch_add_no_message Swap h = absurd (false≢true h)
+fetch_add_no_message CAS h = absurd (false≢true h)
+
+pub fetch_add_no_completion : (kind : Kind) → is_fetch_add kind ≡ true → is_completion kind ≡ false
+fetch_add_no_completion MRd h = absurd (false≢true h)
+fetch_add_no_completion MRdLk h = absurd (false≢true h)
+fetch_add_no_completion MWr h = absurd (false≢true h)
+fetch_add_no_completion IORd h = absurd (false≢true h)
+fetch_add_no_completion IOWr h = absurd (false≢true h)
+fetch_add_no_completion CfgRd0 h = absurd (false≢true h)
+fetch_add_no_completion CfgWr0 h = absurd (false≢true h)
+fetch_add_no_completion CfgRd1 h = absurd (false≢true h)
+fetch_add_no_completion CfgWr1 h = absurd (false≢true h)
+fetch_add_no_completion Msg h = absurd (false≢true h)
+fetch_add_no_completion MsgD h = absurd (false≢true h)
+fetch_add_no_completion Cpl h = absurd (false≢true h)
+fetch_add_no_completion CplD h = absurd (false≢true h)
+fetch_add_no_completion CplLk h = absurd (false≢true h)
+fetch_add_no_completion CplDLk h = absurd (false≢true h)
+fetch_add_no_completion FetchAdd h = refl
+fetch_add_no_completion Swap h = absurd (false≢true h)
+fetch_add_no_completion CAS h = absurd (false≢true h)
+
+pub fetch_add_addressed : (kind : Kind) → is_fetch_add kind ≡ true → has_address kind ≡ true
+fetch_add_addressed MRd h = absurd (false≢true h)
+fetch_add_addressed MRdLk h = absurd (false≢true h)
+fetch_add_addressed MWr h = absurd (false≢true h)
+fetch_add_addressed IORd h = absurd (false≢true h)
+fetch_add_addressed IOWr h = absurd (false≢true h)
+fetch_add_addressed CfgRd0 h = absurd (false≢true h)
+fetch_add_addressed CfgWr0 h = absurd (false≢true h)
+fetch_add_addressed CfgRd1 h = absurd (false≢true h)
+fetch_add_addressed CfgWr1 h = absurd (false≢true h)
+fetch_add_addressed Msg h = absurd (false≢true h)
+fetch_add_addressed MsgD h = absurd (false≢true h)
+fetch_add_addressed Cpl h = absurd (false≢true h)
+fetch_add_addressed CplD h = absurd (false≢true h)
+fetch_add_addressed CplLk h = absurd (false≢true h)
+fetch_add_addressed CplDLk h = absurd (false≢true h)
+fetch_add_addressed FetchAdd h = refl
+fetch_add_addressed Swap h = absurd (false≢true h)
+fetch_add_addressed CAS h = absurd (false≢true h)
+
+pub completion_not_addressed : (kind : Kind) → is_completion kind ≡ true → has_address kind ≡ false
+completion_not_addressed MRd h = absurd (false≢true h)
+completion_not_addressed MRdLk h = absurd (false≢true h)
+completion_not_addressed MWr h = absurd (false≢true h)
+completion_not_addressed IORd h = absurd (false≢true h)
+completion_not_addressed IOWr h = absurd (false≢true h)
+completion_not_addressed CfgRd0 h = absurd (false≢true h)
+completion_not_addressed CfgWr0 h = absurd (false≢true h)
+completion_not_addressed CfgRd1 h = absurd (false≢true h)
+completion_not_addressed CfgWr1 h = absurd (false≢true h)
+completion_not_addressed Msg h = absurd (false≢true h)
+completion_not_addressed MsgD h = absurd (false≢true h)
+completion_not_addressed Cpl h = refl
+completion_not_addressed CplD h = refl
+completion_not_addressed CplLk h = refl
+completion_not_addressed CplDLk h = refl
+completion_not_addressed FetchAdd h = absurd (false≢true h)
+completion_not_addressed Swap h = absurd (false≢true h)
+completion_not_addressed CAS h = absurd (false≢true h)
+
+pub memory_addressed : (kind : Kind) → is_memory kind ≡ true → has_address kind ≡ true
+memory_addressed MRd h = refl
+memory_addressed MRdLk h = absurd (false≢true h)
+memory_addressed MWr h = refl
+memory_addressed IORd h = absurd (false≢true h)
+memory_addressed IOWr h = absurd (false≢true h)
+memory_addressed CfgRd0 h = absurd (false≢true h)
+memory_addressed CfgWr0 h = absurd (false≢true h)
+memory_addressed CfgRd1 h = absurd (false≢true h)
+memory_addressed CfgWr1 h = absurd (false≢true h)
+memory_addressed Msg h = absurd (false≢true h)
+memory_addressed MsgD h = absurd (false≢true h)
+memory_addressed Cpl h = absurd (false≢true h)
+memory_addressed CplD h = absurd (false≢true h)
+memory_addressed CplLk h = absurd (false≢true h)
+memory_addressed CplDLk h = absurd (false≢true h)
+memory_addressed FetchAdd h = absurd (false≢true h)
+memory_addressed Swap h = absurd (false≢true h)
+memory_addressed CAS h = absurd (false≢true h)
+
+pub memory_no_fetch_add : (kind : Kind) → is_memory kind ≡ true → is_fetch_add kind ≡ false
+memory_no_fetch_add MRd h = refl
+memory_no_fetch_add MRdLk h = absurd (false≢true h)
+memory_no_fetch_add MWr h = refl
+memory_no_fetch_add IORd h = absurd (false≢true h)
+memory_no_fetch_add IOWr h = absurd (false≢true h)
+memory_no_fetch_add CfgRd0 h = absurd (false≢true h)
+memory_no_fetch_add CfgWr0 h = absurd (false≢true h)
+memory_no_fetch_add CfgRd1 h = absurd (false≢true h)
+memory_no_fetch_add CfgWr1 h = absurd (false≢true h)
+memory_no_fetch_add Msg h = absurd (false≢true h)
+memory_no_fetch_add MsgD h = absurd (false≢true h)
+memory_no_fetch_add Cpl h = absurd (false≢true h)
+memory_no_fetch_add CplD h = absurd (false≢true h)
+memory_no_fetch_add CplLk h = absurd (false≢true h)
+memory_no_fetch_add CplDLk h = absurd (false≢true h)
+memory_no_fetch_add FetchAdd h = absurd (false≢true h)
+memory_no_fetch_add Swap h = absurd (false≢true h)
+memory_no_fetch_add CAS h = absurd (false≢true h)

@@ -12,5 +12,6 @@ pub mod Completed
 pub mod Sound
 pub mod Requested
 pub mod Moved
+pub mod Operands
 pub mod RunsWithin
 mod Examples

@@ -7,13 +7,13 @@ use Rattle.tlp_view.specs.declared.kind.Kind.{Kind}
 use Rattle.tlp_view.specs.declared.kind.Kind.TheVariants.{MRd, MWr}
 use Rattle.tlp_view.specs.declared.request.RequestHead.{RequestHead}
 use Rattle.tlp_view.specs.Packet.{Packet, dw_count}
-use Rattle.tlp_view.specs.Kinds.{kind_at, has_data, is_memory, is_completion, is_one_dw}
+use Rattle.tlp_view.specs.Kinds.{kind_at, has_data, has_address, is_memory, is_fetch_add, is_completion, is_one_dw}
 use Rattle.tlp_view.specs.Bytes.{bits, is_set, has_4dw_header_at, fmt_at, type_at, length_at, address_at, header_len, packet_of}
-use Rattle.tlp_view.specs.Malformed.{is_short, data_len, has_bad_size, has_bad_enables, crosses, has_bad_common, has_bad_field, malformed_of_kind, malformed}
+use Rattle.tlp_view.specs.Malformed.{is_short, data_len, has_bad_size, has_bad_enables, crosses, has_bad_common, has_bad_field, unit_of, malformed_of_kind, malformed}
 use Rattle.tlp_view.specs.Spelling.{flag, address_type_bits, address_bytes, header, Fits, Spells}
 use Rattle.tlp_view.specs.Requests.{is_high, request, packet_bytes, all_enabled, RequestFits}
 use Rattle.tlp_view.specs.RequestBuffer.{IsMade, IsRequestBuffer}
-use Rattle.tlp_view.proofs.KindFacts.{flag_small, kind_again, wide_again, memory_no_completion}
+use Rattle.tlp_view.proofs.KindFacts.{flag_small, kind_again, wide_again, memory_no_completion, memory_no_fetch_add}
 use Rattle.tlp_view.proofs.Again.{packet_of-header, address_wide, address_narrow, address_type_small}
 
 -- all bytes of a count of DW are well enabled
@@ -28,15 +28,15 @@ all_fine (suc (suc n)) address some =
 well_formed_by : (kind : Kind) (bytes : List ℕ) → is_short bytes ≡ false → kind_at (fmt_at bytes) (type_at bytes) ≡ Some kind → has_bad_size kind bytes ≡ false
     → (is_memory kind && has_bad_enables (dw_count (length_at bytes)) (address_at bytes) (slice_index bytes 7 % 16) (slice_index bytes 7 / 16)) ≡ false
     → (is_memory kind && crosses (dw_count (length_at bytes)) (address_at bytes)) ≡ false
-    → (is_memory kind && has_4dw_header_at bytes && ltb (address_at bytes) (2 ^ 32)) ≡ false
+    → (has_address kind && has_4dw_header_at bytes && ltb (address_at bytes) (2 ^ 32)) ≡ false
     → has_bad_field kind bytes ≡ false → malformed bytes ≡ None
 unfolding malformed malformed_of_kind
 well_formed_by kind bytes long is_kind size enables within high field = rw (long, is_kind, size, enables, within, high, field) refl
 
-sized_well : (kind : Kind) (bytes : List ℕ) (h n : ℕ) → header_len bytes ≡ h → data_len kind bytes ≡ n → length bytes ≡ h + n → n ≤ 256 → is_one_dw kind ≡ false → has_bad_size kind bytes ≡ false
+sized_well : (kind : Kind) (bytes : List ℕ) (h n : ℕ) → header_len bytes ≡ h → data_len kind bytes ≡ n → length bytes ≡ h + n → n ≤ 256 → is_one_dw kind ≡ false → is_fetch_add kind ≡ false → has_bad_size kind bytes ≡ false
 unfolding has_bad_size
-sized_well kind bytes h n header_is data_is whole small many =
-    or_from _ _ (or_from _ _ (ap not (eq-eqb (length bytes) (header_len bytes + data_len kind bytes) (omega (arith, whole, header_is, data_is)))) (le-ltb 256 (data_len kind bytes) (omega (arith, small, data_is)))) (and_left _ _ many)
+sized_well kind bytes h n header_is data_is whole small many plain =
+    or_from _ _ (or_from _ _ (ap not (eq-eqb (length bytes) (header_len bytes + data_len kind bytes) (omega (arith, whole, header_is, data_is)))) (le-ltb 256 (data_len kind bytes) (omega (arith, small, data_is)))) (or_from _ _ (and_left _ _ many) (and_left _ _ (and_left _ _ plain)))
 
 -- byte 1
 fine_first : (i : Bool) → (is_set (4 * flag i) 7 || not (eqb (bits (4 * flag i) 4 3) 0) || is_set (4 * flag i) 3 || is_set (4 * flag i) 1 || is_set (4 * flag i) 0) ≡ false
@@ -74,9 +74,11 @@ stays_within count address aligned within =
     let same : address / 4 * 4 ≡ address = omega (arith, aligned) in
     rw same (le-ltb 4096 _ within)
 
-fine_field : (kind : Kind) (bytes : List ℕ) → has_bad_common bytes ≡ false → address_at bytes % 4 ≡ 0 → is_completion kind ≡ false → has_bad_field kind bytes ≡ false
+fine_field : (kind : Kind) (bytes : List ℕ) → has_bad_common bytes ≡ false → address_at bytes % 4 ≡ 0 → is_fetch_add kind ≡ false → is_completion kind ≡ false → has_bad_field kind bytes ≡ false
 unfolding has_bad_field
-fine_field kind bytes common aligned other = or_from _ _ (or_from _ _ common (and_right _ _ (ap not (eq-eqb _ _ aligned)))) (and_left _ _ other)
+fine_field kind bytes common aligned plain other =
+    let whole : address_at bytes % unit_of kind (length_at bytes) ≡ 0 = ap (λ b. address_at bytes % cond (b && eqb (length_at bytes) 2) 8 4) plain ∙ aligned in
+    or_from _ _ (or_from _ _ common (and_right _ _ (ap not (eq-eqb _ _ whole)))) (and_left _ _ other)
 
 module _ (kind : Kind) (head : RequestHead) (count : ℕ) (payload : List ℕ) (made : IsMade kind count payload) (fits : RequestFits head count) where
   abbrev of_size : Bool → Packet
@@ -100,7 +102,7 @@ module _ (kind : Kind) (head : RequestHead) (count : ℕ) (payload : List ℕ) (
   data_now wide = ap (λ n. cond (has_data kind) (4 * n) 0) (count_now wide) ∙ sym made.sized
 
   fine_at : (wide : Bool) (h : ℕ) → is_short (bytes_of wide) ≡ false → header_len (bytes_of wide) ≡ h → length (bytes_of wide) ≡ h + length payload → address_at (bytes_of wide) ≡ head.address
-      → (is_memory kind && has_4dw_header_at (bytes_of wide) && ltb (address_at (bytes_of wide)) (2 ^ 32)) ≡ false → malformed (bytes_of wide) ≡ None
+      → (has_address kind && has_4dw_header_at (bytes_of wide) && ltb (address_at (bytes_of wide)) (2 ^ 32)) ≡ false → malformed (bytes_of wide) ≡ None
   fine_at wide h long header whole address high =
       let first : (16 * head.enables.last + head.enables.first) % 16 ≡ head.enables.first = omega (arith, fits.first) in
       let last : (16 * head.enables.last + head.enables.first) / 16 ≡ head.enables.last = omega (arith, fits.first) in
@@ -109,9 +111,9 @@ module _ (kind : Kind) (head : RequestHead) (count : ℕ) (payload : List ℕ) (
       let within : crosses (dw_count (length_at (bytes_of wide))) (address_at (bytes_of wide)) ≡ false = (λ i. crosses (count_now wide i) (address i)) ∙ stays_within count head.address fits.aligned fits.within in
       let common = fine_common (slice_index (bytes_of wide) 0) (slice_index (bytes_of wide) 3) head.attributes.id_based_ordering head.attributes.relaxed_ordering head.attributes.no_snoop head.address_type (count % 1024) (drop 4 (bytes_of wide)) field_small in
       well_formed_by kind (bytes_of wide) long (kind_again kind wide 0 (made.form wide) (omega arith))
-      (sized_well kind (bytes_of wide) h (length payload) header (data_now wide) whole made.small made.many)
+      (sized_well kind (bytes_of wide) h (length payload) header (data_now wide) whole made.small made.many (memory_no_fetch_add kind made.memory))
       (and_right _ _ enables) (and_right _ _ within) high
-      (fine_field kind (bytes_of wide) common (ap (λ a. a % 4) address ∙ fits.aligned) (memory_no_completion kind made.memory))
+      (fine_field kind (bytes_of wide) common (ap (λ a. a % 4) address ∙ fits.aligned) (memory_no_fetch_add kind made.memory) (memory_no_completion kind made.memory))
 
   wide_fine : 2 ^ 32 ≤ head.address → head.address < 2 ^ 64 → malformed (bytes_of true) ≡ None
   wide_fine high small =

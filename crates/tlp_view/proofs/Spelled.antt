@@ -6,14 +6,14 @@ use Rattle.std.specs.Int.{w32, w64, to_be_bytes}
 use Rattle.fab_types.specs.declared.status.Status.TheVariants.{SC}
 use Rattle.fab_types.specs.declared.faults.malformed.Malformed.TheVariants.{Size, Enables as BadEnables, Crosses, HighForm, Field}
 use Rattle.tlp_view.specs.declared.kind.Kind.{Kind}
-use Rattle.tlp_view.specs.Packet.{dw_count, Packet, Memory, Message, Request, Completion}
-use Rattle.tlp_view.specs.Kinds.{kind_at, has_data, has_form, type_of, is_memory, is_message, is_completion}
+use Rattle.tlp_view.specs.Packet.{dw_count, Packet, Memory, Atomic, Message, Request, Completion}
+use Rattle.tlp_view.specs.Kinds.{kind_at, has_data, has_form, type_of, has_address, is_memory, is_fetch_add, is_message, is_completion}
 use Rattle.tlp_view.specs.Bytes.{bits, is_set, be_u16_at, fmt_at, type_at, has_4dw_header_at, header_len, length_at, enables_at, address_at, status_at, body_at, packet_of_kind, packet_of}
 use Rattle.tlp_view.specs.Malformed.{has_bad_size, has_bad_enables, crosses, has_bad_common, has_bad_field, malformed_of_kind, malformed}
 use Rattle.tlp_view.specs.Spelling.{flag, routing_in, first_dw, other_dws, header, BodyFits, Fits, Spells}
-use Rattle.tlp_view.proofs.KindFacts.{byte_0-apart, type_any, memory_no_completion, message_no_completion, completion_is_narrow, message_is_wide}
+use Rattle.tlp_view.proofs.KindFacts.{byte_0-apart, type_any, memory_no_completion, message_no_completion, fetch_add_no_completion, completion_is_narrow, message_is_wide}
 use Rattle.tlp_view.proofs.WellFormed.{passes, view_of, packet-kind}
-use Rattle.tlp_view.proofs.Again.{body_memory, body_message, body_completion, body_request, address_wide, address_narrow}
+use Rattle.tlp_view.proofs.Again.{body_memory, body_atomic, body_message, body_completion, body_request, address_wide, address_narrow}
 use Rattle.tlp_view.proofs.HeaderBytes.{IsBytes, with_12, with_16, has_bad_1, byte_1-apart, byte_2-apart, byte_6-apart, high_apart, low_apart, four_fit, eight_fit, four_small, eight_small, lower_apart}
 
 module _ (kind : Kind) (b0 b1 b2 b3 : ℕ) (tail : List ℕ) where
@@ -101,11 +101,35 @@ module _ (kind : Kind) (b0 b1 b2 b3 b4 b5 b6 b7 b8 b9 b10 b11 : ℕ) (rest : Lis
         well_formed = well;
       }
 
-  request_narrow : is_memory kind ≡ false → is_message kind ≡ false → is_completion kind ≡ false → Spells bytes_narrow packet_narrow
-  request_narrow memory message other =
+  atomic_narrow : is_fetch_add kind ≡ true → Spells bytes_narrow packet_narrow
+  atomic_narrow atomic =
+      let other = fetch_add_no_completion kind atomic in
       let r = cond-false (is_completion kind) (be_u16_at bytes_narrow 8) (be_u16_at bytes_narrow 4) other in
       let g = cond-false (is_completion kind) b10 b6 other in
-      let is_body = body_request kind bytes_narrow memory message other in
+      let is_body = body_atomic kind bytes_narrow atomic in
+      let placed = address_narrow bytes_narrow wide in
+      let address : to_be_bytes w32 (address_at bytes_narrow) ≡ b8 ∷ b9 ∷ b10 ∷ b11 ∷ [] = be_bytes_4 (b8 ∷ b9 ∷ b10 ∷ b11 ∷ []) (address_at bytes_narrow) refl (four_fit b8 b9 b10 b11 (fits 8) (fits 9) (fits 10) (fits 11)) placed in
+      let high = high_apart b4 b5 (fits 5) in
+      let low = low_apart b4 b5 (fits 5) in
+      let shown : other_dws (has_4dw_header_at bytes_narrow) packet_narrow.requester packet_narrow.tag (body_at kind bytes_narrow) (b7 ∷ []) ++ drop (header_len bytes_narrow) bytes_narrow ≡ other_dws false (b4 * 256 + b5) b6 (Atomic (address_at bytes_narrow)) (b7 ∷ []) ++ rest =
+      λ i. other_dws (wide i) (r i) (g i) (is_body i) (b7 ∷ []) ++ drop (cond (wide i) 16 12) bytes_narrow in
+      let taken : other_dws false (b4 * 256 + b5) b6 (Atomic (address_at bytes_narrow)) (b7 ∷ []) ++ rest ≡ b4 ∷ b5 ∷ b6 ∷ b7 ∷ b8 ∷ b9 ∷ b10 ∷ b11 ∷ rest =
+      λ i. high i ∷ low i ∷ b6 ∷ b7 ∷ (address i ++ rest) in
+      let small : address_at bytes_narrow < 2 ^ 32 = rw placed (four_small b8 b9 b10 b11 (fits 8) (fits 9) (fits 10) (fits 11)) in
+      let body_fits : BodyFits kind (has_4dw_header_at bytes_narrow) (body_at kind bytes_narrow) = rw (is_body, wide) (atomic, small) in
+      record {
+        fits = fits_from kind bytes_narrow fits is_kind body_fits;
+        unused = b7 ∷ [];
+        has_unused = rw is_body refl;
+        put_together = together_narrow (b7 ∷ []) (shown ∙ taken);
+        well_formed = well;
+      }
+
+  request_narrow : is_memory kind ≡ false → is_message kind ≡ false → is_completion kind ≡ false → is_fetch_add kind ≡ false → Spells bytes_narrow packet_narrow
+  request_narrow memory message other atomic =
+      let r = cond-false (is_completion kind) (be_u16_at bytes_narrow 8) (be_u16_at bytes_narrow 4) other in
+      let g = cond-false (is_completion kind) b10 b6 other in
+      let is_body = body_request kind bytes_narrow memory message other atomic in
       let high = high_apart b4 b5 (fits 5) in
       let low = low_apart b4 b5 (fits 5) in
       let unused : List ℕ = b7 ∷ b8 ∷ b9 ∷ b10 ∷ b11 ∷ [] in
@@ -113,7 +137,7 @@ module _ (kind : Kind) (b0 b1 b2 b3 b4 b5 b6 b7 b8 b9 b10 b11 : ℕ) (rest : Lis
       λ i. other_dws (wide i) (r i) (g i) (is_body i) unused ++ drop (cond (wide i) 16 12) bytes_narrow in
       let taken : other_dws false (b4 * 256 + b5) b6 Request unused ++ rest ≡ b4 ∷ b5 ∷ b6 ∷ b7 ∷ b8 ∷ b9 ∷ b10 ∷ b11 ∷ rest =
       λ i. high i ∷ low i ∷ b6 ∷ (unused ++ rest) in
-      let body_fits : BodyFits kind (has_4dw_header_at bytes_narrow) (body_at kind bytes_narrow) = rw is_body (memory, message, other) in
+      let body_fits : BodyFits kind (has_4dw_header_at bytes_narrow) (body_at kind bytes_narrow) = rw is_body (memory, message, other, atomic) in
       record {
         fits = fits_from kind bytes_narrow fits is_kind body_fits;
         unused = unused;
@@ -189,11 +213,35 @@ module _ (kind : Kind) (b0 b1 b2 b3 b4 b5 b6 b7 b8 b9 b10 b11 b12 b13 b14 b15 : 
         well_formed = well;
       }
 
-  request_wide : is_memory kind ≡ false → is_message kind ≡ false → is_completion kind ≡ false → Spells bytes_wide packet_wide
-  request_wide memory message other =
+  atomic_wide : is_fetch_add kind ≡ true → Spells bytes_wide packet_wide
+  atomic_wide atomic =
+      let other = fetch_add_no_completion kind atomic in
       let r = cond-false (is_completion kind) (be_u16_at bytes_wide 8) (be_u16_at bytes_wide 4) other in
       let g = cond-false (is_completion kind) b10 b6 other in
-      let is_body = body_request kind bytes_wide memory message other in
+      let is_body = body_atomic kind bytes_wide atomic in
+      let placed = address_wide bytes_wide wide in
+      let address : to_be_bytes w64 (address_at bytes_wide) ≡ b8 ∷ b9 ∷ b10 ∷ b11 ∷ b12 ∷ b13 ∷ b14 ∷ b15 ∷ [] = be_bytes_8 (b8 ∷ b9 ∷ b10 ∷ b11 ∷ b12 ∷ b13 ∷ b14 ∷ b15 ∷ []) (address_at bytes_wide) refl (eight_fit b8 b9 b10 b11 b12 b13 b14 b15 (fits 8) (fits 9) (fits 10) (fits 11) (fits 12) (fits 13) (fits 14) (fits 15)) placed in
+      let high = high_apart b4 b5 (fits 5) in
+      let low = low_apart b4 b5 (fits 5) in
+      let shown : other_dws (has_4dw_header_at bytes_wide) packet_wide.requester packet_wide.tag (body_at kind bytes_wide) (b7 ∷ []) ++ drop (header_len bytes_wide) bytes_wide ≡ other_dws true (b4 * 256 + b5) b6 (Atomic (address_at bytes_wide)) (b7 ∷ []) ++ rest =
+      λ i. other_dws (wide i) (r i) (g i) (is_body i) (b7 ∷ []) ++ drop (cond (wide i) 16 12) bytes_wide in
+      let taken : other_dws true (b4 * 256 + b5) b6 (Atomic (address_at bytes_wide)) (b7 ∷ []) ++ rest ≡ b4 ∷ b5 ∷ b6 ∷ b7 ∷ b8 ∷ b9 ∷ b10 ∷ b11 ∷ b12 ∷ b13 ∷ b14 ∷ b15 ∷ rest =
+      λ i. high i ∷ low i ∷ b6 ∷ b7 ∷ (address i ++ rest) in
+      let small : address_at bytes_wide < 2 ^ 64 = rw placed (eight_small b8 b9 b10 b11 b12 b13 b14 b15 (fits 8) (fits 9) (fits 10) (fits 11) (fits 12) (fits 13) (fits 14) (fits 15)) in
+      let body_fits : BodyFits kind (has_4dw_header_at bytes_wide) (body_at kind bytes_wide) = rw (is_body, wide) (atomic, small) in
+      record {
+        fits = fits_from kind bytes_wide fits is_kind body_fits;
+        unused = b7 ∷ [];
+        has_unused = rw is_body refl;
+        put_together = together_wide (b7 ∷ []) (shown ∙ taken);
+        well_formed = well;
+      }
+
+  request_wide : is_memory kind ≡ false → is_message kind ≡ false → is_completion kind ≡ false → is_fetch_add kind ≡ false → Spells bytes_wide packet_wide
+  request_wide memory message other atomic =
+      let r = cond-false (is_completion kind) (be_u16_at bytes_wide 8) (be_u16_at bytes_wide 4) other in
+      let g = cond-false (is_completion kind) b10 b6 other in
+      let is_body = body_request kind bytes_wide memory message other atomic in
       let high = high_apart b4 b5 (fits 5) in
       let low = low_apart b4 b5 (fits 5) in
       let unused : List ℕ = b7 ∷ b8 ∷ b9 ∷ b10 ∷ b11 ∷ b12 ∷ b13 ∷ b14 ∷ b15 ∷ [] in
@@ -201,7 +249,7 @@ module _ (kind : Kind) (b0 b1 b2 b3 b4 b5 b6 b7 b8 b9 b10 b11 b12 b13 b14 b15 : 
       λ i. other_dws (wide i) (r i) (g i) (is_body i) unused ++ drop (cond (wide i) 16 12) bytes_wide in
       let taken : other_dws true (b4 * 256 + b5) b6 Request unused ++ rest ≡ b4 ∷ b5 ∷ b6 ∷ b7 ∷ b8 ∷ b9 ∷ b10 ∷ b11 ∷ b12 ∷ b13 ∷ b14 ∷ b15 ∷ rest =
       λ i. high i ∷ low i ∷ b6 ∷ (unused ++ rest) in
-      let body_fits : BodyFits kind (has_4dw_header_at bytes_wide) (body_at kind bytes_wide) = rw is_body (memory, message, other) in
+      let body_fits : BodyFits kind (has_4dw_header_at bytes_wide) (body_at kind bytes_wide) = rw is_body (memory, message, other, atomic) in
       record {
         fits = fits_from kind bytes_wide fits is_kind body_fits;
         unused = unused;
@@ -244,7 +292,7 @@ all_pass a b c d e v w x y z fine =
 fine_field : (kind : Kind) (bytes : List ℕ) → malformed_of_kind kind bytes ≡ None → has_bad_field kind bytes ≡ false
 unfolding malformed_of_kind
 fine_field kind bytes fine =
-    all_pass (has_bad_size kind bytes) (is_memory kind && has_bad_enables (dw_count (length_at bytes)) (address_at bytes) (slice_index bytes 7 % 16) (slice_index bytes 7 / 16)) (is_memory kind && crosses (dw_count (length_at bytes)) (address_at bytes)) (is_memory kind && has_4dw_header_at bytes && nat_lt (address_at bytes) (2 ^ 32)) (has_bad_field kind bytes) Size BadEnables Crosses HighForm Field fine
+    all_pass (has_bad_size kind bytes) (is_memory kind && has_bad_enables (dw_count (length_at bytes)) (address_at bytes) (slice_index bytes 7 % 16) (slice_index bytes 7 / 16)) (is_memory kind && crosses (dw_count (length_at bytes)) (address_at bytes)) (has_address kind && has_4dw_header_at bytes && nat_lt (address_at bytes) (2 ^ 32)) (has_bad_field kind bytes) Size BadEnables Crosses HighForm Field fine
 
 -- what is to be shown of bytes, whose first ones are taken by name
 abbrev IsSpelled : Kind → Bool → List ℕ → Type 0
@@ -261,7 +309,10 @@ spelled_narrow kind bytes long = with_12 (IsSpelled kind false) (λ b0 b1 b2 b3 
         | inl message ↦ absurd (message_is_wide kind message (has_form_at kind (b0 ∷ b1 ∷ b2 ∷ b3 ∷ b4 ∷ b5 ∷ b6 ∷ b7 ∷ b8 ∷ b9 ∷ b10 ∷ b11 ∷ rest) false fits wide is_kind))
         | inr message ↦ elim (cases_Bool (is_completion kind)) [
           | inl completion ↦ completion_narrow kind b0 b1 b2 b3 b4 b5 b6 b7 b8 b9 b10 b11 rest fits wide is_kind fine well completion
-          | inr other ↦ request_narrow kind b0 b1 b2 b3 b4 b5 b6 b7 b8 b9 b10 b11 rest fits wide is_kind fine well memory message other
+          | inr other ↦ elim (cases_Bool (is_fetch_add kind)) [
+            | inl atomic ↦ atomic_narrow kind b0 b1 b2 b3 b4 b5 b6 b7 b8 b9 b10 b11 rest fits wide is_kind fine well atomic
+            | inr plain ↦ request_narrow kind b0 b1 b2 b3 b4 b5 b6 b7 b8 b9 b10 b11 rest fits wide is_kind fine well memory message other plain
+          ]
         ]
       ]
     ]) bytes long
@@ -274,7 +325,10 @@ spelled_wide kind bytes long = with_16 (IsSpelled kind true) (λ b0 b1 b2 b3 b4 
         | inl message ↦ message_wide kind b0 b1 b2 b3 b4 b5 b6 b7 b8 b9 b10 b11 b12 b13 b14 b15 rest fits wide is_kind fine well message
         | inr message ↦ elim (cases_Bool (is_completion kind)) [
           | inl completion ↦ absurd (completion_is_narrow kind completion (has_form_at kind (b0 ∷ b1 ∷ b2 ∷ b3 ∷ b4 ∷ b5 ∷ b6 ∷ b7 ∷ b8 ∷ b9 ∷ b10 ∷ b11 ∷ b12 ∷ b13 ∷ b14 ∷ b15 ∷ rest) true fits wide is_kind))
-          | inr other ↦ request_wide kind b0 b1 b2 b3 b4 b5 b6 b7 b8 b9 b10 b11 b12 b13 b14 b15 rest fits wide is_kind fine well memory message other
+          | inr other ↦ elim (cases_Bool (is_fetch_add kind)) [
+            | inl atomic ↦ atomic_wide kind b0 b1 b2 b3 b4 b5 b6 b7 b8 b9 b10 b11 b12 b13 b14 b15 rest fits wide is_kind fine well atomic
+            | inr plain ↦ request_wide kind b0 b1 b2 b3 b4 b5 b6 b7 b8 b9 b10 b11 b12 b13 b14 b15 rest fits wide is_kind fine well memory message other plain
+          ]
         ]
       ]
     ]) bytes long

@@ -9,8 +9,8 @@ use Rattle.tlp_view.specs.declared.attributes.Attributes.{Attributes}
 use Rattle.tlp_view.specs.declared.enables.Enables.{Enables}
 use Rattle.tlp_view.specs.declared.kind.Kind.{Kind}
 use Rattle.tlp_view.specs.declared.kind.Kind.TheVariants.{MRd}
-use Rattle.tlp_view.specs.Packet.{Packet, Body, Memory, Message, Request, Completion}
-use Rattle.tlp_view.specs.Kinds.{kind_at, is_memory, is_message, is_completion}
+use Rattle.tlp_view.specs.Packet.{Packet, Body, Memory, Atomic, Message, Request, Completion}
+use Rattle.tlp_view.specs.Kinds.{kind_at, is_memory, is_fetch_add, is_message, is_completion}
 
 -- so many bits of a byte, from the bit low on
 abbrev pub bits : ℕ → ℕ → ℕ → ℕ
@@ -50,7 +50,7 @@ address_type_of field = if field == 0 then Untranslated else (if field == 1 then
 abbrev pub length_at : List ℕ → ℕ
 length_at bytes = bits (slice_index bytes 2) 0 2 * 256 + slice_index bytes 3
 
--- requests: byte enables in byte 7, and the address from byte 8 on
+-- requests: byte enables in byte 7, which an AtomicOp doesn't have, and the address from byte 8 on
 abbrev pub enables_at : List ℕ → Enables
 enables_at bytes = record { first = slice_index bytes 7 % 16; last = slice_index bytes 7 / 16 }
 
@@ -72,7 +72,8 @@ body_at kind bytes =
     if is_memory kind then Memory (enables_at bytes) (address_at bytes)
     else (if is_message kind then Message (bits (slice_index bytes 0) 0 3)
     else (if is_completion kind then Completion (be_u16_at bytes 4) (unwrap_or (status_at bytes) SC) (bits (slice_index bytes 6) 0 4 * 256 + slice_index bytes 7) (slice_index bytes 11 % 128)
-    else Request))
+    else (if is_fetch_add kind then Atomic (address_at bytes)
+    else Request)))
 
 -- the packet that well-formed bytes are
 abbrev pub packet_of_kind : Kind → List ℕ → Packet

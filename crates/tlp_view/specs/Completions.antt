@@ -48,6 +48,20 @@ read_completion completer t bytes = record {
   payload = bytes;
 }
 
+-- the successful completion of an AtomicOp, with what stood there; Byte Count is its size (2.2.9)
+abbrev pub atomic_completion : ℕ → Packet → List ℕ → Packet
+atomic_completion completer t bytes = record {
+  kind = CplD;
+  has_4dw_header = false;
+  attributes = t.attributes;
+  address_type = Untranslated;
+  length = length bytes / 4;
+  requester = t.requester;
+  tag = t.tag;
+  body = Completion completer SC (length bytes) 0;
+  payload = bytes;
+}
+
 -- a completion with no data
 abbrev pub refusal : ℕ → Status → Packet → Packet
 refusal completer status t = record {

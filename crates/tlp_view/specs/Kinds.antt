@@ -52,6 +52,18 @@ is_memory MRd = true
 is_memory MWr = true
 is_memory _ = false
 
+-- the one AtomicOp whose address is read
+abbrev pub is_fetch_add : Kind → Bool
+is_fetch_add FetchAdd = true
+is_fetch_add _ = false
+
+-- are the address and AT read?
+abbrev pub has_address : Kind → Bool
+has_address MRd = true
+has_address MWr = true
+has_address FetchAdd = true
+has_address _ = false
+
 abbrev pub is_message : Kind → Bool
 is_message Msg = true
 is_message MsgD = true

@@ -10,6 +10,8 @@ use Rattle.tlp_view.specs.declared.kind.Kind.{Kind}
 pub data Body : Type 0 where
   -- of a memory read or write: its byte enables, and its address in bytes
   Memory : Enables → ℕ → Body
+  -- of a FetchAdd: its address in bytes
+  Atomic : ℕ → Body
   -- of a message: the low three bits of Type, how it is routed
   Message : ℕ → Body
   -- of any other request: none that is read here
@@ -33,33 +35,38 @@ pub record Packet : Type 0 where
 abbrev pub dw_count : ℕ → ℕ
 dw_count length = if length == 0 then 1024 else length
 
--- the address of the first byte asked for or carried, the enables and so on, where the kind has them
+-- the address of the first byte asked for, carried or added to, the enables and so on, where the kind has them
 abbrev pub address_in : Body → Option ℕ
 address_in (Memory enables address) = Some address
+address_in (Atomic address) = Some address
 address_in (Message routing) = None
 address_in Request = None
 address_in (Completion completer status count lower) = None
 
 abbrev pub enables_in : Body → Option Enables
 enables_in (Memory enables address) = Some enables
+enables_in (Atomic address) = None
 enables_in (Message routing) = None
 enables_in Request = None
 enables_in (Completion completer status count lower) = None
 
 abbrev pub status_in : Body → Option Status
 status_in (Memory enables address) = None
+status_in (Atomic address) = None
 status_in (Message routing) = None
 status_in Request = None
 status_in (Completion completer status count lower) = Some status
 
 abbrev pub byte_count_in : Body → Option ℕ
 byte_count_in (Memory enables address) = None
+byte_count_in (Atomic address) = None
 byte_count_in (Message routing) = None
 byte_count_in Request = None
 byte_count_in (Completion completer status count lower) = Some count
 
 abbrev pub lower_address_in : Body → Option ℕ
 lower_address_in (Memory enables address) = None
+lower_address_in (Atomic address) = None
 lower_address_in (Message routing) = None
 lower_address_in Request = None
 lower_address_in (Completion completer status count lower) = Some lower

@@ -4,7 +4,7 @@ use Rattle.tlp_view.specs.declared.enables.Enables.{Enables}
 use Rattle.tlp_view.specs.declared.kind.Kind.{Kind}
 use Rattle.tlp_view.specs.declared.kind.Kind.TheVariants.{MRd, MWr}
 use Rattle.tlp_view.specs.declared.request.RequestHead.{RequestHead}
-use Rattle.tlp_view.specs.Packet.{Packet, Body, Memory, Message, Request, Completion, address_in}
+use Rattle.tlp_view.specs.Packet.{Packet, Body, Memory, Atomic, Message, Request, Completion, address_in}
 use Rattle.tlp_view.specs.Malformed.{has_bad_enables}
 use Rattle.tlp_view.specs.Spelling.{header}
 
@@ -37,6 +37,7 @@ write_request head payload = request MWr head (length payload / 4) payload
 -- the same at another address: all else of a memory request is kept
 abbrev pub moved_body : Body → ℕ → Body
 moved_body (Memory enables old) address = Memory enables address
+moved_body (Atomic old) address = Atomic address
 moved_body (Message routing) address = Message routing
 moved_body Request address = Request
 moved_body (Completion completer status count lower) address = Completion completer status count lower

@@ -6,8 +6,8 @@ use Rattle.fab_types.specs.declared.head.AddressType.TheVariants.{Untranslated, 
 use Rattle.fab_types.specs.declared.status.Status.{Status}
 use Rattle.fab_types.specs.declared.status.Status.TheVariants.{SC, UR, CRS, CA}
 use Rattle.tlp_view.specs.declared.kind.Kind.{Kind}
-use Rattle.tlp_view.specs.Packet.{Packet, Body, Memory, Message, Request, Completion}
-use Rattle.tlp_view.specs.Kinds.{has_data, has_form, type_of, is_memory, is_message, is_completion}
+use Rattle.tlp_view.specs.Packet.{Packet, Body, Memory, Atomic, Message, Request, Completion}
+use Rattle.tlp_view.specs.Kinds.{has_data, has_form, type_of, is_memory, is_fetch_add, is_message, is_completion}
 use Rattle.tlp_view.specs.Malformed.{malformed}
 
 abbrev pub flag : Bool → ℕ
@@ -27,6 +27,7 @@ status_bits CA = 4
 
 abbrev pub routing_in : Body → ℕ
 routing_in (Memory enables address) = 0
+routing_in (Atomic address) = 0
 routing_in (Message routing) = routing
 routing_in Request = 0
 routing_in (Completion completer status count lower) = 0
@@ -49,6 +50,7 @@ address_bytes has_4dw_header address = if has_4dw_header then to_be_bytes w64 ad
 -- the rest of the header; unused are the bytes, and of a completion the one bit, that have no field
 abbrev pub other_dws : Bool → ℕ → ℕ → Body → List ℕ → List ℕ
 other_dws has_4dw_header requester tag (Memory enables address) unused = be_u16 requester ++ tag ∷ (16 * enables.last + enables.first) ∷ address_bytes has_4dw_header address
+other_dws has_4dw_header requester tag (Atomic address) unused = be_u16 requester ++ tag ∷ unused ++ address_bytes has_4dw_header address
 other_dws has_4dw_header requester tag (Message routing) unused = be_u16 requester ++ tag ∷ unused
 other_dws has_4dw_header requester tag Request unused = be_u16 requester ++ tag ∷ unused
 other_dws has_4dw_header requester tag (Completion completer status count lower) unused =
@@ -57,9 +59,10 @@ other_dws has_4dw_header requester tag (Completion completer status count lower)
 abbrev pub header : Packet → List ℕ → List ℕ
 header t unused = first_dw t ++ other_dws t.has_4dw_header t.requester t.tag t.body unused
 
--- how many bytes of a request have no field: byte 7 and the DWs after it
+-- how many bytes of a request have no field: byte 7 and the DWs after it, but an address
 abbrev pub HasUnused : Body → Bool → List ℕ → Type 0
 HasUnused (Memory enables address) has_4dw_header unused = unused ≡ []
+HasUnused (Atomic address) has_4dw_header unused = length unused ≡ 1
 HasUnused (Message routing) has_4dw_header unused = length unused ≡ (if has_4dw_header then 9 else 5)
 HasUnused Request has_4dw_header unused = length unused ≡ (if has_4dw_header then 9 else 5)
 HasUnused (Completion completer status count lower) has_4dw_header unused = length unused < 2
@@ -67,8 +70,9 @@ HasUnused (Completion completer status count lower) has_4dw_header unused = leng
 -- each field has a value of its width
 abbrev pub BodyFits : Kind → Bool → Body → Type 0
 BodyFits kind has_4dw_header (Memory enables address) = (is_memory kind ≡ true) × (enables.first < 16) × (enables.last < 16) × (address < (if has_4dw_header then 2 ^ 64 else 2 ^ 32))
+BodyFits kind has_4dw_header (Atomic address) = (is_fetch_add kind ≡ true) × (address < (if has_4dw_header then 2 ^ 64 else 2 ^ 32))
 BodyFits kind has_4dw_header (Message routing) = (is_message kind ≡ true) × (routing < 8)
-BodyFits kind has_4dw_header Request = (is_memory kind ≡ false) × (is_message kind ≡ false) × (is_completion kind ≡ false)
+BodyFits kind has_4dw_header Request = (is_memory kind ≡ false) × (is_message kind ≡ false) × (is_completion kind ≡ false) × (is_fetch_add kind ≡ false)
 BodyFits kind has_4dw_header (Completion completer status count lower) = (is_completion kind ≡ true) × (completer < 2 ^ 16) × (count < 2 ^ 12) × (lower < 2 ^ 7)
 
 pub record Fits (t : Packet) : Type 0 where

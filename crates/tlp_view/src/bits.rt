@@ -85,7 +85,7 @@ pub(crate) fn enables(bytes: &[u8]) -> Enables
     }
 }
 
-/// The address of a memory request, in bytes.
+/// The address of a memory request or a FetchAdd, in bytes.
 #[tactic(auto, unfolding(crate::specs::Bytes::address_at))]
 pub(crate) fn address(bytes: &[u8]) -> u64
     requires { HasHeader bytes.now }

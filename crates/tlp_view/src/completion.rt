@@ -1,6 +1,6 @@
 //! Completions that answer a request (PCIe 4.0, 2.2.9 and 2.3.1).
 
-ghost use Rattle.std.specs.Prelude.{◌≡◌, ◌<◌, ◌≤◌, ◌*◌, ◌^◌, [], ◌++◌, length, replicate};
+ghost use Rattle.std.specs.Prelude.{true, ◌≡◌, ◌<◌, ◌≤◌, ◌*◌, ◌^◌, [], ◌++◌, length, replicate};
 ghost use Rattle.tlp_view.specs.Spelling.{be_u16, header, status_bits};
 ghost use Rattle.tlp_view.specs.Completions.{completion, HeadFits, first_place, last_end, byte_count, lower_address};
 
@@ -31,8 +31,9 @@ pub struct CompletionHead {
 
 impl CompletionHead {
     ghost use Rattle.std.specs.Prelude.{ℕ, List, [], length};
+    ghost use Rattle.tlp_view.specs.Kinds.{is_fetch_add};
     ghost use Rattle.tlp_view.specs.Packet.{dw_count};
-    ghost use Rattle.tlp_view.specs.Completions.{completion_of, read_completion, refusal};
+    ghost use Rattle.tlp_view.specs.Completions.{atomic_completion, completion_of, read_completion, refusal};
 
     /// Of the successful completion of this read, with its data.
     pub fn of_read(completer: Bdf, request: &TlpView) -> CompletionHead
@@ -55,6 +56,25 @@ impl CompletionHead {
             requester: request.requester(),
             tag: request.tag(),
             lower_address,
+            attributes: request.attr(),
+        }
+    }
+
+    /// Of the successful completion of this FetchAdd, with the bytes that stood there, 4 or 8: as many as it carries.
+    #[tactic(auto, using(crate::proofs::Operands::operand_size))]
+    pub fn of_atomic(completer: Bdf, request: &TlpView) -> CompletionHead
+        requires { is_fetch_add (request.now).kind ≡ true }
+        ensures value { (payload : List ℕ) → length payload ≡ 4 * dw_count (request.now).length → completion_of result payload ≡ atomic_completion completer request.now payload }
+        ensures fits { HeadFits result }
+        ensures short { dw_count (request.now).length ≤ 2 }
+    {
+        CompletionHead {
+            completer,
+            status: Status::SC,
+            byte_count: request.payload().len() as u16,
+            requester: request.requester(),
+            tag: request.tag(),
+            lower_address: 0,
             attributes: request.attr(),
         }
     }

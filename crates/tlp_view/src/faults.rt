@@ -1,9 +1,9 @@
 //! Whether bytes are a well-formed packet. The conditions and their order are this project's own,
 //! after PCIe 4.0, 2.2.1 to 2.2.9.
 
-ghost use Rattle.std.specs.Prelude.{◌≡◌, ◌≤◌, length};
+ghost use Rattle.std.specs.Prelude.{◌≡◌, ◌<◌, ◌≤◌, length};
 ghost use Rattle.tlp_view.specs.Bytes.{HasHeader};
-ghost use Rattle.tlp_view.specs.Malformed.{is_short, data_len, has_bad_size, reaches_end, begins_at_start, has_bad_enables, crosses, has_bad_common, has_bad_field, malformed_of_kind};
+ghost use Rattle.tlp_view.specs.Malformed.{is_short, data_len, has_bad_length, has_bad_size, unit_of, reaches_end, begins_at_start, has_bad_enables, crosses, has_bad_common, has_bad_field, malformed_of_kind};
 
 use crate::bits::{address, dw_count, has_4dw_header, is_set, length_field, status};
 use crate::kind::Kind;
@@ -28,6 +28,13 @@ fn data_len(kind: Kind, bytes: &[u8]) -> usize
     }
 }
 
+/// Is it a Length that the kind hasn't?
+fn has_bad_length(kind: Kind, length: u16) -> bool
+    ensures { result ≡ has_bad_length kind length }
+{
+    (kind.is_one_dw() && length != 1) || (kind.is_fetch_add() && length != 1 && length != 2)
+}
+
 #[tactic(auto, unfolding(crate::specs::Malformed::has_bad_size))]
 fn has_bad_size(kind: Kind, bytes: &[u8]) -> bool
     requires { 12 ≤ length bytes.now }
@@ -35,7 +42,7 @@ fn has_bad_size(kind: Kind, bytes: &[u8]) -> bool
 {
     let header = if has_4dw_header(bytes) { 16 } else { 12 };
     let data = data_len(kind, bytes);
-    bytes.len() != header + data || 256 < data || (kind.is_one_dw() && length_field(bytes) != 1)
+    bytes.len() != header + data || 256 < data || has_bad_length(kind, length_field(bytes))
 }
 
 /// Do the enables begin somewhere in a DW and go on to its end?
@@ -86,13 +93,25 @@ fn has_bad_common(bytes: &[u8]) -> bool
         || is_set(bytes[2], 6)
 }
 
+/// What an address is a multiple of, in bytes.
+fn unit_of(kind: Kind, length: u16) -> u64
+    ensures value { result ≡ unit_of kind length }
+    ensures some { 0 < result }
+{
+    if kind.is_fetch_add() && length == 2 {
+        8
+    } else {
+        4
+    }
+}
+
 #[tactic(auto, unfolding(crate::specs::Malformed::has_bad_field))]
 fn has_bad_field(kind: Kind, bytes: &[u8]) -> bool
     requires { HasHeader bytes.now }
     ensures { result ≡ has_bad_field kind bytes.now }
 {
     has_bad_common(bytes)
-        || (kind.is_memory() && address(bytes) % 4 != 0)
+        || (kind.has_address() && address(bytes) % unit_of(kind, length_field(bytes)) != 0)
         || (kind.is_completion() && (is_set(bytes[6], 4) || status(bytes[6] / 32).is_none()))
 }
 
@@ -113,9 +132,9 @@ pub(crate) fn fault_of(kind: Kind, bytes: &[u8]) -> Option<Malformed>
         if crosses(count, address) {
             return Some(Malformed::Crosses);
         }
-        if has_4dw_header(bytes) && address < 0x1_0000_0000 {
-            return Some(Malformed::HighForm);
-        }
+    }
+    if kind.has_address() && has_4dw_header(bytes) && address(bytes) < 0x1_0000_0000 {
+        return Some(Malformed::HighForm);
     }
     if has_bad_field(kind, bytes) {
         Some(Malformed::Field)

@@ -45,7 +45,7 @@ pub enum Kind {
 
 impl Kind {
     ghost use Rattle.std.specs.Prelude.{◌≡◌, Option};
-    ghost use Rattle.tlp_view.specs.Kinds.{class_of_kind, has_data, is_memory, is_completion, is_one_dw, kind_at, either_size, small, large};
+    ghost use Rattle.tlp_view.specs.Kinds.{class_of_kind, has_data, has_address, is_fetch_add, is_memory, is_completion, is_one_dw, kind_at, either_size, small, large};
 
     /// The class that decides its order and its credits (PCIe 4.0, 2.4.1).
     pub fn class(self) -> Class
@@ -93,6 +93,26 @@ impl Kind {
     {
         match self {
             Kind::MRd | Kind::MWr => true,
+            _ => false,
+        }
+    }
+
+    /// Is it the AtomicOp that the host serves, whose address is read?
+    pub fn is_fetch_add(self) -> bool
+        ensures { result ≡ is_fetch_add self }
+    {
+        match self {
+            Kind::FetchAdd => true,
+            _ => false,
+        }
+    }
+
+    /// Are its address and AT read?
+    pub fn has_address(self) -> bool
+        ensures { result ≡ has_address self }
+    {
+        match self {
+            Kind::MRd | Kind::MWr | Kind::FetchAdd => true,
             _ => false,
         }
     }

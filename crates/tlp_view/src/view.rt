@@ -112,23 +112,23 @@ impl<'a> TlpView<'a> {
         }
     }
 
-    /// Of a memory read or write: the address in bytes, a multiple of 4.
+    /// Of a memory read or write or a FetchAdd: the address in bytes, a multiple of 4.
     #[tactic(auto, using(crate::proofs::Bodies::address_of_body))]
     pub fn address(&self) -> Option<u64>
         ensures { result ≡ address_in self.now.body }
     {
-        if self.kind.is_memory() {
+        if self.kind.has_address() {
             Some(bits::address(self.bytes))
         } else {
             None
         }
     }
 
-    /// Of a memory read or write: is the address translated (PCIe 4.0, 10.2.1)?
+    /// Of a memory read or write or a FetchAdd: is the address translated (PCIe 4.0, 10.2.1)?
     pub fn at(&self) -> Option<AddressType>
         ensures { result ≡ address_type_in self.now }
     {
-        if self.kind.is_memory() {
+        if self.kind.has_address() {
             Some(bits::address_type(self.bytes[2] / 4 % 4))
         } else {
             None

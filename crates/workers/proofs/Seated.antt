@@ -6,12 +6,12 @@ use Rattle.std.proofs.lemmas.List.Elements.{filter_map-append}
 use Rattle.atomic_table.specs.Seated.{TableId}
 use Rattle.monitor.specs.Reporting.{QueueSeat}
 use Rattle.workers.specs.Watched.{MonitorKept}
-use Rattle.workers.specs.Seats.{AreSeated, AreWatched, seat_in, seats_of}
-use Rattle.workers.specs.declared.post.Post.{Post}
+use Rattle.workers.specs.Kept.{PostKept}
+use Rattle.workers.specs.Seats.{AreSeated, AreWatched, seats_of}
 
-seats_more : (posts : List Post) (post : Post) (seat : Option QueueSeat) → seat_in post.job ≡ seat → seats_of (posts ++ post ∷ []) ≡ seats_of posts ++ cons_option seat []
+seats_more : (posts : List PostKept) (post : PostKept) (seat : Option QueueSeat) → post.seat ≡ seat → seats_of (posts ++ post ∷ []) ≡ seats_of posts ++ cons_option seat []
 seats_more posts post seat is =
-    filter_map-append (λ (p : Post). seat_in p.job) posts (post ∷ []) ∙ ap (λ (s : Option QueueSeat). seats_of posts ++ cons_option s []) is
+    filter_map-append (λ (p : PostKept). p.seat) posts (post ∷ []) ∙ ap (λ (s : Option QueueSeat). seats_of posts ++ cons_option s []) is
 
 seated_more : (queue : TableId) (n : ℕ) (seats : List QueueSeat) (seat : QueueSeat) → AreSeated queue n seats → seat.queue ≡ queue → seat.seat ≡ n + length seats → AreSeated queue n (seats ++ seat ∷ [])
 seated_more queue n [] seat all of_queue next = (of_queue, next ∙ add-zero n, tt)
@@ -19,7 +19,7 @@ seated_more queue n (first ∷ seats) seat all of_queue next =
     let later : seat.seat ≡ n + 1 + length seats = omega (next, arith) in (all.0, all.1, seated_more queue (n + 1) seats seat all.2 of_queue later)
 
 -- one more who has no seat
-pub watched_same : (monitor : MonitorKept) (posts more : List Post) (post : Post) → more ≡ posts ++ post ∷ [] → seat_in post.job ≡ None → AreWatched monitor posts → AreWatched monitor more
+pub watched_same : (monitor : MonitorKept) (posts more : List PostKept) (post : PostKept) → more ≡ posts ++ post ∷ [] → post.seat ≡ None → AreWatched monitor posts → AreWatched monitor more
 watched_same monitor posts more post grown none all =
     let same : seats_of more ≡ seats_of posts = ap seats_of grown ∙ seats_more posts post None none ∙ append-nil (seats_of posts) in
     record {
@@ -29,7 +29,7 @@ watched_same monitor posts more post grown none all =
     }
 
 -- one more at the next seat, which the monitor just gave
-pub watched_more : (monitor monitor' : MonitorKept) (posts more : List Post) (post : Post) (seat : QueueSeat) → more ≡ posts ++ post ∷ [] → seat_in post.job ≡ Some seat → seat.queue ≡ monitor.queue
+pub watched_more : (monitor monitor' : MonitorKept) (posts more : List PostKept) (post : PostKept) (seat : QueueSeat) → more ≡ posts ++ post ∷ [] → post.seat ≡ Some seat → seat.queue ≡ monitor.queue
     → seat.seat ≡ monitor.seats → monitor'.queue ≡ monitor.queue → monitor'.ended ≡ monitor.ended → monitor'.seats ≡ monitor.seats + 1 → AreWatched monitor posts → AreWatched monitor' more
 watched_more monitor monitor' posts more post seat grown some of_queue next same_queue same_ended one_more all =
     let now : seats_of more ≡ seats_of posts ++ seat ∷ [] = ap seats_of grown ∙ seats_more posts post (Some seat) some in

@@ -1,4 +1,5 @@
 pub mod Building
+pub mod Kept
 pub mod Marks
 pub mod Origins
 pub mod Roles

@@ -1,10 +1,10 @@
--- Who a worker was, before it was taken apart and after.
+-- Who a worker was, and what it had, before it was taken apart and after.
 use Rattle.std.specs.Prelude.{Option, Some, None}
 use Rattle.crew.specs.declared.worker_id.WorkerId.{WorkerId}
 use Rattle.port.specs.Configs.{Config}
+use Rattle.workers.specs.Kept.{Duty, OfFunction, OfPort, OfRoot, PostKept, duty_of}
 use Rattle.workers.specs.declared.job.Job.{Job}
 use Rattle.workers.specs.declared.job.Job.TheVariants as job
-use Rattle.workers.specs.declared.post.Post.{Post}
 use Rattle.workers.specs.declared.remains.Parts.{Parts}
 use Rattle.workers.specs.declared.remains.Parts.TheVariants as parts
 use Rattle.workers.specs.declared.remains.Remains.{Remains}
@@ -14,13 +14,22 @@ pub record Mark : Type 0 where
   pub id : WorkerId
   pub config : Option Config
 
-abbrev pub config_in : Job → Option Config
-config_in (job.Port work) = Some work.config
-config_in (job.Function work) = None
-config_in (job.Root work) = None
+abbrev pub config_of : Duty → Option Config
+config_of (OfPort config routes) = Some config
+config_of (OfFunction function domain locks) = None
+config_of (OfRoot kept) = None
 
-abbrev pub mark_of : Post → Mark
-mark_of post = record { id = post.id; config = config_in post.job }
+abbrev pub config_in : Job → Option Config
+config_in j = config_of (duty_of j)
+
+abbrev pub mark_of : PostKept → Mark
+mark_of post = record { id = post.role.id; config = config_of post.role.duty }
+
+-- what is its own: of a port, but for its end of the queue of violations
+abbrev pub parts_in : Job → Parts
+parts_in (job.Port work) = parts.Port (record { port = work.parts.port; side = work.parts.side })
+parts_in (job.Function work) = parts.Function work.parts
+parts_in (job.Root work) = parts.Root work.parts
 
 abbrev pub config_left : Parts → Option Config
 config_left (parts.Port left) = Some left.port.config

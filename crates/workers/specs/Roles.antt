@@ -1,5 +1,5 @@
 -- Who works for what in the fabric of a layout.
-use Rattle.std.specs.Prelude.{ℕ, List, [], ◌∷◌, ◌++◌, map, Option, Some}
+use Rattle.std.specs.Prelude.{ℕ, List, [], ◌∷◌, ◌++◌, map}
 use Rattle.bridge.specs.Bridges.{Routes, of_platform}
 use Rattle.crew.specs.declared.worker_id.WorkerId.{WorkerId}
 use Rattle.crew.specs.declared.worker_id.WorkerId.TheVariants as worker
@@ -12,31 +12,7 @@ use Rattle.platform.specs.declared.parts.DownstreamPort.{DownstreamPort}
 use Rattle.platform.specs.declared.parts.EndpointFunction.{EndpointFunction}
 use Rattle.platform.specs.declared.parts.Switch.{Switch}
 use Rattle.port.specs.Configs.{Config, downstream_config, upstream_config}
-use Rattle.root_work.specs.Works.{RootWorkView}
-use Rattle.workers.specs.declared.job.Job.{Job}
-use Rattle.workers.specs.declared.job.Job.TheVariants.{Port, Function, Root}
-use Rattle.workers.specs.declared.post.Post.{Post}
-
--- what one works for: a port, among these switches; a function, of a domain if it has one, over the locks of these numbers;
--- or the root complex
-pub data Duty : Type 0 where
-  OfPort : Config → Routes → Duty
-  OfFunction : ℕ → Option ℕ → List ℕ → Duty
-  OfRoot : RootWorkView → Duty
-
-abbrev pub duty_of : Job → Duty
-duty_of (Port work) = OfPort work.config work.routes
-duty_of (Function work) = OfFunction work.function (Some work.domain) work.locks
-duty_of (Root work) = OfRoot work
-
-pub record Role : Type 0 where
-  pub id : WorkerId
-  pub duty : Duty
-
-abbrev pub role_of : Post → Role
-role_of post = record { id = post.id; duty = duty_of post.job }
-
--- ---- those of a layout
+use Rattle.workers.specs.Kept.{OfFunction, OfPort, OfRoot, Role}
 
 -- the numbers of the domains, and what the layout gives each
 abbrev pub starting_numbers : Platform → List ℕ

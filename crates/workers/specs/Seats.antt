@@ -1,22 +1,14 @@
 -- The seats of ports in the queue of violations.
-use Rattle.std.specs.Prelude.{◌≡◌, ℕ, ◌+◌, List, [], ◌∷◌, length, Option, Some, None, ⊤}
+use Rattle.std.specs.Prelude.{◌≡◌, ℕ, ◌+◌, List, [], ◌∷◌, length, ⊤}
 use Rattle.std.specs.List.{filter_map}
 use Rattle.atomic_table.specs.Seated.{TableId}
 use Rattle.monitor.specs.Reporting.{QueueSeat}
+use Rattle.workers.specs.Kept.{PostKept}
 use Rattle.workers.specs.Watched.{MonitorKept}
-use Rattle.workers.specs.declared.job.Job.{Job}
-use Rattle.workers.specs.declared.job.Job.TheVariants.{Port, Function, Root}
-use Rattle.workers.specs.declared.post.Post.{Post}
-
--- a port has a seat, and others have none
-abbrev pub seat_in : Job → Option QueueSeat
-seat_in (Port work) = Some work.seat
-seat_in (Function work) = None
-seat_in (Root work) = None
 
 -- those of the ports among these, in order
-abbrev pub seats_of : List Post → List QueueSeat
-seats_of posts = filter_map (λ post. seat_in post.job) posts
+abbrev pub seats_of : List PostKept → List QueueSeat
+seats_of posts = filter_map (λ post. post.seat) posts
 
 -- they are seats of this queue, from this number on
 abbrev pub AreSeated : TableId → ℕ → List QueueSeat → Type 0
@@ -24,7 +16,7 @@ AreSeated queue n [] = ⊤
 AreSeated queue n (seat ∷ seats) = (seat.queue ≡ queue) × (seat.seat ≡ n) × AreSeated queue (n + 1) seats
 
 -- no port's end of the queue has come back yet, and the ports have the seats that the monitor gave, in their order
-pub record AreWatched (monitor : MonitorKept) (posts : List Post) : Type 0 where
+pub record AreWatched (monitor : MonitorKept) (posts : List PostKept) : Type 0 where
   pub none : monitor.ended ≡ []
   pub seated : AreSeated monitor.queue 0 (seats_of posts)
   pub seats : length (seats_of posts) ≡ monitor.seats

@@ -4,9 +4,9 @@ ghost use Rattle.std.specs.Prelude.{◌≡◌, IfOk, IsSome, None};
 ghost use Rattle.fab_types.specs.declared.origin.Origin.TheVariants as origin;
 ghost use Rattle.platform.specs.Owners.{domain_above};
 ghost use Rattle.workers.specs.Building.{IsSharedOf};
-ghost use Rattle.workers.specs.Marks.{config_left};
-ghost use Rattle.workers.specs.Roles.{function_role, role_of};
-ghost use Rattle.workers.specs.Seats.{seat_in};
+ghost use Rattle.workers.specs.declared.remains.Parts.TheVariants as parts;
+ghost use Rattle.workers.specs.Kept.{post_kept, seat_in};
+ghost use Rattle.workers.specs.Roles.{function_role};
 
 use crate::job::Job;
 use crate::post::Post;
@@ -34,7 +34,7 @@ pub(crate) fn function_post(
     requires shared { IsSharedOf layout.now shared.now }
     requires own { outbox.origin ≡ origin.Function line.now.id }
     requires placed { IsSome (domain_above layout.now.ports line.now.id) }
-    ensures role { IfOk result (λ made. role_of made.0 ≡ function_role layout.now line.now) }
+    ensures role { IfOk result (λ made. (post_kept made.0).role ≡ function_role layout.now line.now) }
     ensures seat { IfOk result (λ made. seat_in made.0.job ≡ None) }
     ensures origin { IfOk result (λ made. made.1.origin ≡ origin.Function line.now.id) }
 {
@@ -55,7 +55,7 @@ pub(crate) fn function_post(
 
 /// What is left of a function's worker.
 pub(crate) fn function_parts(work: FunctionWork) -> Parts
-    ensures { config_left result ≡ None }
+    ensures { result ≡ parts.Function work.parts }
 {
     Parts::Function(work.into_parts())
 }

@@ -2,6 +2,7 @@
 
 ghost use Rattle.std.specs.Prelude.{◌≡◌};
 ghost use Rattle.wiring.specs.Wired.{tags_of};
+ghost use Rattle.workers.specs.Kept.{duty_of, seat_in};
 
 use credit::Limits;
 use frame_log::Frame;
@@ -29,7 +30,8 @@ impl Job {
         credits: &mut Ends<Limits>,
         pairs: &mut Ends<VettedFrame>,
     )
-        ensures same { self.new ≡ self.old }
+        ensures duty { duty_of self.new ≡ duty_of self.old }
+        ensures seat { seat_in self.new ≡ seat_in self.old }
         ensures links { tags_of links.new ≡ tags_of links.old }
         ensures credits { tags_of credits.new ≡ tags_of credits.old }
         ensures pairs { tags_of pairs.new ≡ tags_of pairs.old }

@@ -5,7 +5,9 @@ ghost use Rattle.std.specs.Arc.{arc_value};
 ghost use Rattle.crew.specs.declared.worker_id.WorkerId.TheVariants as worker;
 ghost use Rattle.monitor.specs.Reporting.{seat_of};
 ghost use Rattle.workers.specs.Marks.{config_left};
-ghost use Rattle.workers.specs.Roles.{port_role, role_of};
+ghost use Rattle.workers.specs.declared.remains.Parts.TheVariants as parts;
+ghost use Rattle.workers.specs.Kept.{role_of};
+ghost use Rattle.workers.specs.Roles.{port_role};
 ghost use Rattle.std.specs.Prelude.{Some};
 
 use crate::remains::{Parts, PortRemains};
@@ -39,8 +41,10 @@ pub(crate) fn add_port(
 
 /// What is left of a port's worker, and its end of the queue of violations.
 pub(crate) fn port_parts(work: PortWork) -> (Parts, QueueReporter)
-    ensures config { config_left result.0 ≡ Some work.config }
-    ensures seat { seat_of result.1 ≡ work.seat }
+    ensures parts { result.0 ≡ parts.Port (record { port = work.parts.port; side = work.parts.side }) }
+    ensures config { config_left result.0 ≡ Some work.kept.config }
+    ensures reporter { result.1 ≡ work.parts.reporter }
+    ensures seat { seat_of result.1 ≡ work.kept.seat }
 {
     let PortParts {
         port,

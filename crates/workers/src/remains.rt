@@ -2,8 +2,9 @@
 
 ghost use Rattle.std.specs.Prelude.{◌≡◌, ◌++◌, IfOk, OnOk, map, option_to_list};
 ghost use Rattle.monitor.specs.Reporting.{seat_of};
-ghost use Rattle.workers.specs.Marks.{config_in, config_left, mark_left, mark_of};
-ghost use Rattle.workers.specs.Seats.{seat_in, seats_of};
+ghost use Rattle.workers.specs.Kept.{post_kept, seat_in};
+ghost use Rattle.workers.specs.Marks.{config_in, config_left, mark_left, mark_of, parts_in};
+ghost use Rattle.workers.specs.Seats.{seats_of};
 
 use crate::function_job::function_parts;
 use crate::job::Job;
@@ -52,6 +53,7 @@ pub struct AllRemains {
 
 /// Takes a worker's work apart. The end of the queue of a port goes to the others.
 fn parts_of(job: Job, reporters: &mut Vec<QueueReporter>) -> Result<Parts, NoMemory>
+    ensures parts { IfOk result (λ parts. parts ≡ parts_in job) }
     ensures config { IfOk result (λ parts. config_left parts ≡ config_in job) }
     ensures seat { OnOk result (map seat_of reporters.new.items ≡ map seat_of reporters.old.items ++ option_to_list (seat_in job)) }
 {
@@ -68,8 +70,9 @@ fn parts_of(job: Job, reporters: &mut Vec<QueueReporter>) -> Result<Parts, NoMem
 
 /// Takes workers apart, in their order. It answers `NoMemory` where memory was refused.
 pub fn remains_of(alloc: Global, posts: Vec<Post>) -> Result<AllRemains, NoMemory>
-    ensures marks { IfOk result (λ all. map mark_left all.remains.items ≡ map mark_of posts.items) }
-    ensures seats { IfOk result (λ all. map seat_of all.reporters.items ≡ seats_of posts.items) }
+    ensures parts { IfOk result (λ all. map (λ r. r.parts) all.remains.items ≡ map (λ p. parts_in p.job) posts.items) }
+    ensures marks { IfOk result (λ all. map mark_left all.remains.items ≡ map mark_of (map post_kept posts.items)) }
+    ensures seats { IfOk result (λ all. map seat_of all.reporters.items ≡ seats_of (map post_kept posts.items)) }
 {
     let mut remains = Vec::new(alloc);
     let mut reporters = Vec::new(alloc);

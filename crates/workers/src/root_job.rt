@@ -2,10 +2,10 @@
 
 ghost use Rattle.std.specs.Prelude.{◌≡◌, ◌++◌, ◌∷◌, [], IfOk, None, OnOk, map};
 ghost use Rattle.workers.specs.Building.{IsSharedOf};
-ghost use Rattle.workers.specs.Marks.{config_left};
+ghost use Rattle.workers.specs.declared.remains.Parts.TheVariants as parts;
 ghost use Rattle.workers.specs.Origins.{origins_in};
-ghost use Rattle.workers.specs.Roles.{role_of, root_role, starting_shares};
-ghost use Rattle.workers.specs.Seats.{seat_in};
+ghost use Rattle.workers.specs.Kept.{post_kept, seat_in};
+ghost use Rattle.workers.specs.Roles.{root_role, starting_shares};
 
 use crate::job::Job;
 use crate::post::Post;
@@ -71,7 +71,7 @@ pub(crate) fn root_post(
 ) -> Result<Post, NoMemory>
     requires shared { IsSharedOf layout.now shared.now }
     requires starts { starts.items ≡ starting_shares layout.now }
-    ensures role { IfOk result (λ post. role_of post ≡ root_role layout.now) }
+    ensures role { IfOk result (λ post. (post_kept post).role ≡ root_role layout.now) }
     ensures seat { IfOk result (λ post. seat_in post.job ≡ None) }
     ensures origins { OnOk result (origins_in injectors.new.items ≡ origins_in injectors.old.items ++ map (λ outbox. outbox.origin) hosts.items) }
 {
@@ -89,7 +89,7 @@ pub(crate) fn root_post(
 
 /// What is left of the worker of the root complex.
 pub(crate) fn root_parts(work: RootWork) -> Parts
-    ensures { config_left result ≡ None }
+    ensures { result ≡ parts.Root work.parts }
 {
     Parts::Root(work.into_parts())
 }

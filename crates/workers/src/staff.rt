@@ -4,8 +4,9 @@ ghost use Rattle.std.specs.Prelude.{◌≡◌, ◌++◌, ◌∷◌, [], IfOk, No
 ghost use Rattle.std.specs.Arc.{arc_value};
 ghost use Rattle.crew.specs.declared.worker_id.WorkerId.TheVariants as worker;
 ghost use Rattle.workers.specs.Watched.{watch_kept};
-ghost use Rattle.workers.specs.Roles.{port_role, role_of};
-ghost use Rattle.workers.specs.Seats.{AreWatched, seat_in};
+ghost use Rattle.workers.specs.Kept.{post_kept, role_of, seat_in};
+ghost use Rattle.workers.specs.Roles.{port_role};
+ghost use Rattle.workers.specs.Seats.{AreWatched};
 
 use crate::job::Job;
 use crate::post::Post;
@@ -22,7 +23,8 @@ use std::marker::Model;
 use std::sync::Arc;
 
 /// Workers without the ends of their rings, and the monitor's end of the queue of violations, at which the ports among
-/// them have their seats. A contract sees the list of the workers.
+/// them have their seats. A contract sees of
+/// each worker what no turn changes, a `PostKept`.
 #[derive(Drop)]
 pub struct Staff {
     watch: Watch,
@@ -31,12 +33,12 @@ pub struct Staff {
 
 impl Model for Staff {
     ghost use Rattle.std.specs.Prelude.{List};
-    ghost use Rattle.workers.specs.declared.post.Post.{Post};
-    ghost use Rattle.workers.specs.Building.{IsStaff};
+    ghost use Rattle.workers.specs.Building.{IsStaff, staff_view};
+    ghost use Rattle.workers.specs.Kept.{PostKept};
 
-    ghost Value = { List Post };
+    ghost Value = { List PostKept };
 
-    ghost view = { λ s. s.posts.items };
+    ghost view = { staff_view };
 
     ghost invariant = { IsStaff };
 }
@@ -55,7 +57,7 @@ impl Staff {
     /// One worker more, which has no seat. After `NoMemory` there are those that there were.
     pub(crate) fn add(&mut self, post: Post) -> Result<(), NoMemory>
         requires { seat_in post.job ≡ None }
-        ensures ok { OnOk result (self.new ≡ self.old ++ post ∷ []) }
+        ensures ok { OnOk result (self.new ≡ self.old ++ post_kept post ∷ []) }
         ensures err { OnErr result (self.new ≡ self.old) }
     {
         self.posts.reserve(1)?;
@@ -88,8 +90,8 @@ impl Staff {
 
     /// The workers and the monitor's end of the queue.
     pub fn into_parts(self) -> (Vec<Post>, Watch)
-        ensures posts { result.0.items ≡ self }
-        ensures watched { AreWatched (watch_kept result.1) result.0.items }
+        ensures posts { map post_kept result.0.items ≡ self }
+        ensures watched { AreWatched (watch_kept result.1) self }
     {
         let Staff { watch, posts } = self;
         (posts, watch)

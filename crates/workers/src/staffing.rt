@@ -4,7 +4,8 @@ ghost use Rattle.std.specs.Prelude.{◌≡◌, ◌++◌, IfOk, OnOk, map};
 ghost use Rattle.outboxes.specs.Outboxes.{function_box, host_boxes};
 ghost use Rattle.workers.specs.Building.{IsSharedOf};
 ghost use Rattle.workers.specs.Origins.{function_origin, origins_in, origins_of};
-ghost use Rattle.workers.specs.Roles.{downstream_role, function_role, role_of, roles_of, starting_shares, upstream_role};
+ghost use Rattle.workers.specs.Kept.{role_of};
+ghost use Rattle.workers.specs.Roles.{downstream_role, function_role, roles_of, starting_shares, upstream_role};
 
 use crate::function_job::function_post;
 use crate::port_job::add_port;

@@ -24,7 +24,7 @@ use Rattle.tlp_view.specs.declared.kind.Kind.{Kind}
 use Rattle.tlp_view.specs.declared.kind.Kind.TheVariants.{MRd, MRdLk, MWr, IORd, IOWr, CfgRd0, CfgWr0, CfgRd1, CfgWr1, Msg, MsgD, Cpl, CplD, CplLk, CplDLk, FetchAdd, Swap, CAS}
 use Rattle.tlp_view.specs.Bytes.{packet_of}
 use Rattle.tlp_view.specs.Costs.{cost_unless}
-use Rattle.tlp_view.specs.Kinds.{class_of_kind, is_completion, is_memory}
+use Rattle.tlp_view.specs.Kinds.{class_of_kind, is_completion, has_address}
 use Rattle.tlp_view.specs.Malformed.{malformed}
 use Rattle.tlp_view.specs.Packet.{Packet, address_in}
 use Rattle.request_handling.specs.declared.fate.Fate.TheVariants.{ToHost}
@@ -75,7 +75,7 @@ pub posted_request : (e : Emission) → IsPosted e → is_reply (head_of e).head
 posted_request e posted = by (malformed e.bytes) posted
   where
     by : (m : Option Malformed) → (cost_unless m e.bytes).class ≡ Posted → is_reply (header_unless m e.parties e.bytes) ≡ false
-    by None is = plain _ _ _ _ (is_completion (packet_of e.bytes).kind) (is_memory (packet_of e.bytes).kind) refl refl (posted_kind (packet_of e.bytes).kind is)
+    by None is = plain _ _ _ _ (is_completion (packet_of e.bytes).kind) (has_address (packet_of e.bytes).kind) refl refl (posted_kind (packet_of e.bytes).kind is)
     by (Some cause) is = refl
 
 -- ---- what the first port lets pass goes to the host
@@ -108,8 +108,8 @@ by_shape o true b target relaxed requester at address c = absurd c
 by_shape o false true target relaxed requester at address c = (refl, c.0, c.1)
 by_shape o false false target relaxed requester at address c = absurd c
 
-shaped : (o : Option DownstreamPort) (function : ℕ) (t : Packet) → ClearedBy o (packet_header (Upward function) t) → (is_memory t.kind ≡ true) × (t.address_type ≡ Untranslated) × (holds_bus_if_any o (bus_of t.requester) ≡ true)
-shaped o function t c = by_shape o (is_completion t.kind) (is_memory t.kind) t.requester t.attributes.relaxed_ordering t.requester t.address_type (unwrap_or (address_in t.body) 0) c
+shaped : (o : Option DownstreamPort) (function : ℕ) (t : Packet) → ClearedBy o (packet_header (Upward function) t) → (has_address t.kind ≡ true) × (t.address_type ≡ Untranslated) × (holds_bus_if_any o (bus_of t.requester) ≡ true)
+shaped o function t c = by_shape o (is_completion t.kind) (has_address t.kind) t.requester t.attributes.relaxed_ordering t.requester t.address_type (unwrap_or (address_in t.body) 0) c
 
 packet_goes : (port : DownstreamPort) (function : ℕ) (t : Packet) → is_guarded_port port ≡ true → ClearedBy (Some port) (packet_header (Upward function) t) → packet_fate port t ≡ ToHost
 packet_goes port function t guarded c =
@@ -137,7 +137,7 @@ request_kind : (m : Option Malformed) (parties : Parties) (bytes : List ℕ) →
 request_kind (Some cause) parties bytes is plain_one = absurd cc
 request_kind None parties bytes is plain_one =
     let t = packet_of bytes in
-    no_completion (is_completion t.kind) (is_memory t.kind) (target_for parties t.requester) t.attributes.relaxed_ordering (header.Memory t.requester t.address_type (unwrap_or (address_in t.body) 0)) (header.OtherRequest t.requester) plain_one
+    no_completion (is_completion t.kind) (has_address t.kind) (target_for parties t.requester) t.attributes.relaxed_ordering (header.Memory t.requester t.address_type (unwrap_or (address_in t.body) 0)) (header.OtherRequest t.requester) plain_one
 
 not_stop : (report : Option Violation) → To 0 ≡ Stop report → ⊥
 not_stop report e = cc

@@ -14,7 +14,8 @@ use Rattle.function.specs.Closings.{closed_by, filled, is_success}
 use Rattle.fab_types.specs.Bytes.{overwritten}
 use Rattle.function.specs.Plans.{page_after}
 use Rattle.function.specs.Registers.{Row, first_page, has_byte, register_at, table, with_status, write_byte, write_bytes, write_page, write_register}
-use Rattle.host_memory.specs.Pages.{written, zeroed, zeros}
+use Rattle.host_memory.specs.Additions.{added, added_to, sum_of}
+use Rattle.host_memory.specs.Pages.{part_of, written, zeroed, zeros}
 use Rattle.platform.specs.declared.parts.EndpointFunction.{EndpointFunction}
 use Rattle.platform.specs.Owners.{is_own_function}
 use Rattle.platform.specs.Share.{Share}
@@ -127,6 +128,13 @@ all_written pages k offset bytes all =
 pub all_stored : (runs : List (ℕ × List ℕ)) (pages : List (ℕ × List ℕ)) (k first : ℕ) → All IsPage pages → All IsPage (stored pages k first runs)
 all_stored [] pages k first all = all
 all_stored (run ∷ runs) pages k first all = all_stored runs (written pages k (first + run.0) run.1) k first (all_written pages k (first + run.0) run.1 all)
+
+all_added_to : (pages : List (ℕ × List ℕ)) (k first : ℕ) (operand : List ℕ) (old : Option (List ℕ)) → All IsPage pages → All IsPage (added_to pages k first operand old)
+all_added_to pages k first operand None all = all
+all_added_to pages k first operand (Some old) all = all_written pages k first (sum_of (length operand) old operand) all
+
+pub all_added : (pages : List (ℕ × List ℕ)) (k first : ℕ) (operand : List ℕ) → All IsPage pages → All IsPage (added pages k first operand)
+all_added pages k first operand all = all_added_to pages k first operand (part_of pages k first (first + length operand)) all
 
 all_set : (pages : List (ℕ × List ℕ)) (i : ℕ) (f : List ℕ → List ℕ) → Keeps f → All IsPage pages → All IsPage (set pages i ((get_or pages i (0, [])).0, f (get_or pages i (0, [])).1))
 all_set [] i f keeps all = All-nil IsPage

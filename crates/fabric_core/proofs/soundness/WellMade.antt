@@ -36,7 +36,7 @@ use Rattle.layout.specs.Tables.{target_of}
 use Rattle.layout.specs.Views.{share_of_domain}
 use Rattle.tlp_view.specs.Bytes.{packet_of}
 use Rattle.tlp_view.specs.Completions.{read_completion}
-use Rattle.tlp_view.specs.Kinds.{class_of_kind, is_memory}
+use Rattle.tlp_view.specs.Kinds.{class_of_kind, has_address, is_fetch_add, is_memory}
 use Rattle.tlp_view.specs.Malformed.{malformed}
 use Rattle.tlp_view.specs.Packet.{Packet, dw_count}
 use Rattle.tlp_view.specs.Requests.{packet_bytes}
@@ -47,8 +47,8 @@ use Rattle.domain.specs.declared.entry.Entry.TheVariants.{Alien, Carry, Deliver,
 use Rattle.request_handling.specs.declared.fate.Fate.{Fate}
 use Rattle.request_handling.specs.declared.fate.Fate.TheVariants.{Vanish, Refused, ToHost}
 use Rattle.request_handling.specs.declared.handling.Handling.{Handling}
-use Rattle.request_handling.specs.Answers.{address_of, answered_by, bar_of, forwarded, function_answer, host_data, host_refusal, page_at, port_answer, shown}
-use Rattle.request_handling.specs.Carries.{access_of, answer_refusal, carriage_by, carriage_of, discarded, forward, is_carried, port_id, read_from, refusal_by, refusal_of, refused_by_host, serve, serve_read, write_to}
+use Rattle.request_handling.specs.Answers.{address_of, answered_by, bar_of, forwarded, function_answer, host_data, host_operand, host_refusal, page_at, port_answer, shown}
+use Rattle.request_handling.specs.Carries.{access_of, add_if, answer_refusal, carriage_by, carriage_of, discarded, forward, frame_for, is_carried, port_id, read_from, refusal_by, refusal_of, refused_by_host, serve, serve_add, serve_read, write_to}
 use Rattle.domain.specs.Deliveries.{arrival_of, arrived, delivery_of, is_awaited, recorded, unexpected}
 use Rattle.domain_parts.specs.Closings.{completed, use_of}
 use Rattle.domain.specs.Domains.{DomainView}
@@ -62,15 +62,15 @@ use Rattle.domain.specs.Submits.{submit_fault, submit_unless}
 use Rattle.domain.specs.Ticks.{sent_by, tick_fault, tick_unless, ticked, ticks}
 use Rattle.request_handling.specs.WellMade.{IsWellMade}
 use Rattle.request_handling.proofs.Discarding.{answer_discarded}
-use Rattle.request_handling.proofs.WellMadeLemmas.{is_an_access, write_access}
+use Rattle.request_handling.proofs.WellMadeLemmas.{is_an_access, left_memory, write_access, write_memory}
 use Rattle.guarded_routes.specs.Guarded.{IsFunctionOf, IsGuarded}
 use Rattle.guarded_routes.proofs.Begins.{low_at}
 use Rattle.guarded_routes.proofs.Homes.{peer_of}
 use Rattle.guarded_routes.proofs.Reaching.{own_of}
 use Rattle.fabric_core.specs.Soundness.{IsPage, IsWellKept, IsWellMadeIfAny}
-use Rattle.fabric_core.proofs.soundness.LongPages.{all_changed, all_stored, keeps_access, keeps_closing, keeps_plan}
+use Rattle.fabric_core.proofs.soundness.LongPages.{all_added, all_changed, all_stored, keeps_access, keeps_closing, keeps_plan}
 use Rattle.fabric_core.proofs.soundness.SoundDomains.{IsFine, IsOwnShare}
-use Rattle.fabric_core.proofs.soundness.WellReplied.{access_made, data_made, in_page_low, moved_made, page_long, read_few, read_long, refusal_made, shown_long}
+use Rattle.fabric_core.proofs.soundness.WellReplied.{access_made, data_made, in_page_low, moved_made, operand_made, page_long, read_few, read_long, refusal_made, shown_long}
 
 -- an entry of the fabric's own events
 abbrev pub IsOwn : Entry → Type 0
@@ -185,13 +185,13 @@ module _ (platform : Platform) (g : IsGuarded platform) (domain : ℕ) where
 
   -- ---- at the host
 
-  module _ (s : Alone) (n : ℕ) (bytes : List ℕ) (long : AreLong s) (well : malformed bytes ≡ None) (memory : is_memory (packet_of bytes).kind ≡ true) where
+  module _ (s : Alone) (n : ℕ) (bytes : List ℕ) (long : AreLong s) (well : malformed bytes ≡ None) (addressed : has_address (packet_of bytes).kind ≡ true) where
     abbrev t : Packet
     t = packet_of bytes
 
-    fine_forward : (h : ℕ) (bar : Option ℕ) (c : Change) → IsAccess t → IsFunctionOf platform domain h → bar_of platform.functions h ≡ bar → option_map (conclude s n bytes) (forward h t bar) ≡ Some c → IsFine c
-    fine_forward h None c access own found e = absurd cc
-    fine_forward h (Some bar) c access own found e =
+    fine_forward : (h : ℕ) (bar : Option ℕ) (c : Change) → is_memory t.kind ≡ true → IsAccess t → IsFunctionOf platform domain h → bar_of platform.functions h ≡ bar → option_map (conclude s n bytes) (forward h t bar) ≡ Some c → IsFine c
+    fine_forward h None c memory access own found e = absurd cc
+    fine_forward h (Some bar) c memory access own found e =
         let address = page_at bar + address_of t % 4096 in
         let small = low_at platform g domain h bar (address_of t % 4096) own found (omega arith) in
         is_fine _ c e (record {
@@ -200,36 +200,51 @@ module _ (platform : Platform) (g : IsGuarded platform) (domain : ℕ) where
           well = made_so (forwarded h bar t) (moved_made bytes address well memory access (omega arith) small);
         })
 
-    fine_write : (o : Option MapTarget) (c : Change) → IsAccess t → ((h : ℕ) → o ≡ Some (Peer h) → IsFunctionOf platform domain h) → option_map (conclude s n bytes) (write_to share t o) ≡ Some c → IsFine c
-    fine_write None c access peers e = is_fine _ c e (record { frames = long.frames; registers = long.registers; well = made_nothing })
-    fine_write (Some (Frame k)) c access peers e =
+    fine_write : (o : Option MapTarget) (c : Change) → is_memory t.kind ≡ true → IsAccess t → ((h : ℕ) → o ≡ Some (Peer h) → IsFunctionOf platform domain h) → option_map (conclude s n bytes) (write_to share t o) ≡ Some c → IsFine c
+    fine_write None c memory access peers e = is_fine _ c e (record { frames = long.frames; registers = long.registers; well = made_nothing })
+    fine_write (Some (Frame k)) c memory access peers e =
         is_fine _ c e (record { frames = all_stored (runs t) s.frames k (address_of t % 4096) long.frames; registers = long.registers; well = made_nothing })
-    fine_write (Some (Peer h)) c access peers e = fine_forward h (bar_of platform.functions h) c access (peers h refl) refl e
+    fine_write (Some (Peer h)) c memory access peers e = fine_forward h (bar_of platform.functions h) c memory access (peers h refl) refl e
 
-    fine_read : (o : Option MapTarget) (c : Change) → IsAccess t → dw_count t.length ≤ 64 → ((h : ℕ) → o ≡ Some (Peer h) → IsFunctionOf platform domain h) → option_map (conclude s n bytes) (read_from share s.frames t o) ≡ Some c → IsFine c
-    fine_read None c access few peers e = is_fine _ c e (record { frames = long.frames; registers = long.registers; well = made_so (host_refusal share t) (refusal_made by.Host (reach share t.requester) 0 UR t) })
-    fine_read (Some (Frame k)) c access few peers e =
+    fine_read : (o : Option MapTarget) (c : Change) → is_memory t.kind ≡ true → IsAccess t → dw_count t.length ≤ 64 → ((h : ℕ) → o ≡ Some (Peer h) → IsFunctionOf platform domain h) → option_map (conclude s n bytes) (read_from share s.frames t o) ≡ Some c → IsFine c
+    fine_read None c memory access few peers e = is_fine _ c e (record { frames = long.frames; registers = long.registers; well = made_so (host_refusal share t) (refusal_made by.Host (reach share t.requester) 0 UR t) })
+    fine_read (Some (Frame k)) c memory access few peers e =
         is_fine _ c e (record {
           frames = long.frames;
           registers = long.registers;
           well = made_so (host_data share t (shown s.frames k t)) (data_made by.Host (reach share t.requester) 0 t (shown s.frames k t) few (shown_long s.frames k t long.frames));
         })
-    fine_read (Some (Peer h)) c access few peers e = fine_forward h (bar_of platform.functions h) c access (peers h refl) refl e
+    fine_read (Some (Peer h)) c memory access few peers e = fine_forward h (bar_of platform.functions h) c memory access (peers h refl) refl e
 
-    fine_served_read : (many : Bool) (c : Change) → is_write t.kind ≡ false → nat_lt 64 (dw_count t.length) ≡ many
+    fine_add : (to_read to_write : Option ℕ) (c : Change) → is_fetch_add t.kind ≡ true → option_map (conclude s n bytes) (Some (add_if share s.frames t to_read to_write)) ≡ Some c → IsFine c
+    fine_add None to_write c f e = is_fine _ c e (record { frames = long.frames; registers = long.registers; well = made_so (host_refusal share t) (refusal_made by.Host (reach share t.requester) 0 UR t) })
+    fine_add (Some k) None c f e = is_fine _ c e (record { frames = long.frames; registers = long.registers; well = made_so (host_refusal share t) (refusal_made by.Host (reach share t.requester) 0 UR t) })
+    fine_add (Some k) (Some m) c f e =
+        is_fine _ c e (record {
+          frames = all_added s.frames m (address_of t % 4096) t.payload long.frames;
+          registers = long.registers;
+          well = made_so (host_operand share t (shown s.frames m t)) (operand_made by.Host (reach share t.requester) 0 bytes (shown s.frames m t) well f (shown_long s.frames m t long.frames));
+        })
+
+    fine_served_read : (many : Bool) (c : Change) → is_memory t.kind ≡ true → is_write t.kind ≡ false → nat_lt 64 (dw_count t.length) ≡ many
         → option_map (conclude s n bytes) (cond many (Some (refused_by_host share t)) (read_from share s.frames t (target_of share.maps t.requester (address_of t / 4096) Read))) ≡ Some c → IsFine c
-    fine_served_read true c read is e = is_fine _ c e (record { frames = long.frames; registers = long.registers; well = made_so (host_refusal share t) (refusal_made by.Host (reach share t.requester) 0 UR t) })
-    fine_served_read false c read is e =
-        fine_read (target_of share.maps t.requester (address_of t / 4096) Read) c (is_an_access t (rw (memory, read, is) refl)) (ltb-false 64 (dw_count t.length) is)
+    fine_served_read true c memory read is e = is_fine _ c e (record { frames = long.frames; registers = long.registers; well = made_so (host_refusal share t) (refusal_made by.Host (reach share t.requester) 0 UR t) })
+    fine_served_read false c memory read is e =
+        fine_read (target_of share.maps t.requester (address_of t / 4096) Read) c memory (is_an_access t (rw (memory, read, is) refl)) (ltb-false 64 (dw_count t.length) is)
         (λ h same. peer_of platform g.laws domain t.requester (address_of t / 4096) Read h same) e
 
-    fine_served : (writes : Bool) (c : Change) → is_write t.kind ≡ writes
-        → option_map (conclude s n bytes) (cond writes (write_to share t (target_of share.maps t.requester (address_of t / 4096) Write)) (serve_read share s.frames t)) ≡ Some c → IsFine c
-    fine_served true c is e =
-        fine_write (target_of share.maps t.requester (address_of t / 4096) Write) c (write_access t is) (λ h same. peer_of platform g.laws domain t.requester (address_of t / 4096) Write h same) e
-    fine_served false c is e = fine_served_read (nat_lt 64 (dw_count t.length)) c is refl e
+    fine_served_other : (adds : Bool) (c : Change) → is_write t.kind ≡ false → is_fetch_add t.kind ≡ adds
+        → option_map (conclude s n bytes) (cond adds (Some (serve_add share s.frames t)) (serve_read share s.frames t)) ≡ Some c → IsFine c
+    fine_served_other true c read is e = fine_add (frame_for share t Read) (frame_for share t Write) c is e
+    fine_served_other false c read is e = fine_served_read (nat_lt 64 (dw_count t.length)) c (left_memory t.kind addressed is) read refl e
 
-  -- only a well-formed memory request goes to the host
+    fine_served : (writes : Bool) (c : Change) → is_write t.kind ≡ writes
+        → option_map (conclude s n bytes) (cond writes (write_to share t (target_of share.maps t.requester (address_of t / 4096) Write)) (cond (is_fetch_add t.kind) (Some (serve_add share s.frames t)) (serve_read share s.frames t))) ≡ Some c → IsFine c
+    fine_served true c is e =
+        fine_write (target_of share.maps t.requester (address_of t / 4096) Write) c (write_memory t.kind is) (write_access t is) (λ h same. peer_of platform g.laws domain t.requester (address_of t / 4096) Write h same) e
+    fine_served false c is e = fine_served_other (is_fetch_add t.kind) c is refl e
+
+  -- only a well-formed request that has an address goes to the host
   no_host : (status : Status) (x : Class) → stopped status x ≡ ToHost → ⊥
   no_host status Posted e = cc
   no_host status NonPosted e = cc
@@ -240,15 +255,15 @@ module _ (platform : Platform) (g : IsGuarded platform) (domain : ℕ) where
   by_tests false true back x one other e = refl
   by_tests false false back x one other e = absurd (no_host other x e)
 
-  goes_to_host : (m : Option Malformed) (line : DownstreamPort) (bytes : List ℕ) → malformed bytes ≡ m → fate_unless m line bytes ≡ ToHost → (malformed bytes ≡ None) × (is_memory (packet_of bytes).kind ≡ true)
-  goes_to_host None line bytes is e = (is, by_tests _ (is_memory (packet_of bytes).kind) _ (class_of_kind (packet_of bytes).kind) _ _ e)
+  goes_to_host : (m : Option Malformed) (line : DownstreamPort) (bytes : List ℕ) → malformed bytes ≡ m → fate_unless m line bytes ≡ ToHost → (malformed bytes ≡ None) × (has_address (packet_of bytes).kind ≡ true)
+  goes_to_host None line bytes is e = (is, by_tests _ (has_address (packet_of bytes).kind) _ (class_of_kind (packet_of bytes).kind) _ _ e)
   goes_to_host (Some cause) line bytes is e = absurd cc
 
-  goes_below : (line : Option DownstreamPort) (bytes : List ℕ) → fate_below line bytes ≡ ToHost → (malformed bytes ≡ None) × (is_memory (packet_of bytes).kind ≡ true)
+  goes_below : (line : Option DownstreamPort) (bytes : List ℕ) → fate_below line bytes ≡ ToHost → (malformed bytes ≡ None) × (has_address (packet_of bytes).kind ≡ true)
   goes_below None bytes e = absurd cc
   goes_below (Some line) bytes e = goes_to_host (malformed bytes) line bytes refl e
 
-  fine_carried_if : (s : Alone) (n : ℕ) (bytes : List ℕ) (own : Bool) (c : Change) → AreLong s → (malformed bytes ≡ None) × (is_memory (packet_of bytes).kind ≡ true)
+  fine_carried_if : (s : Alone) (n : ℕ) (bytes : List ℕ) (own : Bool) (c : Change) → AreLong s → (malformed bytes ≡ None) × (has_address (packet_of bytes).kind ≡ true)
       → option_map (conclude s n bytes) (cond own (serve share s.frames (packet_of bytes)) None) ≡ Some c → IsFine c
   fine_carried_if s n bytes true c long h e = fine_served s n bytes long h.0 h.1 (is_write (packet_of bytes).kind) c refl e
   fine_carried_if s n bytes false c long h e = absurd cc

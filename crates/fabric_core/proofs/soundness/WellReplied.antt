@@ -18,14 +18,15 @@ use Rattle.layout.proofs.Bools.{and-first, and-second}
 use Rattle.tlp_view.specs.declared.kind.Kind.{Kind}
 use Rattle.tlp_view.specs.declared.kind.Kind.TheVariants.{MRd, MWr}
 use Rattle.tlp_view.specs.Bytes.{address_at, length_at, packet_of, packet_of_kind}
-use Rattle.tlp_view.specs.Completions.{completion_bytes, read_completion, refusal}
-use Rattle.tlp_view.specs.Kinds.{is_memory}
+use Rattle.tlp_view.specs.Completions.{atomic_completion, completion_bytes, read_completion, refusal}
+use Rattle.tlp_view.specs.Kinds.{is_fetch_add, is_memory}
 use Rattle.tlp_view.specs.Malformed.{malformed, malformed_of_kind}
 use Rattle.tlp_view.specs.Packet.{Body, Packet, address_in, dw_count}
 use Rattle.tlp_view.specs.Requests.{all_enabled, is_high, moved, packet_bytes}
 use Rattle.tlp_view.specs.Runs.{is_write}
 use Rattle.tlp_view.specs.View.{IsView}
 use Rattle.tlp_view.proofs.Again.{body_memory}
+use Rattle.tlp_view.proofs.Operands.{operand_size}
 use Rattle.tlp_view.proofs.Requested.{read_made, request_well_formed, write_made}
 use Rattle.tlp_view.proofs.Sound.{well_formed_sound}
 use Rattle.tlp_view.proofs.WellFormed.{packet-kind, view_of}
@@ -36,7 +37,7 @@ use Rattle.domain_parts.specs.HostAccesses.{head_for, host_request, is_in_page, 
 use Rattle.request_handling.specs.WellMade.{IsWellMade}
 use Rattle.fabric_core.specs.Soundness.{IsPage}
 use Rattle.domain.proofs.CompletionsRead.{refusal_well}
-use Rattle.fabric_core.proofs.soundness.WellSpelled.{all_fits, made_access, moved_access, moved_well, read_well}
+use Rattle.fabric_core.proofs.soundness.WellSpelled.{all_fits, atomic_well, made_access, moved_access, moved_well, read_well}
 
 -- ---- lengths
 
@@ -65,6 +66,15 @@ refusal_made answerer addressee completer status t = (refusal_well completer sta
 
 pub data_made : (answerer : Answerer) (addressee : Option Origin) (completer : ℕ) (t : Packet) (bytes : List ℕ) → dw_count t.length ≤ 64 → length bytes ≡ 4 * dw_count t.length → IsWellMade (Answer answerer addressee) (completion_bytes (read_completion completer t bytes))
 data_made answerer addressee completer t bytes few long = let made = read_well completer t bytes (dw_some t.length) few long in (made.0, omega (arith, few, long, made.1))
+
+-- the completion of a FetchAdd, which carries 4 bytes or 8
+pub operand_made : (answerer : Answerer) (addressee : Option Origin) (completer : ℕ) (bytes old : List ℕ) → malformed bytes ≡ None → is_fetch_add (packet_of bytes).kind ≡ true → length old ≡ 4 * dw_count (packet_of bytes).length
+    → IsWellMade (Answer answerer addressee) (completion_bytes (atomic_completion completer (packet_of bytes) old))
+operand_made answerer addressee completer bytes old well f long =
+    let t = packet_of bytes in
+    let size = operand_size t (well_formed_sound bytes well) f in
+    let made = atomic_well completer t old size.1 (omega (arith, size.2)) long in
+    (made.0, omega (arith, long, size.2, made.1))
 
 -- ---- what is read of memory
 

@@ -15,8 +15,8 @@ use Rattle.tlp_view.specs.declared.kind.Kind.{Kind}
 use Rattle.tlp_view.specs.declared.kind.Kind.TheVariants.{MRd, MWr, Cpl, CplD}
 use Rattle.tlp_view.specs.declared.request.RequestHead.{RequestHead}
 use Rattle.tlp_view.specs.Bytes.{address_at, bits, enables_at, fmt_at, is_set, has_4dw_header_at, length_at, packet_of, packet_of_kind, type_at}
-use Rattle.tlp_view.specs.Completions.{byte_count, completion, completion_bytes, data_body, first_place, last_end, lower_address, read_completion}
-use Rattle.tlp_view.specs.Kinds.{has_form, is_memory, kind_at}
+use Rattle.tlp_view.specs.Completions.{atomic_completion, byte_count, completion, completion_bytes, data_body, first_place, last_end, lower_address, read_completion}
+use Rattle.tlp_view.specs.Kinds.{has_address, has_form, is_memory, kind_at}
 use Rattle.tlp_view.specs.Malformed.{crosses, has_bad_common, has_bad_enables, has_bad_field, has_bad_size, is_short, malformed, malformed_of_kind}
 use Rattle.tlp_view.specs.Packet.{Body, Completion, Packet, address_in, dw_count, enables_in}
 use Rattle.tlp_view.specs.Requests.{RequestFits, all_enabled, is_high, moved, moved_body, packet_bytes}
@@ -91,6 +91,19 @@ read_well completer t bytes some few long =
     let size : length (completion_bytes (completion head count bytes)) ≡ 12 + length bytes = omega arith in
     (ap malformed same ∙ completion_well_formed head bytes (record { byte_count = s.few; lower_address = s.low }) count few long, ap (λ (bs : List ℕ). length bs) same ∙ size)
 
+-- the same of the completion of an AtomicOp
+pub atomic_well : (completer : ℕ) (t : Packet) (bytes : List ℕ) → 1 ≤ dw_count t.length → dw_count t.length ≤ 64 → length bytes ≡ 4 * dw_count t.length
+    → (malformed (completion_bytes (atomic_completion completer t bytes)) ≡ None) × (length (completion_bytes (atomic_completion completer t bytes)) ≡ 12 + length bytes)
+atomic_well completer t bytes some few long =
+    let count = dw_count t.length in
+    let head : CompletionHead = record { completer = completer; status = SC; byte_count = length bytes; requester = t.requester; tag = t.tag; lower_address = 0; attributes = t.attributes } in
+    let kind : cond (count == 0) Cpl CplD ≡ CplD = ap (λ (b : Bool). cond b Cpl CplD) (ne_eqb count 0 (λ e. omega (arith, e, some))) in
+    let whole : length bytes / 4 ≡ count = omega (arith, long) in
+    let same : completion_bytes (atomic_completion completer t bytes) ≡ completion_bytes (completion head count bytes) =
+    λ i. completion_bytes (record { kind = sym kind i; has_4dw_header = false; attributes = t.attributes; address_type = Untranslated; length = whole i; requester = t.requester; tag = t.tag; body = Completion completer SC (length bytes) 0; payload = bytes }) in
+    let size : length (completion_bytes (completion head count bytes)) ≡ 12 + length bytes = omega arith in
+    (ap malformed same ∙ completion_well_formed head bytes (record { byte_count = omega (arith, long, few); lower_address = omega arith }) count few long, ap (λ (bs : List ℕ). length bs) same ∙ size)
+
 -- ---- requests
 
 counted : (n : ℕ) → n < 1024 → (1 ≤ dw_count n) × (dw_count n ≤ 1024) × (dw_count n % 1024 ≡ n)
@@ -147,7 +160,7 @@ module _ (b0 b1 b2 b3 b4 b5 b6 : ℕ) (rest : List ℕ) where
   well_by : (kind : Kind) (y : ℕ) → is_short (with_byte y) ≡ false → kind_at (fmt_at (with_byte y)) (type_at (with_byte y)) ≡ Some kind → has_bad_size kind (with_byte y) ≡ false
       → (is_memory kind && has_bad_enables (dw_count (length_at (with_byte y))) (address_at (with_byte y)) (y % 16) (y / 16)) ≡ false
       → (is_memory kind && crosses (dw_count (length_at (with_byte y))) (address_at (with_byte y))) ≡ false
-      → (is_memory kind && has_4dw_header_at (with_byte y) && nat_lt (address_at (with_byte y)) (2 ^ 32)) ≡ false
+      → (has_address kind && has_4dw_header_at (with_byte y) && nat_lt (address_at (with_byte y)) (2 ^ 32)) ≡ false
       → has_bad_field kind (with_byte y) ≡ false → malformed (with_byte y) ≡ None
   unfolding malformed malformed_of_kind
   well_by kind y long is_kind size enables within high field = rw (long, is_kind, size, enables, within, high, field) refl
@@ -164,7 +177,7 @@ module _ (b0 b1 b2 b3 b4 b5 b6 : ℕ) (rest : List ℕ) where
       let same = same_address x y in
       well_by kind y long is_kind (same_size kind y x ∙ first.0) (and_right (is_memory kind) _ enables)
       (ap (λ (a : ℕ). is_memory kind && crosses (dw_count (length_at (with_byte y))) a) (sym same) ∙ third.0)
-      (ap (λ (a : ℕ). is_memory kind && has_4dw_header_at (with_byte y) && nat_lt a (2 ^ 32)) (sym same) ∙ fourth.0)
+      (ap (λ (a : ℕ). has_address kind && has_4dw_header_at (with_byte y) && nat_lt a (2 ^ 32)) (sym same) ∙ fourth.0)
       (same_field kind y x ∙ fifth.0)
 
   -- other enables that fit leave the packet well formed

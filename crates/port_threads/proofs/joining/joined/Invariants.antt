@@ -1,12 +1,13 @@
 use Rattle.std.proofs.Common.{◌≡◌, ◌++◌, map, length}
 use Rattle.std.specs.Vec.Iter.{into_iter_items}
 use Rattle.wiring.specs.Wired.{tags_of}
+use Rattle.workers.specs.Kept.{post_kept}
 use Rattle.port_threads.specs.Kept.{kept_of}
 use Rattle.port_threads.proofs.joining.joined.Given as goal
 
 abbrev pub invariant-loop-post : goal.invariant-loop-post
 invariant-loop-post l =
-    (map (λ k. k.post) (map kept_of l.workers.items) ++ into_iter_items l.post-iterator ≡ l.fn.parts.posts.items)
+    (map (λ k. k.post) (map kept_of l.workers.items) ++ map post_kept (into_iter_items l.post-iterator) ≡ map post_kept l.fn.parts.posts.items)
     × (map (λ k. k.links) (map kept_of l.workers.items) ++ map tags_of (into_iter_items l.all_links) ≡ map tags_of l.fn.parts.links.items)
     × (map (λ k. k.credits) (map kept_of l.workers.items) ++ map tags_of (into_iter_items l.all_credits) ≡ map tags_of l.fn.parts.credits.items)
     × (map (λ k. k.pairs) (map kept_of l.workers.items) ++ map tags_of (into_iter_items l.all_pairs) ≡ map tags_of l.fn.parts.pairs.items)

@@ -1,5 +1,6 @@
 use Rattle.std.proofs.Common.{◌≡◌, ◌++◌, map, take}
-use Rattle.workers.specs.Roles.{downstream_role, role_of}
+use Rattle.workers.specs.Kept.{role_of}
+use Rattle.workers.specs.Roles.{downstream_role}
 use Rattle.workers.proofs.staffing.add_downstream.Given as goal
 
 abbrev pub invariant-loop-line : goal.invariant-loop-line

@@ -2,7 +2,8 @@ use Rattle.std.proofs.Common.{◌≡◌, ◌++◌, map, take, drop}
 use Rattle.std.specs.Vec.Iter.{into_iter_items}
 use Rattle.outboxes.specs.Outboxes.{function_box}
 use Rattle.workers.specs.Origins.{function_origin, origins_in}
-use Rattle.workers.specs.Roles.{function_role, role_of}
+use Rattle.workers.specs.Kept.{role_of}
+use Rattle.workers.specs.Roles.{function_role}
 use Rattle.workers.proofs.staffing.add_functions.Given as goal
 
 abbrev pub invariant-loop-line : goal.invariant-loop-line

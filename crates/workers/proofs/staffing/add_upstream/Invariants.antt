@@ -1,5 +1,6 @@
 use Rattle.std.proofs.Common.{◌≡◌, ◌++◌, map, take}
-use Rattle.workers.specs.Roles.{role_of, upstream_role}
+use Rattle.workers.specs.Kept.{role_of}
+use Rattle.workers.specs.Roles.{upstream_role}
 use Rattle.workers.proofs.staffing.add_upstream.Given as goal
 
 abbrev pub invariant-loop-switch : goal.invariant-loop-switch

@@ -4,7 +4,7 @@ use Rattle.port_work.proofs.port_work.PortWork.turn.Given as goal
 
 abbrev pub invariant-loop : goal.invariant-loop
 invariant-loop g l =
-    (l.self ≡ l.fn.self)
+    (l.self.kept ≡ l.fn.self.kept)
     × (tags_of l.links ≡ tags_of l.fn.links)
     × (tags_of l.credits ≡ tags_of l.fn.credits)
     × (tags_of l.pairs ≡ tags_of l.fn.pairs)

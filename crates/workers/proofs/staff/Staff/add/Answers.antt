@@ -1,10 +1,13 @@
-use Rattle.std.proofs.Common.{◌∙◌, ◌++◌, ◌∷◌, List, [], ap}
+use Rattle.std.proofs.Common.{◌∙◌, ◌++◌, ◌∷◌, List, [], map, ap}
+use Rattle.std.proofs.lemmas.List.{map-append}
 use Rattle.workers.specs.Watched.{watch_kept}
+use Rattle.workers.specs.Kept.{PostKept, post_kept}
 use Rattle.workers.specs.declared.post.Post.{Post}
 use Rattle.workers.proofs.Seated.{watched_same}
 use Rattle.workers.proofs.staff.Staff.add.Goals as goal
 
 pub invariant_of-self-2 : goal.invariant_of-self-2
 invariant_of-self-2 c =
-    watched_same (watch_kept c.self.inside.watch) c.self.inside.posts.items c.push_reserved.new.self.items c.args.post
-    (c.push_reserved.ensures.items ∙ ap (λ (l : List Post). l ++ c.args.post ∷ []) c.in_ok-reserve.ensures.items) c.requires c.self.invariant
+    let same = c.push_reserved.ensures.items ∙ ap (λ (l : List Post). l ++ c.args.post ∷ []) c.in_ok-reserve.ensures.items in
+    watched_same (watch_kept c.self.inside.watch) (map post_kept c.self.inside.posts.items) (map post_kept c.push_reserved.new.self.items) (post_kept c.args.post)
+    (ap (λ (l : List Post). map post_kept l) same ∙ map-append post_kept c.self.inside.posts.items (c.args.post ∷ [])) c.requires c.self.invariant
