@@ -13,11 +13,14 @@ class Deal:
         self.dice = random.Random(number)
         self.lines, self.functions = [], []
         self.is_guarded = self.dice.random() < 0.4
+        self.version = self.dice.choice([1, 1, 2])
         self.switches = self.dice.randrange(1, 5)
 
     def controls(self):
-        """All five in a guarded layout; in any other each is cleared one time in three."""
-        return sum(control for control in CONTROLS if self.is_guarded or self.dice.random() < 2 / 3)
+        """All five in a guarded layout; in any other each is cleared one time in three. Egress is controlled in texts of
+        version 2 alone, mostly."""
+        egress = 0x20 if self.version == 2 and self.dice.random() < 0.7 else 0
+        return egress + sum(control for control in CONTROLS if self.is_guarded or self.dice.random() < 2 / 3)
 
     def switch(self, above, bus, base, owner, depth):
         """Adds the lines of a switch, and answers the first bus and address that are free below it."""
@@ -39,7 +42,8 @@ class Deal:
 
     def layout(self):
         self.switch('root', 1, 0x90000000, None, 1)
-        head = ['pciefab 1', 'frames 12']
+        head = [f'pciefab {self.version}', 'frames 12']
+        self.lines += self.vectors()
         for bdf, own, _ in self.functions:
             peers = [peer for peer, owner, _ in self.functions if owner == own]
             for page in self.dice.sample([1, 2, 3, 0x90000, 0x100001], 3):
@@ -54,6 +58,23 @@ class Deal:
         for own in sorted({own for _, own, _ in self.functions}):
             self.lines.append(f'budget {own} {self.dice.choice([5, 400, 400, 400])}')
         return self.garbled(head + self.lines)
+
+    def vectors(self):
+        """Some of the lines that ports may have, with bits that are clear for ports of the same domain, and now and then
+        for another."""
+        ports = [line.split() for line in self.lines if line.startswith('port')]
+        below = {bdf >> 8: own for bdf, own, _ in self.functions}
+        lines = []
+        for _, port, *_, controls, own in ports:
+            if not int(controls, 16) & 0x20 or self.dice.random() < 0.2:
+                continue
+            vector = 0xffffffff
+            for _, other, first, *_, owner in ports:
+                is_good = other[:2] == port[:2] and other != port and owner == own and int(first, 16) in below
+                if is_good and self.dice.random() < 0.7 or self.dice.random() < 0.004:
+                    vector &= ~(1 << int(other[3:5], 16))
+            lines.append(f'egress {port} {vector:08x}')
+        return lines
 
     def script(self):
         lines = []

@@ -63,7 +63,9 @@ fn switches(layout: &Layout, links: &Links) -> (Vec<Switch>, Vec<Port>) {
         let below = Id::on_bus(line.secondary);
         // A port without anything below may share its first bus with nothing else, so no link is found.
         let down = if line.is_taken { links.down(below) } else { None };
-        let exit = Exit { buses: line.secondary..=line.subordinate, controls: line.controls, down };
+        let buses = line.secondary..=line.subordinate;
+        let vector = line.vector.unwrap_or(u32::MAX);
+        let exit = Exit { buses, controls: line.controls, device: line.id.device(), vector, down };
         let number = switches[line.switch].add(exit, line.base, line.limit);
         let input = down.map(|down| down - 1);
         let place = Place { lower: below, way: Way::Up };

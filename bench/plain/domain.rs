@@ -130,7 +130,7 @@ impl Tenants {
     /// Adds an entry of a domain, and answers the packet that it makes.
     fn make(&mut self, d: usize, entry: Entry, party: Party, packet: Packet) -> Frame {
         let number = self.domains[d].journal.add_maker(entry, packet.header);
-        Frame { home: d as u8, party, number, packet }
+        Frame { home: d as u8, party, number, is_direct: false, packet }
     }
 
     /// Adds an entry of a domain that makes a packet or none.

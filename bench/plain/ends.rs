@@ -190,7 +190,15 @@ impl Tenants {
         let function = &self.functions[f];
         let (d, lower) = (function.domain, function.id);
         let (party, number) = (frame.party, frame.number);
-        let is_own = usize::from(frame.home) == d && !matches!(party, Party::Function(_));
+        let is_sent = match party {
+            // By another function, in the name of an ID of the domain, and claiming no translation.
+            Party::Function(_) => {
+                let header = &frame.packet.header;
+                frame.is_direct && header.address_type == 0 && self.owner(header.requester) == Some(d)
+            }
+            _ => true,
+        };
+        let is_own = usize::from(frame.home) == d && is_sent;
         let is_completion = frame.packet.header.class == Class::Completion;
         let entry = match (is_own, is_completion) {
             (true, false) => Entry::Carry(number),

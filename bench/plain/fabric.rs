@@ -144,10 +144,12 @@ impl Fabric {
         let switch = &self.switches[switch];
         let course = exit.map_or_else(|| switch.downward(frame), |own| switch.upward(own, frame));
         match course {
-            Course::Forward(out) if self.channels[out].egress.is_full(class) => return false,
-            Course::Forward(out) => {
-                let frame = self.channels[input].take(class);
-                frame.into_iter().for_each(|frame| self.channels[out].egress.put(frame));
+            Course::Forward(out) | Course::Direct(out) if self.channels[out].egress.is_full(class) => return false,
+            Course::Forward(out) | Course::Direct(out) => {
+                if let Some(mut frame) = self.channels[input].take(class) {
+                    frame.is_direct |= matches!(course, Course::Direct(_));
+                    self.channels[out].egress.put(frame);
+                }
             }
             Course::Stop(status, test) => {
                 let down = exit.and_then(|own| switch.exits[own].down);

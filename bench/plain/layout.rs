@@ -19,6 +19,8 @@ pub struct Port {
     pub base: u32,
     pub limit: u32,
     pub controls: u8,
+    /// Bit i is clear where requests go directly to the port of the switch that is device i; all are set at first.
+    pub vector: Option<u32>,
     pub owner: u8,
     /// Does anything stand below?
     pub is_taken: bool,
@@ -46,6 +48,8 @@ pub struct Map {
 
 #[derive(Default)]
 pub struct Layout {
+    /// Does the text begin with `pciefab 2`?
+    pub is_second: bool,
     pub frames: Option<u32>,
     pub switches: Vec<Switch>,
     pub ports: Vec<Port>,
@@ -70,6 +74,7 @@ pub enum Cause {
     MapTwice,
     AcsUnknown,
     CreditRange,
+    EgressForeign = 14,
 }
 
 /// The least cause that applies decides, so each rule lists its conditions in the order of their numbers.
@@ -90,7 +95,10 @@ impl Layout {
             last = number;
             let added = match (is_ended, number) {
                 (false, _) => Err(Cause::Line),
-                (true, 1) => refuse_if(line != "pciefab 1", Cause::Line),
+                (true, 1) => {
+                    layout.is_second = line == "pciefab 2";
+                    refuse_if(line != "pciefab 1" && !layout.is_second, Cause::Line)
+                }
                 _ if line.starts_with('#') => Ok(()),
                 _ => layout.add(line),
             };
@@ -116,6 +124,7 @@ impl Layout {
                 let map = self.map_of([id, page, kind, target, access]).ok_or(Cause::Line)?;
                 self.add_map(map)
             }
+            ["egress", id, vector] if self.is_second => self.add_egress(id, vector),
             ["budget", domain, count] => self.add_budget(domain, count),
             ["credit", id, ref limits @ ..] => self.add_credits(id, limits),
             _ => Err(Cause::Line),
@@ -162,8 +171,11 @@ impl Layout {
         let switch = self.switches.iter().position(|line| line.id.bus() + 1 == id.bus())?;
         let is_new = self.ports.iter().all(|line| line.id != id);
         let is_window = base & 0xfffff == 0 && limit & 0xfffff == 0xfffff && base < limit;
-        let is_good = is_new && id.function() == 0 && secondary <= subordinate && is_window;
-        is_good.then_some(Port { id, switch, secondary, subordinate, base, limit, controls, owner, is_taken: false })
+        // A vector closes its switch.
+        let is_open = self.ports.iter().all(|line| line.switch != switch || line.vector.is_none());
+        let is_good = is_new && is_open && id.function() == 0 && secondary <= subordinate && is_window;
+        let (vector, is_taken) = (None, false);
+        is_good.then_some(Port { id, switch, secondary, subordinate, base, limit, controls, vector, owner, is_taken })
     }
 
     fn add_port(&mut self, port: Port) -> Result<(), Cause> {
@@ -182,8 +194,25 @@ impl Layout {
         let is_outside = above.is_some_and(|line| port.base < line.base || port.limit > line.limit);
         refuse_if(is_outside, Cause::WindowOutside)?;
         refuse_if(above.is_some_and(|line| line.owner != port.owner), Cause::OwnerMixed)?;
-        refuse_if(port.controls > 0x1f, Cause::AcsUnknown)?;
+        refuse_if(port.controls > if self.is_second { 0x3f } else { 0x1f }, Cause::AcsUnknown)?;
         self.ports.push(port);
+        Ok(())
+    }
+
+    /// The vector of a port that controls egress. Requests go directly to functions of the port's own domain alone.
+    fn add_egress(&mut self, id: &str, vector: &str) -> Result<(), Cause> {
+        let id = words::id(id).ok_or(Cause::Line)?;
+        let vector = words::fixed(vector, 8).ok_or(Cause::Line)?;
+        let number = self.ports.iter().position(|line| line.id == id).ok_or(Cause::Line)?;
+        let port = &self.ports[number];
+        refuse_if(port.controls & 0x20 == 0 || port.vector.is_some(), Cause::Line)?;
+        let stands_below = |other: &Port| self.functions.iter().any(|line| line.id == Id::on_bus(other.secondary));
+        let is_foreign = |other: &Port| {
+            let is_let = other.switch == port.switch && other.id != port.id && vector >> other.id.device() & 1 == 0;
+            is_let && (other.owner != port.owner || !stands_below(other))
+        };
+        refuse_if(self.ports.iter().any(is_foreign), Cause::EgressForeign)?;
+        self.ports[number].vector = Some(vector);
         Ok(())
     }
 

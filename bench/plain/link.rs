@@ -28,6 +28,8 @@ pub struct Frame {
     pub home: u8,
     pub party: Party,
     pub number: u64,
+    /// Did a port let it through to the function below another port of its switch?
+    pub is_direct: bool,
     pub packet: Packet,
 }
 

@@ -8,6 +8,7 @@ const BLOCKS_TRANSLATED: u8 = 2;
 const REDIRECTS_REQUESTS: u8 = 4;
 const REDIRECTS_COMPLETIONS: u8 = 8;
 const FORWARDS_UPSTREAM: u8 = 16;
+const CONTROLS_EGRESS: u8 = 32;
 
 /// No way out of the switch.
 const NOWHERE: u8 = 0xff;
@@ -16,6 +17,9 @@ const NOWHERE: u8 = 0xff;
 pub struct Exit {
     pub buses: std::ops::RangeInclusive<u8>,
     pub controls: u8,
+    pub device: u8,
+    /// The bits of devices to which requests don't go directly.
+    pub vector: u32,
     /// The direction that leads down from it, if anything stands below.
     pub down: Option<usize>,
 }
@@ -33,6 +37,7 @@ pub struct Switch {
 pub enum Test {
     Source,
     Translation,
+    Egress,
 }
 
 /// What becomes of a packet at a port.
@@ -40,6 +45,8 @@ pub enum Test {
 pub enum Course {
     /// It goes on by this direction.
     Forward(usize),
+    /// It goes down by this direction, since the vector lets it through.
+    Direct(usize),
     /// It ends here; if it is non-posted it is answered so.
     Stop(Status, Option<Test>),
     /// It ends here, and nobody hears of it.
@@ -110,16 +117,35 @@ impl Switch {
     }
 
     fn redirected(&self, own: usize, frame: &Frame) -> Course {
-        let controls = self.exits[own].controls;
-        let header = &frame.packet.header;
-        let redirects = match header.class {
-            Class::Completion => controls & REDIRECTS_COMPLETIONS != 0 && !header.relaxed,
-            _ => controls & REDIRECTS_REQUESTS != 0,
+        let Some(exit) = self.holder(frame) else {
+            return Course::Forward(self.up);
         };
-        match self.holder(frame) {
-            Some(exit) if exit == own && controls & FORWARDS_UPSTREAM == 0 => Course::Stop(Status::Unsupported, None),
-            Some(exit) if exit != own && !redirects => self.by_exit(exit),
-            _ => Course::Forward(self.up),
+        let controls = self.exits[own].controls;
+        if exit == own {
+            let is_forwarded = controls & FORWARDS_UPSTREAM != 0;
+            return if is_forwarded { Course::Forward(self.up) } else { Course::Stop(Status::Unsupported, None) };
         }
+        let header = &frame.packet.header;
+        if header.class == Class::Completion {
+            let redirects = controls & REDIRECTS_COMPLETIONS != 0 && !header.relaxed;
+            return if redirects { Course::Forward(self.up) } else { self.by_exit(exit) };
+        }
+        self.request(own, exit)
+    }
+
+    /// Of a request that another exit has below it: the vector, then Request Redirect, then Egress Control.
+    fn request(&self, own: usize, exit: usize) -> Course {
+        let Exit { controls, vector, .. } = self.exits[own];
+        let controls_egress = controls & CONTROLS_EGRESS != 0;
+        if controls_egress && vector >> self.exits[exit].device & 1 == 0 {
+            return self.exits[exit].down.map_or(Course::Lose, Course::Direct);
+        }
+        if controls & REDIRECTS_REQUESTS != 0 {
+            return Course::Forward(self.up);
+        }
+        if controls_egress {
+            return Course::Stop(Status::Abort, Some(Test::Egress));
+        }
+        self.by_exit(exit)
     }
 }

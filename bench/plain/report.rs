@@ -29,6 +29,7 @@ fn violation(out: &mut String, v: &Violation) {
     let test = match v.test {
         Test::Source => 'V',
         Test::Translation => 'B',
+        Test::Egress => 'E',
     };
     let class = if v.is_posted { "posted" } else { "nonposted" };
     add(out, format_args!("acs {} {test} from {} as {} {class}", v.port, v.sender, v.requester));

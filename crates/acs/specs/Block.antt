@@ -13,6 +13,10 @@ extended_capability_header id version next = id + version * 0x10000 + next * 0x1
 abbrev pub capability : ℕ
 capability = 0x1f
 
+-- the same with egress control, bit 5, and the size of the vector, 32 bits, in bits 15:8
+abbrev pub egress_capability : ℕ
+egress_capability = 0x203f
+
 -- 7.7.8.3: the controls that are set, among those that the port has
 abbrev pub control_of : AcsControl → ℕ
 control_of control = bit_and (bits_of control) capability
@@ -21,3 +25,8 @@ control_of control = bit_and (bits_of control) capability
 abbrev pub block_bytes : AcsControl → List ℕ
 block_bytes control =
     little_bytes 4 (extended_capability_header 0x000d 1 0) ++ little_bytes 2 capability ++ little_bytes 2 (control_of control)
+
+-- 7.7.8.4: the block of a port that controls egress has the vector behind the control register
+abbrev pub egress_block_bytes : AcsControl → ℕ → List ℕ
+egress_block_bytes control vector =
+    little_bytes 4 (extended_capability_header 0x000d 1 0) ++ little_bytes 2 egress_capability ++ little_bytes 2 (bits_of control) ++ little_bytes 4 vector

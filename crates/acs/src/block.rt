@@ -2,7 +2,7 @@
 
 ghost use Rattle.std.specs.Prelude.{◌≡◌};
 ghost use Rattle.byteorder.specs.Endian.{little_bytes};
-ghost use Rattle.acs.specs.Block.{block_bytes};
+ghost use Rattle.acs.specs.Block.{block_bytes, egress_block_bytes};
 
 use bitflags::Flags;
 use byteorder::{ByteOrder, LittleEndian};
@@ -29,13 +29,22 @@ const ACS_P2P_COMPLETION_REDIRECT: u16 = 0x0008;
 
 const ACS_UPSTREAM_FORWARDING: u16 = 0x0010;
 
-// The controls that a port has. ACS P2P Egress Control (0020h) and ACS Direct Translated P2P (0040h)
-// read 0 here. Ports of real switches have the latter, and show 5fh.
+const ACS_P2P_EGRESS_CONTROL: u16 = 0x0020;
+
+// Egress Control Vector Size, bits 15:8: 32 bits.
+const EGRESS_CONTROL_VECTOR_SIZE: u16 = 0x2000;
+
+// The controls that a port without egress control has. ACS Direct Translated P2P (0040h) reads 0 here.
+// Ports of real switches have it, and show 5fh.
 const ACS_CAPABILITY: u16 = ACS_SOURCE_VALIDATION
     | ACS_TRANSLATION_BLOCKING
     | ACS_P2P_REQUEST_REDIRECT
     | ACS_P2P_COMPLETION_REDIRECT
     | ACS_UPSTREAM_FORWARDING;
+
+const ACS_CAPABILITY_WITH_EGRESS: u16 = ACS_CAPABILITY
+    | ACS_P2P_EGRESS_CONTROL
+    | EGRESS_CONTROL_VECTOR_SIZE;
 
 /// The ACS Extended Capability of a downstream port (PCIe 4.0, 7.7.8), the last one of its list. A
 /// contract sees the controls that are set.
@@ -79,6 +88,35 @@ impl AcsBlock {
         ensures { result ≡ control }
     {
         AcsBlock { control }
+    }
+
+    /// The twelve bytes of the block of a port that controls egress (PCIe 4.0, 7.7.8.4): the header, the
+    /// capability register, the control register and the Egress Control Vector. Each is little-endian.
+    pub fn with_egress(control: AcsControl, vector: u32) -> [u8; 12]
+        ensures { result ≡ egress_block_bytes control vector }
+    {
+        let header = long(
+            EXTENDED_CAPABILITY_ID
+                + CAPABILITY_VERSION * 0x1_0000
+                + NEXT_CAPABILITY_OFFSET * 0x10_0000,
+        );
+        let capability = word(ACS_CAPABILITY_WITH_EGRESS);
+        let control = word(u16::from(control.bits()));
+        let vector = long(vector);
+        [
+            header[0],
+            header[1],
+            header[2],
+            header[3],
+            capability[0],
+            capability[1],
+            control[0],
+            control[1],
+            vector[0],
+            vector[1],
+            vector[2],
+            vector[3],
+        ]
     }
 
     /// The eight bytes of the block: the header, the capability register, and the control register,

@@ -1,6 +1,6 @@
 //! Laws of the definitions alone.
 
-ghost use Rattle.std.specs.Prelude.{◌≡◌, ◌≢◌, ◌⊎◌, ℕ, List, Bool, true, Some};
+ghost use Rattle.std.specs.Prelude.{◌≡◌, ◌≢◌, ◌⊎◌, ℕ, List, Bool, true, Ok, Some};
 ghost use Rattle.fab_types.specs.declared.head.Header.{Header};
 ghost use Rattle.fab_types.specs.declared.head.Header.TheVariants as header;
 ghost use Rattle.platform.specs.declared.parts.DownstreamPort.{DownstreamPort};
@@ -11,22 +11,23 @@ ghost use Rattle.bridge.specs.declared.route.Route.{Route};
 ghost use Rattle.bridge.specs.declared.route.Route.TheVariants as to;
 ghost use Rattle.bridge.specs.Routes.{route_of};
 ghost use Rattle.acs.specs.Vetting.{is_request};
-ghost use Rattle.acs.specs.Redirection.{redirected};
+ghost use Rattle.acs.specs.Redirection.{GoesDirectly, redirected};
 
-/// A port with all five controls set lets a request go up or to nobody, whatever its route was; and
-/// by the route that it has from that port, up.
+/// A port with all five controls set lets a request go up or to nobody, whatever its route was, or to
+/// the port of its route if its vector lets requests through to that; and by the route that it has
+/// from that port, not to nobody.
 pub fn guarded_requests_go_up()
     ensures anywhere { (port : DownstreamPort) (route : Route) (header : Header) → is_guarded_port port ≡ true → is_request header ≡ true
-        → (redirected port route header ≡ to.Up) ⊎ (redirected port route header ≡ to.Nobody) }
+        → (redirected port route header ≡ Ok to.Up) ⊎ (redirected port route header ≡ Ok to.Nobody) ⊎ GoesDirectly port route header }
     ensures routed { (switches : List Switch) (ports : List DownstreamPort) (ingress : ℕ) (port : DownstreamPort) (header : Header)
         → port_at ports ingress ≡ Some port → is_guarded_port port ≡ true → is_request header ≡ true
-        → redirected port (route_of switches ports ingress header) header ≡ to.Up }
+        → (redirected port (route_of switches ports ingress header) header ≡ Ok to.Up) ⊎ GoesDirectly port (route_of switches ports ingress header) header }
 {}
 
 /// A port with all five controls set lets a completion go to another port only with Relaxed Ordering
 /// set, and then to the port of its route; and lets no packet go back.
 pub fn guarded_completions_go_up()
     ensures relaxed { (port : DownstreamPort) (route : Route) (target : ℕ) (relaxed_ordering : Bool) (other : ℕ) → is_guarded_port port ≡ true
-        → redirected port route (header.Completion target relaxed_ordering) ≡ to.Port other → (relaxed_ordering ≡ true) × (route ≡ to.Port other) }
-    ensures back { (port : DownstreamPort) (route : Route) (header : Header) → is_guarded_port port ≡ true → redirected port route header ≢ to.OwnEgress }
+        → redirected port route (header.Completion target relaxed_ordering) ≡ Ok (to.Port other) → (relaxed_ordering ≡ true) × (route ≡ to.Port other) }
+    ensures back { (port : DownstreamPort) (route : Route) (header : Header) → is_guarded_port port ≡ true → redirected port route header ≢ Ok to.OwnEgress }
 {}

@@ -2,11 +2,11 @@
 
 ghost use Rattle.std.specs.Prelude.{◌≡◌};
 ghost use Rattle.acs.specs.Vetting.{is_request};
-ghost use Rattle.acs.specs.Redirection.{is_to_port, is_to_own_egress, is_strict_completion, request_goes_up, completion_goes_up, own_goes_up, goes_up, redirected};
+ghost use Rattle.acs.specs.Redirection.{is_to_port, is_to_own_egress, is_strict_completion, is_let_through, is_peer_request, request_goes_up, is_blocked, completion_goes_up, own_goes_up, goes_up, redirected};
 
-use crate::vetting::requester_of;
+use crate::vetting::{Verdict, requester_of};
 use bridge::Route;
-use fab_types::Header;
+use fab_types::{Check, Header};
 use platform::DownstreamPort;
 
 fn is_to_port(route: &Route) -> bool
@@ -52,10 +52,36 @@ fn is_strict_completion(header: &Header) -> bool
     }
 }
 
+fn is_let_through(port: &DownstreamPort, route: &Route) -> bool
+    ensures { result ≡ is_let_through port.now route.now }
+{
+    match route {
+        Route::Up => false,
+        Route::Port(other) => port.lets_through(*other),
+        Route::OwnEgress => false,
+        Route::Nobody => false,
+    }
+}
+
+/// Is it a request for another port of the switch that may not go there directly?
+fn is_peer_request(port: &DownstreamPort, route: &Route, header: &Header) -> bool
+    ensures { result ≡ is_peer_request port.now route.now header.now }
+{
+    is_to_port(route) && is_request(header) && !is_let_through(port, route)
+}
+
 fn request_goes_up(port: &DownstreamPort, route: &Route, header: &Header) -> bool
     ensures { result ≡ request_goes_up port.now route.now header.now }
 {
-    port.controls.redirects_requests() && is_to_port(route) && is_request(header)
+    port.controls.redirects_requests() && is_peer_request(port, route, header)
+}
+
+fn is_blocked(port: &DownstreamPort, route: &Route, header: &Header) -> bool
+    ensures { result ≡ is_blocked port.now route.now header.now }
+{
+    port.controls.controls_egress()
+        && !port.controls.redirects_requests()
+        && is_peer_request(port, route, header)
 }
 
 fn completion_goes_up(port: &DownstreamPort, route: &Route, header: &Header) -> bool
@@ -81,14 +107,23 @@ fn goes_up(port: &DownstreamPort, route: &Route, header: &Header) -> bool
 
 /// Where a packet goes that came up to a downstream port and has this route (PCIe 4.0, 6.12.1.1), by
 /// the controls that are set there. P2P Request Redirect sends a request up that is for another port
-/// of the switch, P2P Completion Redirect such a completion with Relaxed Ordering clear, and Upstream
-/// Forwarding every packet that is for the port's own egress.
-pub fn redirect(port: &DownstreamPort, route: Route, header: &Header) -> Route
+/// of the switch, unless P2P Egress Control is set and the vector's bit for that port is 0; P2P
+/// Completion Redirect such a completion with Relaxed Ordering clear; and Upstream Forwarding every
+/// packet that is for the port's own egress.
+///
+/// # Errors
+///
+/// A violation of P2P Egress Control: a request for another port of the switch for which the vector's
+/// bit is 1, where requests aren't redirected.
+pub fn redirect(port: &DownstreamPort, route: Route, header: &Header) -> Result<Route, Verdict>
     ensures { result ≡ redirected port.now route header.now }
 {
+    if is_blocked(port, &route, header) {
+        return Err(Verdict::Violation(Check::EgressControl));
+    }
     if goes_up(port, &route, header) {
-        Route::Up
+        Ok(Route::Up)
     } else {
-        route
+        Ok(route)
     }
 }

@@ -5,6 +5,7 @@ ghost use Rattle.std.specs.List.{list_all};
 ghost use Rattle.std.specs.Option.{option_copied};
 ghost use Rattle.fab_types.specs.Id.{bus_of};
 ghost use Rattle.platform.specs.declared.parts.DownstreamPort.{DownstreamPort};
+ghost use Rattle.platform.specs.Egress.{goes_directly};
 ghost use Rattle.platform.specs.Owners.{owner_of};
 ghost use Rattle.platform.specs.Share.{is_guarded_port};
 ghost use Rattle.bridge.specs.Groups.{groups_of, group_on, group_at, route_across, route_into, route_among};
@@ -15,7 +16,7 @@ use crate::switch::SwitchRoutes;
 use crate::target::{Target, holds};
 use fab_types::{Bdf, DomainId, Header, NoMemory, PortId};
 use layout::Layout;
-use platform::{DownstreamPort, Switch, owner_of};
+use platform::{DownstreamPort, Switch, goes_directly, owner_of};
 use std::alloc::Global;
 use std::marker::Model;
 
@@ -136,6 +137,14 @@ impl Bridge {
         ensures { result ≡ owner_of self.now.ports id }
     {
         owner_of(&self.ports, id)
+    }
+
+    /// Does a request of this sender for this address go directly to this function, since a port above the sender lets it
+    /// through to another port of its switch, by ACS P2P Egress Control (PCIe 4.0, 6.12.1.1)?
+    pub fn goes_directly(&self, sender: Bdf, address: u64, function: Bdf) -> bool
+        ensures { result ≡ goes_directly self.now.ports sender address function }
+    {
+        goes_directly(&self.ports, sender, address, function)
     }
 
     /// Are all five ACS controls set on each downstream port (PCIe 4.0, 6.12.1)?

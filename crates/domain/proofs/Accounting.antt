@@ -54,12 +54,14 @@ use Rattle.domain.specs.declared.receive.Reception.TheVariants.{Ends, Arrives}
 use Rattle.request_handling.specs.declared.taker.Taker.{Taker}
 use Rattle.request_handling.specs.declared.taker.Taker.TheVariants.{Host, Port, Upstream}
 use Rattle.request_handling.specs.declared.taker.Taker.TheVariants as taker
-use Rattle.request_handling.specs.declared.fate.Fate.TheVariants.{Vanish, Refused, ToHost}
-use Rattle.request_handling.specs.Requests.{at_frame_if, at_port, by_number, frame_at, is_access, lies_in, or_discarded, request_at_function, request_at_host, unserved, unserved_by_host}
+use Rattle.request_handling.specs.declared.fate.Fate.TheVariants.{Direct, Vanish, Refused, ToHost}
+use Rattle.request_handling.specs.AtFunctions.{is_access, lies_in, or_discarded, request_at_function, unserved}
+use Rattle.request_handling.specs.Requests.{at_frame_if, at_port, by_number, frame_at, request_at_host, unserved_by_host}
 use Rattle.domain.specs.Aliens.{answerer_of, completion_at_host, is_excluded, received_if, reception_at, reception_by, reception_of, reception_unless}
 use Rattle.domain.specs.Receptions.{received}
 use Rattle.request_handling.specs.Answers.{address_of, answered_by, bar_of, function_answer, function_refusal, host_refusal}
-use Rattle.request_handling.specs.Carries.{access_of, add_if, carriage_by, carriage_of, discarded, forward, frame_for, from_frame, is_carried, is_owner, port_id, read_from, refusal_by, refusal_of, refused_by_host, serve, serve_add, serve_read, to_frame, write_to}
+use Rattle.request_handling.specs.AtFunctions.{access_of, discarded}
+use Rattle.request_handling.specs.Carries.{add_if, carriage_by, carriage_of, forward, frame_for, from_frame, is_carried, is_owner, port_id, read_from, refusal_by, refusal_of, refused_by_host, serve, serve_add, serve_read, to_frame, write_to}
 use Rattle.domain.specs.Deliveries.{arrival_at, arrival_of, arrived, recorded, unexpected}
 use Rattle.domain_parts.specs.Ends.{blocked, conclude, done, replied, with_access, with_added, with_stored}
 use Rattle.request_handling.specs.Fates.{fate, fate_at}
@@ -275,7 +277,7 @@ mmio_accounted share s n m x None c lt a e = mmio_by share s n m x (tag_for s.op
 mmio_accounted share s n m x (Some fault) c lt a e = absurd cc
 
 -- an answer owes less than what it answers
-abbrev Owes : ℕ → Handling → Type 0
+abbrev pub Owes : ℕ → Handling → Type 0
 Owes spare a = one a.reply + owed_in a.reply ≤ spare
 
 did : (share : Share) (s : Alone) (n m k : ℕ) (e : Emission) (d : Effect) → item_at s.flight k ≡ Some e → Accounted share s n m → Spare share (done (without s k) e.bytes d) (suc n) m (owed_by e.parties)
@@ -299,6 +301,7 @@ refusal_by_owes : (port f : ℕ) (b : List ℕ) (fate : Fate) (a : Handling) →
 refusal_by_owes port f b Vanish a h = subst (Owes 2) (some_is _ a h) (omega arith)
 refusal_by_owes port f b (Refused status) a h = subst (Owes 2) (some_is _ a h) (omega arith)
 refusal_by_owes port f b ToHost a h = absurd cc
+refusal_by_owes port f b (Direct peer) a h = absurd cc
 
 refusal_owes : (share : Share) (b : List ℕ) (p : Parties) (a : Handling) → refusal_of share b p ≡ Some a → Owes (owed_by p) a
 refusal_owes share b (Upward f) a h = refusal_by_owes (port_id (first_port share.ports f)) f b (fate share.ports f b) a h
@@ -341,11 +344,6 @@ serve_owes share frames t a h =
     (either_owes (is_fetch_add t.kind) (Some (serve_add share frames t)) (serve_read share frames t) a
     (λ is. subst (Owes 2) (some_is _ a is) (add_owes share frames t (frame_for share t Read) (frame_for share t Write))) (serve_read_owes share frames t a)) h
 
-carriage_by_owes : (share : Share) (frames : List (ℕ × List ℕ)) (b : List ℕ) (fate : Fate) (a : Handling) → carriage_by share frames b fate ≡ Some a → Owes 2 a
-carriage_by_owes share frames b Vanish a h = absurd cc
-carriage_by_owes share frames b (Refused status) a h = absurd cc
-carriage_by_owes share frames b ToHost a h = serve_owes share frames (packet_of b) a (taken (is_carried share (packet_of b)) (serve share frames (packet_of b)) a h)
-
 answer_owes : (share : Share) (g : ℕ) (page : List ℕ) (t : Packet) (o : Option Packet)
     → one (option_map (answered_by share g t) o) + owed_in (option_map (answered_by share g t) o) ≤ 1
 answer_owes share g page t None = omega arith
@@ -354,11 +352,6 @@ answer_owes share g page t (Some c) = omega arith
 access_owes : (share : Share) (g : ℕ) (t : Packet) (page : Option (List ℕ)) (a : Handling) → option_map (λ (bytes : List ℕ). record { effect = Access g; reply = function_answer share g bytes t }) page ≡ Some a → Owes 1 a
 access_owes share g t None a h = absurd cc
 access_owes share g t (Some bytes) a h = subst (Owes 1) (some_is _ a h) (answer_owes share g bytes t (page_answer g bytes t))
-
-carriage_owes : (share : Share) (frames registers : List (ℕ × List ℕ)) (b : List ℕ) (p : Parties) (a : Handling) → carriage_of share frames registers b p ≡ Some a → Owes (owed_by p) a
-carriage_owes share frames registers b (Upward f) a h = carriage_by_owes share frames b (fate share.ports f b) a h
-carriage_owes share frames registers b (Downward g) a h = access_owes share g (packet_of b) (page_of registers g) a h
-carriage_owes share frames registers b (Answer by x) a h = absurd cc
 
 -- ---- what an alien packet owes
 
@@ -403,10 +396,24 @@ at_function_owes share registers g t =
     (or_owes (access_of share registers g t) (λ a is. let le : Owes 1 a = access_owes share g t (page_of registers g) a is in omega (arith, le)))
     (unserved_owes (class_of_kind t.kind) (function_refusal share g t) refl)
 
-at_port_owes : (port : DownstreamPort) (b : List ℕ) (sender : Parties) → Owes 2 (at_port port b sender)
-at_port_owes port b (Upward f) = or_owes (refusal_by port.id f b (fate_at port b)) (refusal_by_owes port.id f b (fate_at port b))
-at_port_owes port b (Downward g) = owes_nothing
-at_port_owes port b (Answer by x) = owes_nothing
+-- ---- what a packet that is carried owes
+
+carriage_by_owes : (share : Share) (frames registers : List (ℕ × List ℕ)) (b : List ℕ) (fate : Fate) (a : Handling) → carriage_by share frames registers b fate ≡ Some a → Owes 2 a
+carriage_by_owes share frames registers b Vanish a h = absurd cc
+carriage_by_owes share frames registers b (Refused status) a h = absurd cc
+carriage_by_owes share frames registers b ToHost a h = serve_owes share frames (packet_of b) a (taken (is_carried share (packet_of b)) (serve share frames (packet_of b)) a h)
+carriage_by_owes share frames registers b (Direct peer) a h =
+    subst (Owes 2) (some_is _ a (taken (is_carried share (packet_of b)) (Some (request_at_function share registers peer (packet_of b))) a h)) (at_function_owes share registers peer (packet_of b))
+
+pub carriage_owes : (share : Share) (frames registers : List (ℕ × List ℕ)) (b : List ℕ) (p : Parties) (a : Handling) → carriage_of share frames registers b p ≡ Some a → Owes (owed_by p) a
+carriage_owes share frames registers b (Upward f) a h = carriage_by_owes share frames registers b (fate share.ports f b) a h
+carriage_owes share frames registers b (Downward g) a h = access_owes share g (packet_of b) (page_of registers g) a h
+carriage_owes share frames registers b (Answer by x) a h = absurd cc
+
+at_port_owes : (ports : List DownstreamPort) (port : DownstreamPort) (b : List ℕ) (sender : Parties) → Owes 2 (at_port ports port b sender)
+at_port_owes ports port b (Upward f) = or_owes (refusal_by port.id f b (fate_at ports f port b)) (refusal_by_owes port.id f b (fate_at ports f port b))
+at_port_owes ports port b (Downward g) = owes_nothing
+at_port_owes ports port b (Answer by x) = owes_nothing
 
 -- whatever is received
 abbrev OwesAs : Reception → Type 0
@@ -425,7 +432,7 @@ reception_at_owes share s b sender t Host =
     (at_host_owes share s.frames t (address_type_in t))
 reception_at_owes share s b sender t (taker.Function g) =
     cond_owes_as (is_completion t.kind) (Arrives (arrival_at s.open_tags b (answerer_of sender) (origin.Function g))) (Ends (request_at_function share s.registers g t)) tt (at_function_owes share s.registers g t)
-reception_at_owes share s b sender t (Port port) = at_port_owes port b sender
+reception_at_owes share s b sender t (Port port) = at_port_owes share.ports port b sender
 reception_at_owes share s b sender t Upstream = owes_nothing
 
 reception_owes : (m : Option Malformed) (share : Share) (s : Alone) (b : List ℕ) (sender : Parties) (taker : Taker) → OwesAs (reception_unless m share s b sender taker)

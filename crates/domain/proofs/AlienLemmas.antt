@@ -1,10 +1,8 @@
 -- What an alien packet does is what the machine says of its entry.
-use Rattle.std.proofs.Common.{◌≡◌, ℕ, ◌+◌, ◌*◌, ◌≤◌, ◌==◌, Bool, true, false, cond, ◌&&◌, ◌||◌, List, [], ◌∷◌, ◌++◌, length, Option, Some, None, refl, sym, ap, ◌∙◌, subst, arith}
+use Rattle.std.proofs.Common.{◌≡◌, ℕ, ◌+◌, ◌*◌, ◌≤◌, ◌==◌, Bool, true, false, cond, ◌||◌, List, [], ◌∷◌, ◌++◌, length, Option, Some, None, refl, sym, ap, ◌∙◌, subst, inl, inr, arith}
 use Rattle.std.specs.Prelude.{◌/◌, nat_lt, is_some, option_map}
 use Rattle.std.proofs.lemmas.Bool.{ltb-true}
 use Rattle.fab_types.specs.Id.{host_of}
-use Rattle.fab_types.specs.declared.class.Class.{Class}
-use Rattle.fab_types.specs.declared.class.Class.TheVariants.{Posted, NonPosted, Completion}
 use Rattle.fab_types.specs.declared.faults.malformed.Malformed.{Malformed}
 use Rattle.fab_types.specs.declared.head.AddressType.{AddressType}
 use Rattle.fab_types.specs.declared.head.AddressType.TheVariants.{Untranslated, TranslationRequest, Translated, Reserved}
@@ -15,9 +13,7 @@ use Rattle.fab_types.specs.declared.origin.Origin.{Origin}
 use Rattle.fab_types.specs.declared.origin.Origin.TheVariants as origin
 use Rattle.fab_types.specs.declared.place.Place.{Place}
 use Rattle.frame_log.specs.Descriptor.{Descriptor}
-use Rattle.function.specs.Accesses.{IsAccess}
 use Rattle.function.specs.declared.tags.OpenTag.{OpenTag}
-use Rattle.host_memory.specs.Pages.{page_of}
 use Rattle.platform.specs.declared.parts.DownstreamPort.{DownstreamPort}
 use Rattle.platform.specs.Owners.{owner_of}
 use Rattle.platform.specs.Share.{Share, is_guarded}
@@ -33,15 +29,17 @@ use Rattle.request_handling.specs.declared.handling.Handling.{Handling}
 use Rattle.domain.specs.declared.entry.Entry.{Entry}
 use Rattle.domain.specs.declared.entry.Entry.TheVariants.{Submit, Tick, Mmio, Refuse, Carry, Deliver, Alien}
 use Rattle.request_handling.specs.declared.fate.Fate.{Fate}
-use Rattle.request_handling.specs.declared.fate.Fate.TheVariants.{Vanish, Refused, ToHost}
+use Rattle.request_handling.specs.declared.fate.Fate.TheVariants.{Vanish, Refused, ToHost, Direct}
 use Rattle.domain.specs.declared.receive.Reception.{Reception}
 use Rattle.domain.specs.declared.receive.Reception.TheVariants.{Ends, Arrives}
 use Rattle.request_handling.specs.declared.taker.Taker.{Taker}
 use Rattle.request_handling.specs.declared.taker.Taker.TheVariants.{Host, Function, Port, Upstream}
-use Rattle.request_handling.specs.Requests.{at_frame_if, at_port, by_number, frame_at, is_access, lies_in, or_discarded, request_at_function, request_at_host, unserved, unserved_by_host}
+use Rattle.request_handling.specs.AtFunctions.{or_discarded, request_at_function}
+use Rattle.request_handling.specs.Requests.{at_frame_if, at_port, by_number, frame_at, request_at_host, unserved_by_host}
 use Rattle.domain.specs.Aliens.{answerer_of, completion_at_host, is_excluded, received_if, reception_at, reception_by, reception_of, reception_unless}
-use Rattle.request_handling.specs.Answers.{address_of, bar_of, function_answer, function_refusal, host_refusal}
-use Rattle.request_handling.specs.Carries.{access_of, discarded, from_frame, is_owner, refusal_by, refused_by_host, serve, to_frame}
+use Rattle.request_handling.specs.Answers.{address_of, host_refusal}
+use Rattle.request_handling.specs.AtFunctions.{discarded}
+use Rattle.request_handling.specs.Carries.{from_frame, is_owner, refusal_by, refused_by_host, serve, to_frame}
 use Rattle.domain.specs.Deliveries.{arrival_at, is_port}
 use Rattle.domain.specs.Domains.{DomainView, Makes}
 use Rattle.domain_parts.specs.Ends.{BytesFit, EffectFits}
@@ -50,15 +48,14 @@ use Rattle.fab_types.specs.Origins.{origin_id}
 use Rattle.request_handling.specs.Heads.{descriptor_of, target_for}
 use Rattle.domain.specs.Machine.{aliens_from, aliens_in, change, replay, replay_from, with_alien}
 use Rattle.domain.specs.Receptions.{IsReceivable, received}
-use Rattle.request_handling.specs.Emissions.{Emission}
 use Rattle.domain_parts.specs.State.{Alone, Change, start_state}
 use Rattle.domain_parts.specs.Tags.{is_open}
 use Rattle.request_handling.specs.Takers.{taker_of, takes}
 use Rattle.domain.proofs.Accounting.{aliens_more, goes_on}
 use Rattle.domain.proofs.EndLemmas.{serve_fits}
+use Rattle.domain.proofs.FunctionFits.{Fits, at_function_fits, both-first, either_fits, or_fits, unserved_fits}
 use Rattle.domain.proofs.Keeping.{makes_end, makes_seen}
 use Rattle.domain_parts.proofs.PageFits.{write_in_page}
-use Rattle.request_handling.proofs.WellMadeLemmas.{is_an_access}
 
 abbrev some : {A : Type 0} → A → Option A
 some x = Some x
@@ -71,29 +68,14 @@ ends a = Ends a
 
 -- ---- what is done fits the bytes
 
-abbrev Fits : List ℕ → Handling → Type 0
-Fits b a = BytesFit b a.effect
-
 -- of what a function sent nothing accesses a page
 upward_fits : (b : List ℕ) (d : Effect) → EffectFits (record { parties = Upward 0; bytes = b }) d → BytesFit b d
 upward_fits b Leave h = tt
 upward_fits b Block h = tt
 upward_fits b (Store k first) h = h
 upward_fits b (Add k first) h = h
-upward_fits b (Access g) h = absurd cc
-
-or_fits : (b : List ℕ) (o : Option Handling) → ((a : Handling) → o ≡ Some a → Fits b a) → Fits b (or_discarded o)
-or_fits b None of = tt
-or_fits b (Some a) of = of a refl
-
-unserved_fits : (b : List ℕ) (class : Class) (e : Emission) → Fits b (unserved class e)
-unserved_fits b Posted e = tt
-unserved_fits b NonPosted e = tt
-unserved_fits b Completion e = tt
-
-either_fits : (b : List ℕ) (test : Bool) (x y : Handling) → (test ≡ true → Fits b x) → Fits b y → Fits b (cond test x y)
-either_fits b true x y of_x of_y = of_x refl
-either_fits b false x y of_x of_y = of_y
+upward_fits b (Access g) (inl h) = absurd cc
+upward_fits b (Access g) (inr h) = h
 
 host_fits : (share : Share) (b : List ℕ) (t : Packet) → Fits b (unserved_by_host share t)
 host_fits share b t = unserved_fits b (class_of_kind t.kind) (host_refusal share t)
@@ -119,32 +101,16 @@ at_host_fits share frames b (Some Translated) good =
     either_fits b (is_memory t.kind) (by_number share frames t) (unserved_by_host share t) (λ _. at_frame_fits share frames b (frame_at share.frames (address_of t / 4096)) good) (host_fits share b t)
 at_host_fits share frames b (Some Reserved) good = host_fits share b (packet_of b)
 
-both-first : (a b : Bool) → (a && b) ≡ true → a ≡ true
-both-first true b e = refl
-both-first false b e = absurd cc
-
-access_fits : (share : Share) (b : List ℕ) (g : ℕ) (page : Option (List ℕ)) (a : Handling) → malformed b ≡ None → IsAccess (packet_of b)
-    → option_map (λ (bytes : List ℕ). record { effect = Access g; reply = function_answer share g bytes (packet_of b) }) page ≡ Some a → Fits b a
-access_fits share b g None a good is e = absurd cc
-access_fits share b g (Some bytes) a good is e = subst (Fits b) (some_is _ a e) (good, is)
-
-at_function_fits : (share : Share) (registers : List (ℕ × List ℕ)) (g : ℕ) (b : List ℕ) → malformed b ≡ None → Fits b (request_at_function share registers g (packet_of b))
-at_function_fits share registers g b good =
-    let t = packet_of b in
-    let lies = lies_in (bar_of share.functions g) (address_of t) in
-    either_fits b (is_access t && lies) (or_discarded (access_of share registers g t)) (unserved (class_of_kind t.kind) (function_refusal share g t))
-    (λ is. or_fits b (access_of share registers g t) (λ a made. access_fits share b g (page_of registers g) a good (is_an_access t (both-first (is_access t) lies is)) made))
-    (unserved_fits b (class_of_kind t.kind) (function_refusal share g t))
-
 refusal_fits : (b : List ℕ) (port f : ℕ) (fate : Fate) (a : Handling) → refusal_by port f b fate ≡ Some a → Fits b a
 refusal_fits b port f Vanish a e = subst (Fits b) (some_is _ a e) tt
 refusal_fits b port f (Refused status) a e = subst (Fits b) (some_is _ a e) tt
 refusal_fits b port f ToHost a e = absurd cc
+refusal_fits b port f (Direct peer) a e = absurd cc
 
-at_port_fits : (port : DownstreamPort) (b : List ℕ) (sender : Parties) → Fits b (at_port port b sender)
-at_port_fits port b (Upward f) = or_fits b (refusal_by port.id f b (fate_at port b)) (refusal_fits b port.id f (fate_at port b))
-at_port_fits port b (Downward g) = tt
-at_port_fits port b (Answer by x) = tt
+at_port_fits : (ports : List DownstreamPort) (port : DownstreamPort) (b : List ℕ) (sender : Parties) → Fits b (at_port ports port b sender)
+at_port_fits ports port b (Upward f) = or_fits b (refusal_by port.id f b (fate_at ports f port b)) (refusal_fits b port.id f (fate_at ports f port b))
+at_port_fits ports port b (Downward g) = tt
+at_port_fits ports port b (Answer by x) = tt
 
 -- ---- what is received may be
 
@@ -167,7 +133,7 @@ at_fits share s b sender (Function g) good =
     let t = packet_of b in
     either_received s.open_tags b (is_completion t.kind) (Arrives (arrival_at s.open_tags b (answerer_of sender) (origin.Function g))) (Ends (request_at_function share s.registers g t))
     (arrives_open s.open_tags b (answerer_of sender) (origin.Function g)) (at_function_fits share s.registers g b good)
-at_fits share s b sender (Port port) good = at_port_fits port b sender
+at_fits share s b sender (Port port) good = at_port_fits share.ports port b sender
 at_fits share s b sender Upstream good = tt
 
 unless_fits : (m : Option Malformed) (share : Share) (s : Alone) (b : List ℕ) (sender : Parties) (taker : Taker) → malformed b ≡ m → IsReceivable s.open_tags b (reception_unless m share s b sender taker)

@@ -1,5 +1,5 @@
 -- How a packet in flight ends is what the machine says of its entry.
-use Rattle.std.proofs.Common.{◌≡◌, ℕ, ◌/◌, Bool, true, false, cond, List, Option, Some, None, refl, sym, ap, ◌∙◌, subst}
+use Rattle.std.proofs.Common.{◌≡◌, ℕ, ◌/◌, Bool, true, false, cond, List, Option, Some, None, refl, sym, ap, ◌∙◌, subst, inl}
 use Rattle.std.specs.Prelude.{nat_lt, option_map}
 use Rattle.fab_types.specs.declared.faults.malformed.Malformed.{Malformed}
 use Rattle.fab_types.specs.declared.head.Parties.{Parties}
@@ -21,10 +21,12 @@ use Rattle.request_handling.specs.declared.handling.Effect.TheVariants.{Leave, A
 use Rattle.request_handling.specs.declared.handling.Handling.{Handling}
 use Rattle.domain.specs.declared.entry.Entry.TheVariants.{Carry, Deliver, Refuse}
 use Rattle.request_handling.specs.declared.fate.Fate.{Fate}
-use Rattle.request_handling.specs.declared.fate.Fate.TheVariants.{Vanish, Refused, ToHost}
+use Rattle.request_handling.specs.declared.fate.Fate.TheVariants.{Vanish, Refused, ToHost, Direct}
 use Rattle.tlp_view.specs.Kinds.{is_fetch_add}
 use Rattle.request_handling.specs.Answers.{address_of, bar_of, function_answer, host_refusal}
-use Rattle.request_handling.specs.Carries.{access_of, add_if, carriage_by, carriage_end, carriage_of, forward, frame_for, is_carried, port_id, read_from, refusal_by, refusal_end, refusal_of, serve, serve_add, serve_read, write_to}
+use Rattle.request_handling.specs.AtFunctions.{access_of, request_at_function}
+use Rattle.domain.proofs.FunctionFits.{at_function_fits, effect_fits}
+use Rattle.request_handling.specs.Carries.{add_if, carriage_by, carriage_end, carriage_of, forward, frame_for, is_carried, port_id, read_from, refusal_by, refusal_end, refusal_of, serve, serve_add, serve_read, write_to}
 use Rattle.domain.specs.Domains.{DomainView, EndsBy}
 use Rattle.domain_parts.specs.Ends.{EffectFits, conclude}
 use Rattle.request_handling.specs.Fates.{fate, fate_below, fate_unless}
@@ -44,13 +46,13 @@ some_is x y e = cc
 
 -- ---- what goes on to the host is well formed
 
-well_unless : (m : Option Malformed) (port : DownstreamPort) (b : List ℕ) → fate_unless m port b ≡ ToHost → m ≡ None
-well_unless None port b e = refl
-well_unless (Some cause) port b e = absurd cc
+well_unless : (m : Option Malformed) (ports : List DownstreamPort) (function : ℕ) (port : DownstreamPort) (b : List ℕ) (fate : Fate) → fate_unless m ports function port b ≡ fate → (fate ≡ Vanish → ⊥) → m ≡ None
+well_unless None ports function port b fate e other = refl
+well_unless (Some cause) ports function port b fate e other = absurd (other (sym e))
 
-well_below : (o : Option DownstreamPort) (b : List ℕ) → fate_below o b ≡ ToHost → malformed b ≡ None
-well_below None b e = absurd cc
-well_below (Some port) b e = well_unless (malformed b) port b e
+well_below : (ports : List DownstreamPort) (function : ℕ) (o : Option DownstreamPort) (b : List ℕ) (fate : Fate) → fate_below ports function o b ≡ fate → (fate ≡ Vanish → ⊥) → malformed b ≡ None
+well_below ports function None b fate e other = absurd (other (sym e))
+well_below ports function (Some port) b fate e other = well_unless (malformed b) ports function port b fate e other
 
 -- ---- what is written lies within a page
 
@@ -62,6 +64,7 @@ refusal_by_fits : (x : Emission) (port f : ℕ) (g : Fate) (a : Handling) → re
 refusal_by_fits x port f Vanish a e = subst (Fits x) (some_is _ a e) tt
 refusal_by_fits x port f (Refused status) a e = subst (Fits x) (some_is _ a e) tt
 refusal_by_fits x port f ToHost a e = absurd cc
+refusal_by_fits x port f (Direct peer) a e = absurd cc
 
 refusal_fits : (share : Share) (x : Emission) (p : Parties) (a : Handling) → refusal_of share x.bytes p ≡ Some a → Fits x a
 refusal_fits share x (Upward f) a e = refusal_by_fits x (port_id (first_port share.ports f)) f (fate share.ports f x.bytes) a e
@@ -109,20 +112,25 @@ serve_fits share frames x a good e =
     (either_fits (is_fetch_add t.kind) (Some (serve_add share frames t)) (serve_read share frames t) x a
     (λ f is. subst (Fits x) (some_is _ a is) (add_fits share frames x (frame_for share t Read) (frame_for share t Write) good f)) (serve_read_fits share frames x t a)) e
 
-carriage_by_fits : (share : Share) (frames : List (ℕ × List ℕ)) (x : Emission) (g : Fate) (a : Handling) → (g ≡ ToHost → malformed x.bytes ≡ None) → carriage_by share frames x.bytes g ≡ Some a → Fits x a
-carriage_by_fits share frames x Vanish a good e = absurd cc
-carriage_by_fits share frames x (Refused status) a good e = absurd cc
-carriage_by_fits share frames x ToHost a good e =
+carriage_by_fits : (share : Share) (frames registers : List (ℕ × List ℕ)) (x : Emission) (g : Fate) (a : Handling) → ((g ≡ Vanish → ⊥) → malformed x.bytes ≡ None) → carriage_by share frames registers x.bytes g ≡ Some a → Fits x a
+carriage_by_fits share frames registers x Vanish a good e = absurd cc
+carriage_by_fits share frames registers x (Refused status) a good e = absurd cc
+carriage_by_fits share frames registers x ToHost a good e =
     let t = packet_of x.bytes in
-    either_fits (is_carried share t) (serve share frames t) None x a (λ carried. serve_fits share frames x a (good refl)) (none_fits x a None refl) e
+    either_fits (is_carried share t) (serve share frames t) None x a (λ carried. serve_fits share frames x a (good (λ vanishes. absurd cc))) (none_fits x a None refl) e
+carriage_by_fits share frames registers x (Direct peer) a good e =
+    let t = packet_of x.bytes in
+    either_fits (is_carried share t) (Some (request_at_function share registers peer t)) None x a
+    (λ carried is. subst (Fits x) (some_is _ a is) (effect_fits x (request_at_function share registers peer t).effect (at_function_fits share registers peer x.bytes (good (λ vanishes. absurd cc)))))
+    (none_fits x a None refl) e
 
 access_fits : (share : Share) (x : Emission) (g : ℕ) (t : Packet) (page : Option (List ℕ)) (a : Handling) → x.parties ≡ Downward g
     → option_map (λ (bytes : List ℕ). record { effect = Access g; reply = function_answer share g bytes t }) page ≡ Some a → Fits x a
 access_fits share x g t None a to e = absurd cc
-access_fits share x g t (Some bytes) a to e = subst (Fits x) (some_is _ a e) to
+access_fits share x g t (Some bytes) a to e = subst (Fits x) (some_is _ a e) (inl to)
 
 carriage_fits : (share : Share) (frames registers : List (ℕ × List ℕ)) (x : Emission) (p : Parties) (a : Handling) → x.parties ≡ p → carriage_of share frames registers x.bytes p ≡ Some a → Fits x a
-carriage_fits share frames registers x (Upward f) a of e = carriage_by_fits share frames x (fate share.ports f x.bytes) a (well_below (first_port share.ports f) x.bytes) e
+carriage_fits share frames registers x (Upward f) a of e = carriage_by_fits share frames registers x (fate share.ports f x.bytes) a (well_below share.ports f (first_port share.ports f) x.bytes (fate share.ports f x.bytes) refl) e
 carriage_fits share frames registers x (Downward g) a of e = access_fits share x g (packet_of x.bytes) (page_of registers g) a of e
 carriage_fits share frames registers x (Answer by y) a of e = absurd cc
 

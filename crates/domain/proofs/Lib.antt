@@ -4,6 +4,7 @@ pub mod PageIds
 pub mod Keeping
 pub mod Ticking
 pub mod HostBegins
+pub mod FunctionFits
 pub mod EndLemmas
 pub mod AlienLemmas
 pub mod Replaying
@@ -15,4 +16,5 @@ pub mod Joining
 pub mod Consuming
 pub mod ConsumedInOrder
 pub mod OneOutbox
+pub mod Senders
 pub mod Sending

@@ -16,12 +16,13 @@ use Rattle.tlp_view.specs.Kinds.{kind_at}
 use Rattle.tlp_view.specs.Malformed.{malformed}
 use Rattle.tlp_view.specs.Packet.{Packet}
 use Rattle.request_handling.specs.declared.fate.Fate.{Fate}
-use Rattle.request_handling.specs.declared.fate.Fate.TheVariants.{Vanish, Refused, ToHost}
+use Rattle.request_handling.specs.declared.fate.Fate.TheVariants.{Vanish, Refused, ToHost, Direct}
 use Rattle.domain.specs.declared.receive.Reception.{Reception}
 use Rattle.domain.specs.declared.receive.Reception.TheVariants.{Ends, Arrives}
 use Rattle.request_handling.specs.declared.taker.Taker.{Taker}
 use Rattle.request_handling.specs.declared.taker.Taker.TheVariants.{Host, Function, Port, Upstream}
-use Rattle.request_handling.specs.Requests.{at_port, or_discarded}
+use Rattle.request_handling.specs.AtFunctions.{or_discarded}
+use Rattle.request_handling.specs.Requests.{at_port}
 use Rattle.domain.specs.Aliens.{alien, is_excluded, received_if, reception_by, reception_unless}
 use Rattle.domain.specs.Receptions.{received}
 use Rattle.request_handling.specs.Carries.{refusal_by}
@@ -45,11 +46,12 @@ refused_reply : (port function : ℕ) (bytes : List ℕ) (f : Fate) → IsReply 
 refused_reply port function bytes Vanish = tt
 refused_reply port function bytes (Refused status) = answer_class port status (packet_of bytes)
 refused_reply port function bytes ToHost = tt
+refused_reply port function bytes (Direct peer) = tt
 
-port_reply : (port : DownstreamPort) (bytes : List ℕ) (sender : Parties) → IsReply (at_port port bytes sender).reply
-port_reply port bytes (Upward function) = refused_reply port.id function bytes (fate_at port bytes)
-port_reply port bytes (Downward function) = tt
-port_reply port bytes (Answer answerer addressee) = tt
+port_reply : (ports : List DownstreamPort) (port : DownstreamPort) (bytes : List ℕ) (sender : Parties) → IsReply (at_port ports port bytes sender).reply
+port_reply ports port bytes (Upward function) = refused_reply port.id function bytes (fate_at ports function port bytes)
+port_reply ports port bytes (Downward function) = tt
+port_reply ports port bytes (Answer answerer addressee) = tt
 
 abbrev Replies : Reception → Type 0
 Replies (Ends handling) = IsReply handling.reply
@@ -59,7 +61,7 @@ by_taker : (cause : Option Malformed) (share : Share) (s : Alone) (bytes : List 
 by_taker (Some cause) share s bytes sender taker is = tt
 by_taker None share s bytes sender Host is = absurd cc
 by_taker None share s bytes sender (Function function) is = absurd cc
-by_taker None share s bytes sender (Port port) is = port_reply port bytes sender
+by_taker None share s bytes sender (Port port) is = port_reply share.ports port bytes sender
 by_taker None share s bytes sender Upstream is = tt
 
 of_reception : (s : Alone) (bytes : List ℕ) (r : Reception) → Replies r → IsReply (received s bytes r).emission

@@ -12,7 +12,7 @@ use Rattle.tlp_view.specs.Bytes.{packet_of}
 use Rattle.tlp_view.specs.Malformed.{malformed}
 use Rattle.tlp_view.specs.Packet.{Packet}
 use Rattle.request_handling.specs.declared.fate.Fate.{Fate}
-use Rattle.request_handling.specs.declared.fate.Fate.TheVariants.{Vanish, Refused, ToHost}
+use Rattle.request_handling.specs.declared.fate.Fate.TheVariants.{Vanish, Refused, ToHost, Direct}
 use Rattle.request_handling.specs.declared.handling.Handling.{Handling}
 use Rattle.request_handling.specs.Answers.{port_answer}
 use Rattle.request_handling.specs.Carries.{port_id, refusal_by, refusal_end, refusal_of}
@@ -44,6 +44,7 @@ of_fate : (port function : ℕ) (bytes : List ℕ) (f : Fate) (a : Handling) →
 of_fate port function bytes Vanish a e = subst (λ (a : Handling). AreCompletions a.reply) (some_is _ a e) (λ domain number. tt)
 of_fate port function bytes (Refused status) a e = subst (λ (a : Handling). AreCompletions a.reply) (some_is _ a e) (of_port port function status (packet_of bytes))
 of_fate port function bytes ToHost a e = absurd cc
+of_fate port function bytes (Direct peer) a e = absurd cc
 
 of_refusal : (share : Share) (bytes : List ℕ) (p : Parties) (a : Handling) → refusal_of share bytes p ≡ Some a → AreCompletions a.reply
 of_refusal share bytes (Upward function) a e = of_fate (port_id (first_port share.ports function)) function bytes (fate share.ports function bytes) a e

@@ -2,6 +2,7 @@
 use Rattle.std.proofs.Common.{◌≡◌, ℕ, zero, suc, List, [], ◌∷◌, ◌++◌, length, Option, Some, None, refl, sym, ap, ◌∙◌, subst, arith, append_assoc, slice_get, slice_set}
 use Rattle.std.specs.Prelude.{option_map}
 use Rattle.std.proofs.lemmas.List.{append-nil}
+use Rattle.std.proofs.lemmas.Option.{get_or_from_slice_get, slice_get_within}
 use Rattle.fab_types.specs.declared.origin.Origin.{Origin}
 use Rattle.platform.specs.Share.{Share}
 use Rattle.domain.specs.declared.deliver.Arrival.{Arrival}
@@ -9,12 +10,13 @@ use Rattle.domain.specs.declared.entry.Entry.{Entry}
 use Rattle.domain.specs.declared.entry.Entry.TheVariants.{Submit, Tick, Mmio, Refuse, Carry, Deliver, Alien}
 use Rattle.domain.specs.Deliveries.{arrival, arrived}
 use Rattle.domain.specs.Machine.{change, replay, replay_from, step_from}
-use Rattle.domain.specs.Sent.{AreSent, Sent, sent, sent_at, sent_by_entry, sent_from, sent_of, source}
+use Rattle.domain.specs.Sent.{AreSent, IsBySource, Sent, sent, sent_at, sent_by_entry, sent_from, sent_of, source}
 use Rattle.request_handling.specs.Emissions.{Emission}
 use Rattle.domain_parts.specs.State.{Alone, Change, emits_nothing, item_at, start_state, without}
 use Rattle.domain.proofs.Accounting.{goes_on}
 use Rattle.domain.proofs.Joining.{mmio_flight, submit_flight, tick_flight}
 use Rattle.domain.proofs.Leaving.{alien_flight, carry_flight, deliver_flight, joined, refuse_flight}
+use Rattle.domain.proofs.Senders.{all_by_source}
 
 abbrev some : {A : Type 0} → A → Option A
 some x = Some x
@@ -117,7 +119,12 @@ journal_sends share s (x ∷ es) t xs h are =
 pub are_sent : (share : Share) (journal : List Entry) (s : Alone) → replay share journal ≡ Some s → AreSent share journal s
 are_sent share journal s h =
     let are : AreItems s.flight (sent share journal) = journal_sends share (start_state share) journal s [] h tt in
-    record { many = many_items s.flight (sent share journal) are; each = λ n e there. each_item s.flight (sent share journal) n e are there }
+    record { many = many_items s.flight (sent share journal) are; each = λ n e there. each_item s.flight (sent share journal) n e are there; sender = all_by_source share (start_state share) journal s h }
+
+-- so is each that stands there
+pub sender_of_sent : (share : Share) (journal : List Entry) (s : Alone) → replay share journal ≡ Some s → (n : ℕ) (x : Sent) → slice_get (sent share journal) n ≡ Some x → IsBySource x
+sender_of_sent share journal s h n x at =
+    subst IsBySource (get_or_from_slice_get (sent share journal) n x x at) ((are_sent share journal s h).sender n x (slice_get_within (sent share journal) n x at))
 
 -- ---- one entry more
 

@@ -22,8 +22,9 @@ use Rattle.domain.specs.declared.receive.Reception.{Reception}
 use Rattle.domain.specs.declared.receive.Reception.TheVariants.{Ends, Arrives}
 use Rattle.request_handling.specs.declared.taker.Taker.{Taker}
 use Rattle.request_handling.specs.declared.taker.Taker.TheVariants.{Host, Function, Port, Upstream}
-use Rattle.request_handling.specs.Carries.{discarded}
-use Rattle.request_handling.specs.Requests.{at_port, request_at_function, request_at_host}
+use Rattle.request_handling.specs.AtFunctions.{discarded}
+use Rattle.request_handling.specs.AtFunctions.{request_at_function}
+use Rattle.request_handling.specs.Requests.{at_port, request_at_host}
 use Rattle.domain.specs.Deliveries.{arrival_at}
 use Rattle.request_handling.specs.Heads.{target_for}
 use Rattle.domain.specs.Receptions.{received}
@@ -58,7 +59,7 @@ at_function share s g bytes sender t =
 abbrev pub reception_at : Share → Alone → List ℕ → Parties → Packet → Taker → Reception
 reception_at share s bytes sender t Host = at_host share s bytes sender t
 reception_at share s bytes sender t (Function g) = at_function share s g bytes sender t
-reception_at share s bytes sender t (Port port) = Ends (at_port port bytes sender)
+reception_at share s bytes sender t (Port port) = Ends (at_port share.ports port bytes sender)
 reception_at share s bytes sender t Upstream = Ends discarded
 
 -- malformed bytes do nothing anywhere

@@ -1,6 +1,6 @@
 -- Which two packets of a domain keep their order on the way (PCIe 4.0, 2.4.1): a posted one, and a later one that was put
 -- in the same outbox and goes the same way.
-use Rattle.std.specs.Prelude.{◌≡◌, ℕ, ◌⊎◌, ⊤, false, List, Some, None}
+use Rattle.std.specs.Prelude.{◌≡◌, ℕ, ◌⊎◌, ⊤, false, List, Option, Some, None}
 use Rattle.fab_types.specs.declared.class.Class.TheVariants.{Posted}
 use Rattle.fab_types.specs.declared.head.Header.{Header}
 use Rattle.fab_types.specs.declared.head.Header.TheVariants.{Malformed, Memory, OtherRequest, Completion}
@@ -10,7 +10,7 @@ use Rattle.fab_types.specs.declared.origin.Origin.{Origin}
 use Rattle.fab_types.specs.declared.origin.Origin.TheVariants.{Function, Host}
 use Rattle.platform.specs.declared.parts.DownstreamPort.{DownstreamPort}
 use Rattle.request_handling.specs.declared.fate.Fate.TheVariants.{ToHost}
-use Rattle.request_handling.specs.Fates.{fate}
+use Rattle.request_handling.specs.Fates.{direct_in, fate}
 use Rattle.request_handling.specs.Heads.{head_of}
 use Rattle.domain.specs.Sent.{Sent}
 use Rattle.request_handling.specs.Emissions.{Emission}
@@ -56,11 +56,17 @@ IsTo function (Answer answerer (Some addressee)) = IsOf function addressee
 
 -- ---- of two, by whom they were sent
 
--- from one function, and the later one isn't stopped at a port that the earlier one passes
+-- to which function a packet goes directly that this one sent, if it goes so to any
+abbrev pub direct_from : List DownstreamPort → ℕ → Emission → Option ℕ
+direct_from ports function e = direct_in (fate ports function e.bytes)
+
+-- from one function, both directly to one other or neither directly to any, and the later one isn't stopped at a port that
+-- the earlier one passes
 pub record FromFunction (ports : List DownstreamPort) (first second : Sent) : Type 0 where
   pub function : ℕ
   pub first_source : first.source ≡ Some (Function function)
   pub second_source : second.source ≡ Some (Function function)
+  pub same_way : direct_from ports function first.emission ≡ direct_from ports function second.emission
   pub posted : IsPosted first.emission
   pub unrelaxed : IsUnrelaxed (head_of second.emission).header
   pub further : IsCompletion (head_of second.emission).header ⊎ GoesToHost ports second.emission ⊎ (GoesToHost ports first.emission → ⊥)

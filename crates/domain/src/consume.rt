@@ -10,7 +10,7 @@ use crate::entry::Entry;
 use fab_types::{Parties, PortId};
 use frame_log::{Frame, FrameFault};
 use request_handling::{
-    Handling, carriage_to_function, carriage_to_host, refusal_of, refusal_of_completion,
+    Handling, carriage_to_function, carriage_up, refusal_of, refusal_of_completion,
 };
 use std::sync::Wait;
 
@@ -54,8 +54,8 @@ impl Domain {
         };
         match parties {
             Parties::Upward(function) => {
-                let memory = self.state.memory();
-                carriage_to_host(&self.start, &self.table, memory, function, bytes)
+                let (memory, functions) = (self.state.memory(), self.state.functions());
+                carriage_up(&self.start, &self.table, memory, functions, function, bytes)
             }
             Parties::Downward(function) => {
                 carriage_to_function(&self.start, self.state.functions(), function, bytes)

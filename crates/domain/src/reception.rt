@@ -84,7 +84,7 @@ impl Domain {
         match taker {
             Taker::Host => self.at_host(bytes, sender, view),
             Taker::Function(function) => self.at_function(function, bytes, sender, view),
-            Taker::Port(port) => Reception::Ends(at_port(&port, bytes, sender)),
+            Taker::Port(port) => Reception::Ends(at_port(self.start.ports(), &port, bytes, sender)),
             Taker::Upstream => Reception::Ends(discarded()),
         }
     }

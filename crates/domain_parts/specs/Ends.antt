@@ -1,5 +1,5 @@
 -- How a packet in flight ends: what that does with the domain's state, and what answers it.
-use Rattle.std.specs.Prelude.{◌≡◌, true, ℕ, ◌+◌, ◌≤◌, List, [], ◌∷◌, length, Option, Some, None}
+use Rattle.std.specs.Prelude.{◌≡◌, ◌⊎◌, true, ℕ, ◌+◌, ◌≤◌, List, [], ◌∷◌, length, Option, Some, None}
 use Rattle.fab_types.specs.declared.head.Parties.TheVariants.{Downward}
 use Rattle.function.specs.Accesses.{IsAccess, accessed}
 use Rattle.host_memory.specs.Additions.{added, is_operand}
@@ -82,13 +82,13 @@ conclude s n bytes handling = does (without s n) bytes handling
 abbrev pub IsAddition : List ℕ → ℕ → Type 0
 IsAddition bytes first = (malformed bytes ≡ None) × (is_operand (length (packet_of bytes).payload) ≡ true) × (first + length (packet_of bytes).payload ≤ 4096)
 
--- what is written or added to a frame lies within it, and what accesses a page is a request to its function
+-- what is written or added to a frame lies within it, and what accesses a page is a request to its function, or any for one
 abbrev pub EffectFits : Emission → Effect → Type 0
 EffectFits e Leave = Unit {0}
 EffectFits e Block = Unit {0}
 EffectFits e (Store k first) = (malformed e.bytes ≡ None) × (first + length (packet_of e.bytes).payload ≤ 4096)
 EffectFits e (Add k first) = IsAddition e.bytes first
-EffectFits e (Access function) = e.parties ≡ Downward function
+EffectFits e (Access function) = (e.parties ≡ Downward function) ⊎ ((malformed e.bytes ≡ None) × IsAccess (packet_of e.bytes))
 
 -- the same of bytes that aren't in flight here: what accesses a page is a request for one
 abbrev pub BytesFit : List ℕ → Effect → Type 0

@@ -26,3 +26,7 @@ redirects_completions controls = bit_and (bits_of controls) 8 == 8
 -- Upstream Forwarding
 abbrev pub forwards_upstream : AcsControl → Bool
 forwards_upstream controls = bit_and (bits_of controls) 16 == 16
+
+-- P2P Egress Control
+abbrev pub controls_egress : AcsControl → Bool
+controls_egress controls = bit_and (bits_of controls) 32 == 32

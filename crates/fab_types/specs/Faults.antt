@@ -159,6 +159,7 @@ layout_cause_number layout_cause.MapTwice = 10
 layout_cause_number layout_cause.AcsUnknown = 11
 layout_cause_number layout_cause.CreditRange = 12
 layout_cause_number layout_cause.NoMemory = 13
+layout_cause_number layout_cause.EgressForeign = 14
 
 abbrev pub layout_cause_name : LayoutCause → List ℕ
 layout_cause_name layout_cause.Line = codes "Line"
@@ -174,6 +175,7 @@ layout_cause_name layout_cause.MapTwice = codes "MapTwice"
 layout_cause_name layout_cause.AcsUnknown = codes "AcsUnknown"
 layout_cause_name layout_cause.CreditRange = codes "CreditRange"
 layout_cause_name layout_cause.NoMemory = codes "NoMemory"
+layout_cause_name layout_cause.EgressForeign = codes "EgressForeign"
 
 abbrev pub script_cause_number : ScriptCause → ℕ
 script_cause_number script_cause.Line = 1

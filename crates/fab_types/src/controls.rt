@@ -19,6 +19,8 @@ bitflag_items! {
         const P2P_COMPLETION_REDIRECT = 8;
         /// ACS Upstream Forwarding, U.
         const UPSTREAM_FORWARDING = 16;
+        /// ACS P2P Egress Control, E.
+        const P2P_EGRESS_CONTROL = 32;
     }
 }
 
@@ -27,9 +29,9 @@ impl AcsControl {
 
     /// The controls of these bits, if each bit is known.
     pub fn from_register(bits: u8) -> Option<AcsControl>
-        ensures { SomeIff (option_map bits_of result) (bits < 32) bits }
+        ensures { SomeIff (option_map bits_of result) (bits < 64) bits }
     {
-        if bits < 32 {
+        if bits < 64 {
             Some(AcsControl(bits))
         } else {
             None
@@ -38,7 +40,7 @@ impl AcsControl {
 }
 
 impl AcsControl {
-    ghost use Rattle.fab_types.specs.Controls.{validates_source, blocks_translated, redirects_requests, redirects_completions, forwards_upstream};
+    ghost use Rattle.fab_types.specs.Controls.{validates_source, blocks_translated, redirects_requests, redirects_completions, forwards_upstream, controls_egress};
 
     /// Is Source Validation set?
     pub fn validates_source(self) -> bool
@@ -74,6 +76,13 @@ impl AcsControl {
     {
         self.contains(AcsControl::UPSTREAM_FORWARDING)
     }
+
+    /// Is P2P Egress Control set?
+    pub fn controls_egress(self) -> bool
+        ensures { result ≡ controls_egress self }
+    {
+        self.contains(AcsControl::P2P_EGRESS_CONTROL)
+    }
 }
 
 impl Flags for AcsControl {
@@ -83,7 +92,7 @@ impl Flags for AcsControl {
 
     ghost table = { (codes "SOURCE_VALIDATION", 1) ∷ (codes "TRANSLATION_BLOCKING", 2) ∷
         (codes "P2P_REQUEST_REDIRECT", 4) ∷ (codes "P2P_COMPLETION_REDIRECT", 8) ∷
-        (codes "UPSTREAM_FORWARDING", 16) ∷ [] };
+        (codes "UPSTREAM_FORWARDING", 16) ∷ (codes "P2P_EGRESS_CONTROL", 32) ∷ [] };
 
     ghost set_of = { λ c. c.0 };
 

@@ -5,6 +5,7 @@ use crate::id::{Bdf, PortId};
 pub enum Check {
     SourceValidation,
     TranslationBlocking,
+    EgressControl,
 }
 
 /// An ACS violation: which port refused which function's request, and why.

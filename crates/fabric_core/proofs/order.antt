@@ -13,8 +13,10 @@ pub mod Tracks
 pub mod WayOrder
 pub mod UpwardOrder
 pub mod DownwardOrder
+pub mod AcrossOrder
 pub mod AfterDeeds
 pub mod KeptHeads
+pub mod Carriers
 pub mod KeptOrder
 pub mod OrderedSteps
 pub mod AloneSteps

@@ -1,23 +1,32 @@
 -- Packets of a domain that keep their order (PCIe 4.0, 2.4.1), on the way that they go.
-use Rattle.std.specs.Prelude.{◌≡◌, ℕ, ◌<◌, true, All, List, slice_get, Some, IsSome}
+use Rattle.std.specs.Prelude.{◌≡◌, ℕ, ◌<◌, true, All, List, slice_get, Some, None, IsSome}
+use Rattle.fab_types.specs.Id.{bus_of}
 use Rattle.fab_types.specs.declared.origin.Origin.TheVariants.{Function, Host}
 use Rattle.fab_types.specs.declared.place.Place.{Place}
+use Rattle.platform.specs.declared.parts.DownstreamPort.{DownstreamPort}
+use Rattle.platform.specs.Owners.{holds_bus}
 use Rattle.platform.specs.Platform.{Platform}
+use Rattle.platform.specs.Tree.{id_below, port_at}
+use Rattle.request_handling.specs.Heads.{head_of}
 use Rattle.domain.specs.Consumed.{is_in_order}
 use Rattle.domain.specs.Domains.{DomainView}
-use Rattle.domain.specs.Orders.{IsPosted, IsTo, KeepOrder}
+use Rattle.domain.specs.Orders.{IsPosted, IsTo, KeepOrder, direct_from}
 use Rattle.domain.specs.Sent.{Sent, sent}
 use Rattle.domain_parts.specs.State.{item_at}
 use Rattle.guarded_routes.specs.Guarded.{IsFunctionOf}
-use Rattle.guarded_routes.specs.Links.{IsWay}
+use Rattle.guarded_routes.specs.Links.{IsPath, IsWay}
+use Rattle.guarded_routes.specs.Sound.{let_by}
 use Rattle.fabric_core.specs.Places.{is_numbered}
-use Rattle.fabric_core.specs.Trails.{InOrderOnWay, from_function, from_host, never, standing_at}
+use Rattle.fabric_core.specs.Trails.{InOrderOnWay, across, from_function, from_host, never, standing_at}
 use Rattle.fabric_core.specs.World.{World}
 
--- the places that a packet goes through: up from the function that sent it, or down from the host to the function that it
--- is for
+-- the places that a packet goes through: up from the function that sent it to the host; up to the port that lets it through
+-- and on to another function; or down from the host to the function that it is for
 pub data GoesBy (platform : Platform) (domain : ℕ) (packet : Sent) : List Place → Type 0 where
-  Up : (function : ℕ) (links : List ℕ) → packet.source ≡ Some (Function function) → IsFunctionOf platform domain function → IsWay platform function links → GoesBy platform domain packet (from_function function links)
+  Up : (function : ℕ) (links : List ℕ) → packet.source ≡ Some (Function function) → direct_from platform.ports function packet.emission ≡ None → IsFunctionOf platform domain function → IsWay platform function links → GoesBy platform domain packet (from_function function links)
+  Across : (function peer : ℕ) (line : DownstreamPort) (links : List ℕ) → packet.source ≡ Some (Function function) → direct_from platform.ports function packet.emission ≡ Some peer → IsFunctionOf platform domain function
+      → port_at platform.ports line.id ≡ Some line → holds_bus line (bus_of function) ≡ true → let_by platform line (head_of packet.emission).header ≡ Some peer → IsPath platform (id_below line) function links
+      → GoesBy platform domain packet (across peer function links)
   Down : (function : ℕ) (links : List ℕ) → packet.source ≡ Some (Host domain) → IsTo function packet.emission.parties → IsFunctionOf platform domain function → IsWay platform function links → GoesBy platform domain packet (from_host domain links)
 
 -- two packets that a domain made and that keep their order

@@ -11,6 +11,7 @@ use Rattle.fab_types.specs.declared.place.Way.TheVariants.{Down}
 use Rattle.frame_log.specs.Descriptor.{Descriptor}
 use Rattle.domain.specs.Domains.{DomainView}
 use Rattle.platform.specs.declared.parts.DownstreamPort.{DownstreamPort}
+use Rattle.platform.specs.Egress.{goes_directly}
 use Rattle.agents.specs.Agents.{AgentsView, carried_by_function, carried_by_host, delivered, is_function_of}
 use Rattle.link.specs.Channels.{Channel, is_full}
 use Rattle.lane.specs.Lanes.{eligible}
@@ -58,6 +59,12 @@ request_at_function (Upward function) = Nobody
 request_at_function (Downward function) = Carry
 request_at_function (Answer answerer addressee) = Nobody
 
+-- a memory request of another function has come to it directly
+abbrev pub memory_at_function : List DownstreamPort → ℕ → ℕ → Parties → Receipt
+memory_at_function ports function address (Upward sender) = if goes_directly ports sender address function then Carry else Nobody
+memory_at_function ports function address (Downward completer) = request_at_function (Downward completer)
+memory_at_function ports function address (Answer answerer addressee) = request_at_function (Answer answerer addressee)
+
 -- bus 00 is the host's own: a completion for the host of the domain that made it is delivered
 abbrev pub completion_at_host : ℕ → ℕ → Receipt
 completion_at_host domain target =
@@ -80,20 +87,20 @@ is_relayed (Completion target relaxed_ordering) = not (bus_of target == 0)
 abbrev pub receipt_at_host : Descriptor → Receipt
 receipt_at_host frame = receipt_by_host frame.domain frame.head.parties frame.head.header
 
-abbrev pub receipt_by_function : Parties → Header → Receipt
-receipt_by_function parties Malformed = Nobody
-receipt_by_function parties (Memory requester address_type address) = request_at_function parties
-receipt_by_function parties (OtherRequest requester) = request_at_function parties
-receipt_by_function parties (Completion target relaxed_ordering) = Deliver
+abbrev pub receipt_by_function : List DownstreamPort → ℕ → Parties → Header → Receipt
+receipt_by_function ports function parties Malformed = Nobody
+receipt_by_function ports function parties (Memory requester address_type address) = memory_at_function ports function address parties
+receipt_by_function ports function parties (OtherRequest requester) = request_at_function parties
+receipt_by_function ports function parties (Completion target relaxed_ordering) = Deliver
 
 -- a function takes what a function or the host of its own domain made
-abbrev pub receipt_in : List DomainView → ℕ → Descriptor → Receipt
-receipt_in domains function frame =
-    if is_function_of domains function frame.domain then receipt_by_function frame.head.parties frame.head.header
+abbrev pub receipt_in : List DownstreamPort → List DomainView → ℕ → Descriptor → Receipt
+receipt_in ports domains function frame =
+    if is_function_of domains function frame.domain then receipt_by_function ports function frame.head.parties frame.head.header
     else Nobody
 
 abbrev pub receipt_at_function : World → ℕ → Descriptor → Receipt
-receipt_at_function w function frame = receipt_in w.agents.domains function frame
+receipt_at_function w function frame = receipt_in w.routes.ports w.agents.domains function frame
 
 -- ---- what it leaves
 

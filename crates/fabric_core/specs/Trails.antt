@@ -72,7 +72,11 @@ places_down (link ∷ links) = places_on (down link) ++ places_down links
 abbrev pub from_function : ℕ → List ℕ → List Place
 from_function function links = places_up links ++ place.Outbox (origin.Function function) ∷ []
 
--- from such a function back to the outbox of a domain's host
+-- from the function below the peer of the last link's port back to the outbox of a function that has these links up to it
+abbrev pub across : ℕ → ℕ → List ℕ → List Place
+across peer function links = places_on (down peer) ++ from_function function links
+
+-- from a function whose way these links are back to the outbox of a domain's host
 abbrev pub from_host : ℕ → List ℕ → List Place
 from_host domain links = places_down links ++ place.Outbox (origin.Host domain) ∷ []
 

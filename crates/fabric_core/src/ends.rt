@@ -153,11 +153,16 @@ pub(crate) fn root<R: Wait>(
     settle(interconnect, strays, end, ended)
 }
 
-fn receipt_at_function(agents: &Agents, function: Bdf, frame: &Frame) -> Receipt
-    ensures { result ≡ receipt_in agents.now.domains function frame.now }
+fn receipt_at_function(
+    interconnect: &Interconnect,
+    agents: &Agents,
+    function: Bdf,
+    frame: &Frame,
+) -> Receipt
+    ensures { result ≡ receipt_in (interconnect.now.routes).ports agents.now.domains function frame.now }
 {
     if agents.is_function_of(function, frame.domain()) {
-        receipt_by_function(frame)
+        receipt_by_function(interconnect, function, frame)
     } else {
         Receipt::Nobody
     }
@@ -165,13 +170,14 @@ fn receipt_at_function(agents: &Agents, function: Bdf, frame: &Frame) -> Receipt
 
 fn end_at_function<R: Wait>(
     rt: &R,
+    interconnect: &Interconnect,
     agents: &mut Agents,
     function: Bdf,
     frame: Frame,
 ) -> Result<(), FrameFault>
-    ensures { Takes (agents_by_function agents.old function frame (receipt_in agents.old.domains function frame)) (EntryWants (entry_by_function agents.old.domains function frame (receipt_in agents.old.domains function frame))) frame agents.old agents.new result }
+    ensures { Takes (agents_by_function agents.old function frame (receipt_in (interconnect.now.routes).ports agents.old.domains function frame)) (EntryWants (entry_by_function agents.old.domains function frame (receipt_in (interconnect.now.routes).ports agents.old.domains function frame))) frame agents.old agents.new result }
 {
-    match end_at_own(rt, agents, function, frame) {
+    match end_at_own(rt, interconnect, agents, function, frame) {
         Err(FrameFault::Stray(frame)) => {
             let down = Direction {
                 lower: function,
@@ -186,13 +192,14 @@ fn end_at_function<R: Wait>(
 /// A function takes a packet of its own domain, which is stray where that has no case for it.
 fn end_at_own<R: Wait>(
     rt: &R,
+    interconnect: &Interconnect,
     agents: &mut Agents,
     function: Bdf,
     frame: Frame,
 ) -> Result<(), FrameFault>
-    ensures { Takes (own_by_function agents.old function frame (receipt_in agents.old.domains function frame)) (Emits (entry_by_function agents.old.domains function frame (receipt_in agents.old.domains function frame))) frame agents.old agents.new result }
+    ensures { Takes (own_by_function agents.old function frame (receipt_in (interconnect.now.routes).ports agents.old.domains function frame)) (Emits (entry_by_function agents.old.domains function frame (receipt_in (interconnect.now.routes).ports agents.old.domains function frame))) frame agents.old agents.new result }
 {
-    match receipt_at_function(agents, function, &frame) {
+    match receipt_at_function(interconnect, agents, function, &frame) {
         Receipt::Carry => agents.carry_by_function(rt, function, frame),
         Receipt::Deliver => agents.complete(frame),
         Receipt::Relay => Err(FrameFault::Stray(frame)),
@@ -225,6 +232,6 @@ pub(crate) fn arrive<R: Wait>(
     let Some(frame) = interconnect.take_at(end, class) else {
         return Outcome::Idle;
     };
-    let ended = end_at_function(rt, agents, function, frame);
+    let ended = end_at_function(rt, interconnect, agents, function, frame);
     settle(interconnect, strays, end, ended)
 }

@@ -46,10 +46,7 @@ pub fn fabrics_start_sound()
 /// stray.
 pub fn guarded_fabrics_stay_sound()
     ensures { (old new : World) (event : Event) → IsConsistent old → IsGuardedFabric old → effect old event ≡ Some new → IsGuardedFabric new }
-{
-    // for the proof: the law of the controls
-    acs::guarded_requests_go_up();
-}
+{}
 
 /// In a guarded fabric every event leaves each domain that it is foreign to as it was: its state, its journal, and the
 /// place of each of its packets. In its own domain it makes at most one entry.
@@ -71,10 +68,7 @@ pub fn packets_keep_their_order()
         → (place : ℕ) (d d' : DomainView) → slice_get old.agents.domains place ≡ Some d → slice_get new.agents.domains place ≡ Some d'
         → (n m : ℕ) (pair : AreOrdered d n m) → IsSome (item_at d.state.flight n) → (places : List Place) → GoesBy (fabric.guarded guarded).platform d.share.domain pair.first places
         → OrderOf old d places n m → is_in_order n m d.journal ≡ true → StayOrdered new d' places n m }
-{
-    // for the proof: the law of the controls
-    acs::guarded_requests_go_up();
-}
+{}
 
 /// A posted packet that stands on its way, and nowhere else, does so after every event of a guarded fabric while it is in
 /// flight.
@@ -84,10 +78,7 @@ pub fn posted_packets_keep_to_their_way()
         → (n : ℕ) (packet : Sent) → slice_get (sent d.share d.journal) n ≡ Some packet → IsPosted packet.emission → IsSome (item_at d.state.flight n)
         → (places : List Place) → GoesBy (fabric.guarded guarded).platform d.share.domain packet places → KeepsToWay old d places n
         → IsSome (item_at d'.state.flight n) → KeepsToWay new d' places n }
-{
-    // for the proof: the law of the controls
-    acs::guarded_requests_go_up();
-}
+{}
 
 /// A packet that a domain makes, and that is to keep its order behind a posted one which stands on its way, stands in turn
 /// with it from the event on that makes it.
@@ -96,20 +87,14 @@ pub fn new_packets_stand_behind()
         → (place : ℕ) (d d' : DomainView) → slice_get old.agents.domains place ≡ Some d → slice_get new.agents.domains place ≡ Some d'
         → (n m : ℕ) (pair : AreOrdered d' n m) → length (sent d.share d.journal) ≤ m → IsSome (item_at d.state.flight n) → IsSome (item_at d'.state.flight n)
         → (places : List Place) → GoesBy (fabric.guarded guarded).platform d.share.domain pair.first places → KeepsToWay old d places n → OrderOf new d places n m }
-{
-    // for the proof: the law of the controls
-    acs::guarded_requests_go_up();
-}
+{}
 
 /// Every event keeps a fabric, of any layout: what `every_event_keeps_the_invariant` says, and in a guarded layout also that
 /// each packet is where somebody has a case for it, that each posted packet in flight stands on its way, and that two
 /// packets of a domain that keep their order are in turn there, and were consumed in it.
 pub fn every_event_keeps_a_fabric()
     ensures { (old new : World) (event : Event) → IsFabric old → effect old event ≡ Some new → IsFabric new }
-{
-    // for the proof: the law of the controls
-    acs::guarded_requests_go_up();
-}
+{}
 
 /// In the fabric of a guarded layout the events of other domains can be taken out of any run: where a domain's events that
 /// moved are run alone, with those that tell credits, each of them moves again, and the domain has the same state, journal,
@@ -117,17 +102,11 @@ pub fn every_event_keeps_a_fabric()
 pub fn other_domains_can_be_taken_out()
     ensures { (platform : Platform) → IsGuarded platform → (events : List Event) (outcomes : List Outcome) (first : World)
         → Run (world_of platform) events outcomes first → (d : ℕ) → CannotTell d (world_of platform) events outcomes first }
-{
-    // for the proof: the law of the controls
-    acs::guarded_requests_go_up();
-}
+{}
 
 /// What `other_domains_can_be_taken_out` leaves of a run can be run: there is a run of it from the same start in which no
 /// event is refused memory.
 pub fn what_is_left_can_be_run()
     ensures { (platform : Platform) → IsGuarded platform → (events : List Event) (outcomes : List Outcome) (first : World)
         → Run (world_of platform) events outcomes first → (d : ℕ) → CanBeLeft d (world_of platform) events outcomes }
-{
-    // for the proof: the law of the controls
-    acs::guarded_requests_go_up();
-}
+{}

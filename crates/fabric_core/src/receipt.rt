@@ -1,10 +1,11 @@
 //! How a packet ends that the host or a function takes (PCIe 4.0, 2.2.9 and 2.3.1).
 
 ghost use Rattle.std.specs.Prelude.{◌≡◌};
-ghost use Rattle.fabric_core.specs.Receipts.{completion_at_host, receipt_at_host, receipt_by_function, receipt_by_host, is_relayed, request_at_function, request_at_host};
+ghost use Rattle.fabric_core.specs.Receipts.{completion_at_host, receipt_at_host, receipt_by_function, receipt_by_host, is_relayed, memory_at_function, request_at_function, request_at_host};
 
 use fab_types::{Bdf, DomainId, Header, Parties};
 use frame_log::Frame;
+use interconnect::Interconnect;
 
 /// How a packet ends that was taken.
 #[derive(Clone, Copy)]
@@ -82,13 +83,40 @@ pub(crate) fn receipt_at_host(frame: &Frame) -> Receipt
     receipt_by_host(frame.domain(), head.parties, head.header)
 }
 
-pub(crate) fn receipt_by_function(frame: &Frame) -> Receipt
-    ensures { result ≡ receipt_by_function frame.now.head.parties frame.now.head.header }
+/// A memory request of another function has come to it directly.
+fn memory_at_function(
+    interconnect: &Interconnect,
+    function: Bdf,
+    address: u64,
+    parties: Parties,
+) -> Receipt
+    ensures { result ≡ memory_at_function (interconnect.now.routes).ports function address parties }
+{
+    match parties {
+        Parties::Upward(sender) => {
+            if interconnect.goes_directly(sender, address, function) {
+                Receipt::Carry
+            } else {
+                Receipt::Nobody
+            }
+        }
+        Parties::Downward(_) | Parties::Answer(..) => request_at_function(parties),
+    }
+}
+
+pub(crate) fn receipt_by_function(
+    interconnect: &Interconnect,
+    function: Bdf,
+    frame: &Frame,
+) -> Receipt
+    ensures { result ≡ receipt_by_function (interconnect.now.routes).ports function frame.now.head.parties frame.now.head.header }
 {
     let head = frame.head();
     match head.header {
         Header::Malformed => Receipt::Nobody,
-        Header::Memory { .. } => request_at_function(head.parties),
+        Header::Memory { address, .. } => {
+            memory_at_function(interconnect, function, address, head.parties)
+        }
         Header::OtherRequest { .. } => request_at_function(head.parties),
         Header::Completion { .. } => Receipt::Deliver,
     }

@@ -6,6 +6,7 @@ use Rattle.fab_types.specs.declared.place.Place.TheVariants.{Ingress}
 use Rattle.fab_types.specs.declared.place.Way.TheVariants.{Down}
 use Rattle.frame_log.specs.Descriptor.{Descriptor}
 use Rattle.lane.specs.Lanes.{Class, eligible}
+use Rattle.platform.specs.declared.parts.DownstreamPort.{DownstreamPort}
 use Rattle.outboxes.specs.Outboxes.{BoxView}
 use Rattle.injector.specs.declared.record_ring.RecordRing.{RecordRing}
 use Rattle.end_parts.specs.Boxes.{with_places}
@@ -17,25 +18,25 @@ abbrev pub place_at : ℕ → Place
 place_at function = Ingress (record { lower = function; way = Down })
 
 -- its home has an entry of it
-pub record ArrivesAtHome (domain : ℕ) (class : Class) (waiting waiting' : List Descriptor) (box box' : BoxView) (ring ring' : RecordRing) (strays strays' : List Descriptor) : Type 0 where
+pub record ArrivesAtHome (ports : List DownstreamPort) (function domain : ℕ) (class : Class) (waiting waiting' : List Descriptor) (box box' : BoxView) (ring ring' : RecordRing) (strays strays' : List Descriptor) : Type 0 where
   pub frame : Descriptor
   pub taken : eligible class waiting ≡ Some (frame, waiting')
-  pub ended : EndsOwn (receipt_at domain frame) frame box box' ring ring'
+  pub ended : EndsOwn (receipt_at ports function domain frame) frame box box' ring ring'
   pub others : strays' ≡ strays
 
 -- its home has no case for it, and the function's domain has an entry of it
-pub record ArrivesAsAlien (locks : List ℕ) (function domain : ℕ) (class : Class) (waiting waiting' : List Descriptor) (box box' : BoxView) (strays strays' : List Descriptor) : Type 0 where
+pub record ArrivesAsAlien (ports : List DownstreamPort) (locks : List ℕ) (function domain : ℕ) (class : Class) (waiting waiting' : List Descriptor) (box box' : BoxView) (strays strays' : List Descriptor) : Type 0 where
   pub frame : Descriptor
   pub taken : eligible class waiting ≡ Some (frame, waiting')
-  pub no_case : HasNoCase locks (receipt_at domain frame) frame
+  pub no_case : HasNoCase locks (receipt_at ports function domain frame) frame
   pub ended : TakesAlien domain (place_at function) frame box box'
   pub others : strays' ≡ strays
 
 -- nobody has a case for it, and it stands behind the other strays
-pub record ArrivesAsStray (locks : List ℕ) (function domain : ℕ) (class : Class) (waiting waiting' : List Descriptor) (box box' : BoxView) (strays strays' : List Descriptor) : Type 0 where
+pub record ArrivesAsStray (ports : List DownstreamPort) (locks : List ℕ) (function domain : ℕ) (class : Class) (waiting waiting' : List Descriptor) (box box' : BoxView) (strays strays' : List Descriptor) : Type 0 where
   pub frame : Descriptor
   pub taken : eligible class waiting ≡ Some (frame, waiting')
-  pub no_case : HasNoCase locks (receipt_at domain frame) frame
+  pub no_case : HasNoCase locks (receipt_at ports function domain frame) frame
   pub no_alien : HasNoAlien locks domain (place_at function) frame
   pub kept : strays' ≡ strays ++ frame ∷ []
   pub places : box' ≡ with_places box'.places box

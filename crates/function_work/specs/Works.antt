@@ -1,6 +1,7 @@
 -- The work of a function, as a contract sees it.
 use Rattle.std.specs.Prelude.{ℕ, List}
 use Rattle.std.specs.Arc.{arc_value}
+use Rattle.bridge.specs.Bridges.{Routes}
 use Rattle.function_work.specs.declared.function_work.FunctionWork.TheInside.{Inside}
 use Rattle.function_work.specs.declared.parts.FunctionParts.{FunctionParts}
 
@@ -8,6 +9,7 @@ use Rattle.function_work.specs.declared.parts.FunctionParts.{FunctionParts}
 pub record FunctionKept : Type 0 where
   pub function : ℕ
   pub domain : ℕ  -- the domain that the function is of
+  pub routes : Routes  -- the switches and ports of its layout
   pub locks : List ℕ  -- the numbers of the domains under locks
 
 pub record FunctionWorkView : Type 0 where
@@ -16,7 +18,7 @@ pub record FunctionWorkView : Type 0 where
 
 abbrev pub work_view : Inside → FunctionWorkView
 work_view w = record {
-  kept = record { function = w.function; domain = w.domain; locks = arc_value w.locks };
+  kept = record { function = w.function; domain = w.domain; routes = arc_value w.bridge; locks = arc_value w.locks };
   parts = record {
     function = w.function;
     outbox = w.outbox;

@@ -6,6 +6,7 @@ ghost use Rattle.lane.specs.Queues.{frames_of};
 ghost use Rattle.function_work.specs.Arriving.{ArrivesAsAlien, ArrivesAsStray, ArrivesAtHome, StaysThere, place_at};
 
 use crate::receipt::receipt_at;
+use bridge::Bridge;
 use end_parts::{Ending, Unended, end_alien, end_own};
 use fab_types::{Bdf, Class, Direction, DomainId, Place, Way};
 use frame_log::Frame;
@@ -33,15 +34,16 @@ pub(crate) fn arrive<R: Wait>(
     class: Class,
     function: Bdf,
     domain: DomainId,
+    bridge: &Bridge,
     input: &mut Ingress,
     outbox: &mut OriginBox,
     records: &mut RecordRing,
     locks: &Locks,
     strays: &mut Vec<Frame>,
 ) -> Ending
-    ensures own { result ≡ Ending.Own → ArrivesAtHome domain class (frames_of input.old.queue.queue.waiting) (frames_of input.new.queue.queue.waiting) outbox.old outbox.new records.old records.new strays.old.items strays.new.items }
-    ensures alien { result ≡ Ending.Alien → ArrivesAsAlien locks.now function domain class (frames_of input.old.queue.queue.waiting) (frames_of input.new.queue.queue.waiting) outbox.old outbox.new strays.old.items strays.new.items }
-    ensures stray { result ≡ Ending.Stray → ArrivesAsStray locks.now function domain class (frames_of input.old.queue.queue.waiting) (frames_of input.new.queue.queue.waiting) outbox.old outbox.new strays.old.items strays.new.items }
+    ensures own { result ≡ Ending.Own → ArrivesAtHome bridge.now.ports function domain class (frames_of input.old.queue.queue.waiting) (frames_of input.new.queue.queue.waiting) outbox.old outbox.new records.old records.new strays.old.items strays.new.items }
+    ensures alien { result ≡ Ending.Alien → ArrivesAsAlien bridge.now.ports locks.now function domain class (frames_of input.old.queue.queue.waiting) (frames_of input.new.queue.queue.waiting) outbox.old outbox.new strays.old.items strays.new.items }
+    ensures stray { result ≡ Ending.Stray → ArrivesAsStray bridge.now.ports locks.now function domain class (frames_of input.old.queue.queue.waiting) (frames_of input.new.queue.queue.waiting) outbox.old outbox.new strays.old.items strays.new.items }
     ensures waits { result ≡ Ending.Waits → StaysThere (frames_of input.old.queue.queue.waiting) (frames_of input.new.queue.queue.waiting) outbox.old outbox.new strays.old.items strays.new.items }
     ensures idle { result ≡ Ending.Idle → (eligible class (frames_of input.old.queue.queue.waiting) ≡ None) × StaysThere (frames_of input.old.queue.queue.waiting) (frames_of input.new.queue.queue.waiting) outbox.old outbox.new strays.old.items strays.new.items }
     ensures records { result ≢ Ending.Own → records.new ≡ records.old }
@@ -49,7 +51,7 @@ pub(crate) fn arrive<R: Wait>(
     let Some(frame) = input.release(class) else {
         return Ending::Idle;
     };
-    let receipt = receipt_at(domain, &frame);
+    let receipt = receipt_at(bridge, function, domain, &frame);
     match end_own(rt, locks, receipt, outbox, records, frame) {
         Ok(()) => Ending::Own,
         Err(Unended::Stray(frame)) => {

@@ -6,6 +6,7 @@ ghost use Rattle.wiring.specs.Wired.{tags_of};
 
 use crate::arrive::arrive;
 use crate::parts::FunctionParts;
+use bridge::Bridge;
 use credit::Limits;
 use end_parts::{enter_each, serve_begin};
 use fab_types::{Bdf, Class, DomainId};
@@ -22,9 +23,9 @@ use wiring::Ends;
 // How often a turn goes round while something moves.
 const ROUNDS: usize = 16;
 
-/// A function with all that is its own: its outbox, its ends of its injector's rings, its side of its link, its way to the
-/// domains, and the packets that nobody had a case for. The ends of links' rings that it has are lent to each call. A contract
-/// sees a `FunctionWorkView`: what no turn changes, and all that is its own.
+/// A function with all that is its own: its outbox, its ends of its injector's rings, its side of its link, the switches of
+/// the layout, its way to the domains, and the packets that nobody had a case for. The ends of links' rings that it has are
+/// lent to each call. A contract sees a `FunctionWorkView`: what no turn changes, and all that is its own.
 #[derive(Drop)]
 pub struct FunctionWork {
     function: Bdf,
@@ -32,6 +33,7 @@ pub struct FunctionWork {
     outbox: OriginBox,
     ends: WorkerEnds,
     side: LinkSide,
+    bridge: Arc<Bridge, Global>,
     locks: Arc<Locks, Global>,
     strays: Vec<Frame>,
 }
@@ -46,7 +48,7 @@ impl Model for FunctionWork {
 
 impl FunctionWork {
     /// The work of a function of this domain, with its outbox and the other ends of its injector's rings, at this side of its
-    /// link, over the domains under locks. It has no strays. It takes no memory.
+    /// link, over the switches of its layout and the domains under locks. It has no strays. It takes no memory.
     pub fn new(
         alloc: Global,
         function: Bdf,
@@ -54,9 +56,10 @@ impl FunctionWork {
         outbox: OriginBox,
         ends: WorkerEnds,
         side: LinkSide,
+        bridge: Arc<Bridge, Global>,
         locks: Arc<Locks, Global>,
     ) -> FunctionWork
-        ensures kept { result.kept ≡ record { function = function; domain = domain; locks = arc_value locks } }
+        ensures kept { result.kept ≡ record { function = function; domain = domain; routes = arc_value bridge; locks = arc_value locks } }
         ensures outbox { result.parts.outbox ≡ outbox }
         ensures ends { (result.parts.begins ≡ ends.begins) × (result.parts.records ≡ ends.records) }
         ensures side { result.parts.side ≡ side }
@@ -68,6 +71,7 @@ impl FunctionWork {
             outbox,
             ends,
             side,
+            bridge,
             locks,
             strays: Vec::new(alloc),
         }
@@ -82,6 +86,7 @@ impl FunctionWork {
             class,
             self.function,
             self.domain,
+            &self.bridge,
             &mut self.side.ingress,
             &mut self.outbox,
             &mut self.ends.records,
@@ -160,6 +165,7 @@ impl FunctionWork {
             outbox,
             ends,
             side,
+            bridge: _,
             locks: _,
             strays,
         } = self;

@@ -2,7 +2,7 @@
 use Rattle.std.proofs.Common.{◌≡◌, ℕ, ◌+◌, ◌*◌, ◌^◌, ◌<◌, ◌≤◌, ◌==◌, inl, Bool, true, false, cond, not, Option, Some, None, List, length, option_map, refl, sym, ap, ◌∙◌, subst, arith, nat_lt, nat_le, slice_index}
 use Rattle.std.specs.Option.{is_none}
 use Rattle.std.proofs.lemmas.Bool.{and_parts, and_from, leb-true, le-leb, ltb-true}
-use Rattle.fab_types.specs.Id.{host_of}
+use Rattle.fab_types.specs.Id.{bus_of, host_of}
 use Rattle.fab_types.specs.declared.faults.begin.MmioFault.{MmioFault}
 use Rattle.fab_types.specs.declared.faults.begin.SubmitFault.{SubmitFault}
 use Rattle.fab_types.specs.declared.faults.begin.TickFault.{TickFault}
@@ -25,7 +25,7 @@ use Rattle.host_memory.specs.Pages.{page_of}
 use Rattle.platform.specs.declared.parts.EndpointFunction.{EndpointFunction}
 use Rattle.platform.specs.declared.parts.DownstreamPort.{DownstreamPort}
 use Rattle.layout.specs.Laws.{ends_low}
-use Rattle.platform.specs.Owners.{first_port, is_own_function}
+use Rattle.platform.specs.Owners.{first_port, holds_bus, is_own_function}
 use Rattle.platform.specs.Platform.{Platform}
 use Rattle.platform.specs.Share.{Share}
 use Rattle.layout.specs.Views.{share_of_domain}
@@ -51,7 +51,7 @@ use Rattle.domain_parts.specs.Tags.{completes, is_completion_unless}
 use Rattle.domain.specs.Ticks.{sent_by, tick_fault, tick_unless, ticks, ticks_by}
 use Rattle.request_handling.specs.WellMade.{IsWellMade}
 use Rattle.guarded_routes.specs.Guarded.{IsFunctionOf, IsGuarded, holds_if_any, top_id}
-use Rattle.guarded_routes.specs.Sound.{Falling, IsMeantFor, Reaches, Rising, is_reply}
+use Rattle.guarded_routes.specs.Sound.{Falling, IsAsked, IsMeantFor, Reaches, Rising, is_reply}
 use Rattle.guarded_routes.proofs.Finds.{find_all, some, some_is}
 use Rattle.guarded_routes.proofs.Below.{Under, under_root}
 use Rattle.guarded_routes.proofs.Nodes.{At, First}
@@ -112,7 +112,11 @@ module _ (platform : Platform) (g : IsGuarded platform) where
         request = ap (λ (e : Emission). is_reply (header_unless (malformed e.bytes) e.parties e.bytes)) is ∙ other;
         below = below platform g d f f (Some first.port) first (At.Over first.port first.listed first.below) Under.Here;
         cleared = inl refl;
+        passed = λ port listed held less. let high : port.secondary ≤ bus_of f = held_low port held in absurd (omega (arith, less, high));
       }
+    where
+      held_low : (port : DownstreamPort) → holds_bus port (bus_of f) ≡ true → port.secondary ≤ bus_of f
+      held_low port held = leb-true port.secondary (bus_of f) (and_parts _ _ held).0
 
   pub submits : (d f number : ℕ) (bytes : List ℕ) (s : Alone) (c : Change) (e : Emission) → change (share_of_domain platform d) s (Submit f bytes) ≡ Some c → c.emission ≡ Some e → Rising platform f (descriptor_of d number e)
   submits d f number bytes s c e made sent =
@@ -238,7 +242,7 @@ module _ (platform : Platform) (g : IsGuarded platform) where
         own = own;
         below = below platform g d f top_id None first (At.Top refl) (under_root platform g.laws first.port first.listed);
         held = subst (λ (h : Header). holds_if_any (first_port platform.ports f) (target_of h) ≡ true) (sym is) (held (first_port platform.ports f) first.port first.is within);
-        meant = subst (λ (h : Header). IsMeantFor platform d f e.parties h) (sym is) (parties, x, reaches);
+        meant = subst (λ (h : Header). IsMeantFor platform d f e.parties h) (sym is) (IsAsked.ByHost parties, x, reaches);
       }
     where
       held : (o : Option DownstreamPort) (line : DownstreamPort) → o ≡ Some line → InWindow line (page_at bar + offset) → holds_if_any o (Some (Address (page_at bar + offset))) ≡ true

@@ -1,7 +1,7 @@
 -- What the header of a packet says of its bytes, and what its first port then does with it.
 use Rattle.std.proofs.Common.{◌≡◌, ℕ, Bool, true, false, cond, ◌&&◌, Option, Some, None, List, refl, ap, ◌∙◌}
 use Rattle.std.specs.Option.{unwrap_or}
-use Rattle.fab_types.specs.Controls.{validates_source, blocks_translated}
+use Rattle.fab_types.specs.Controls.{blocks_translated, controls_egress, validates_source}
 use Rattle.fab_types.specs.Id.{bus_of}
 use Rattle.fab_types.specs.declared.faults.malformed.Malformed.{Malformed}
 use Rattle.fab_types.specs.declared.head.AddressType.{AddressType}
@@ -9,15 +9,16 @@ use Rattle.fab_types.specs.declared.head.AddressType.TheVariants.{Untranslated}
 use Rattle.fab_types.specs.declared.head.Header.TheVariants as header
 use Rattle.fab_types.specs.declared.head.Parties.{Parties}
 use Rattle.platform.specs.declared.parts.DownstreamPort.{DownstreamPort}
+use Rattle.platform.specs.Egress.{direct_to}
 use Rattle.platform.specs.Owners.{first_port, holds_bus}
 use Rattle.tlp_view.specs.Bytes.{packet_of}
 use Rattle.tlp_view.specs.Kinds.{has_address, is_completion}
 use Rattle.tlp_view.specs.Malformed.{malformed}
 use Rattle.tlp_view.specs.Packet.{Packet, address_in}
-use Rattle.request_handling.specs.declared.fate.Fate.TheVariants.{ToHost}
 use Rattle.request_handling.specs.Fates as fates
 use Rattle.request_handling.specs.Heads.{header_unless, target_for}
-use Rattle.guarded_routes.proofs.Ports.{Set, and_false}
+use Rattle.guarded_routes.proofs.Controls.{Set}
+use Rattle.guarded_routes.proofs.Ports.{and_false}
 
 -- the bytes of a memory request or a FetchAdd
 pub record MemoryBytes (bytes : List ℕ) (requester : ℕ) (address_type : AddressType) (address : ℕ) : Type 0 where
@@ -43,13 +44,16 @@ memory_bytes parties bytes requester address_type address e = go (malformed byte
     go (Some cause) i e = absurd cc
     go None i e = kinds (is_completion (packet_of bytes).kind) (has_address (packet_of bytes).kind) i refl refl e
 
--- what a guarded first port lets pass has the host as its fate
-pub goes_to_host : (ports : List DownstreamPort) (f : ℕ) (line : DownstreamPort) (bytes : List ℕ) (requester address : ℕ) → first_port ports f ≡ Some line → Set line → holds_bus line (bus_of requester) ≡ true → MemoryBytes bytes requester Untranslated address → fates.fate ports f bytes ≡ ToHost
-goes_to_host ports f line bytes requester address first set held b =
+-- what a guarded first port lets pass goes to the host, or directly to the function to which a port lets it through
+pub goes_on : (ports : List DownstreamPort) (f : ℕ) (line : DownstreamPort) (bytes : List ℕ) (requester address : ℕ) → first_port ports f ≡ Some line → Set line → holds_bus line (bus_of requester) ≡ true → MemoryBytes bytes requester Untranslated address
+    → fates.fate ports f bytes ≡ fates.goes_to (direct_to ports f address)
+goes_on ports f line bytes requester address first set held b =
     let held' : holds_bus line (bus_of (packet_of bytes).requester) ≡ true = ap (λ (r : ℕ). holds_bus line (bus_of r)) b.requester_is ∙ held in
-    ap (λ (o : Option DownstreamPort). fates.fate_below o bytes) first
-    ∙ (ap (λ (m : Option Malformed). fates.fate_unless m line bytes) b.well
-    ∙ packet_is line (packet_of bytes) set held' b.type_is b.addressed)
+    ap (λ (o : Option DownstreamPort). fates.fate_below ports f o bytes) first
+    ∙ (ap (λ (m : Option Malformed). fates.fate_unless m ports f line bytes) b.well
+    ∙ (packet_is line (packet_of bytes) set held' b.type_is b.addressed
+    ∙ ap (λ (a : ℕ). fates.goes_to (direct_to ports f a)) b.address_is))
   where
-    packet_is : (line : DownstreamPort) (t : Packet) → Set line → holds_bus line (bus_of t.requester) ≡ true → t.address_type ≡ Untranslated → has_address t.kind ≡ true → fates.packet_fate line t ≡ ToHost
-    packet_is line t set held type addressed = rw (held, type, addressed, set.upstream, and_false (validates_source line.controls), and_false (blocks_translated line.controls && true)) refl
+    packet_is : (line : DownstreamPort) (t : Packet) → Set line → holds_bus line (bus_of t.requester) ≡ true → t.address_type ≡ Untranslated → has_address t.kind ≡ true → fates.packet_fate ports f line t ≡ fates.goes_to (direct_to ports f (unwrap_or (address_in t.body) 0))
+    packet_is line t set held type addressed =
+        rw (held, type, addressed, set.upstream, set.requests, and_false (validates_source line.controls), and_false (blocks_translated line.controls && true), and_false (controls_egress line.controls)) refl

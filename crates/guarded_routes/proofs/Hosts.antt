@@ -17,17 +17,20 @@ use Rattle.platform.specs.declared.parts.Access.TheVariants.{Read, Write}
 use Rattle.platform.specs.declared.parts.EndpointFunction.{EndpointFunction}
 use Rattle.platform.specs.declared.parts.MapTarget.{MapTarget}
 use Rattle.platform.specs.declared.parts.MapTarget.TheVariants.{Frame, Peer}
+use Rattle.platform.specs.Egress.{direct_to}
 use Rattle.platform.specs.Owners.{owner_of, is_function}
 use Rattle.platform.specs.Platform.{Platform}
+use Rattle.platform.specs.Share.{Share}
 use Rattle.layout.specs.Tables.{target_of}
 use Rattle.layout.specs.Views.{share_of_domain}
 use Rattle.tlp_view.specs.Bytes.{packet_of}
 use Rattle.tlp_view.specs.Packet.{Packet, dw_count}
 use Rattle.tlp_view.specs.Runs.{is_write}
 use Rattle.domain.specs.declared.entry.Entry.TheVariants.{Carry, Deliver}
-use Rattle.request_handling.specs.declared.fate.Fate.TheVariants.{ToHost}
+use Rattle.request_handling.specs.declared.handling.Handling.{Handling}
 use Rattle.tlp_view.specs.Kinds.{is_fetch_add}
 use Rattle.request_handling.specs.Answers.{address_of, bar_of}
+use Rattle.request_handling.specs.AtFunctions.{request_at_function}
 use Rattle.request_handling.specs.Carries.{carriage_by, carriage_of, forward, is_carried, is_owner, read_from, refused_by_host, serve, serve_add, serve_read, write_to}
 use Rattle.domain.specs.Deliveries.{arrival_of}
 use Rattle.domain_parts.specs.Ends.{conclude}
@@ -38,8 +41,9 @@ use Rattle.request_handling.specs.Emissions.{Emission}
 use Rattle.domain_parts.specs.State.{Alone}
 use Rattle.guarded_routes.specs.Ends.{Flies, IsFor, IsLegal, IsOwnRequest}
 use Rattle.guarded_routes.specs.Guarded.{IsFunctionOf, IsGuarded, has_id, top_id}
-use Rattle.guarded_routes.specs.Sound.{Falling, IsCleared, Reaches, Replying, Rising, is_reply}
-use Rattle.guarded_routes.proofs.Bytes.{MemoryBytes, goes_to_host, memory_bytes}
+use Rattle.guarded_routes.specs.Sound.{Falling, IsCleared, Reaches, Replying, Rising, is_reply, let_by}
+use Rattle.guarded_routes.proofs.Bytes.{MemoryBytes, goes_on, memory_bytes}
+use Rattle.guarded_routes.proofs.Peers.{none_direct}
 use Rattle.guarded_routes.proofs.Finds.{any_found}
 use Rattle.guarded_routes.proofs.Below.{not_first, under_root}
 use Rattle.guarded_routes.proofs.Homes.{peer_of}
@@ -70,7 +74,7 @@ module _ (platform : Platform) (g : IsGuarded platform) where
     pub plain : frame.head.header ≡ header.Memory requester Untranslated address
     pub held : has_id platform f requester ≡ true
 
-  cleared_request : (frame : Descriptor) (f : ℕ) (h : Header) → frame.head.header ≡ h → IsCleared platform f h → Request frame f
+  pub cleared_request : (frame : Descriptor) (f : ℕ) (h : Header) → frame.head.header ≡ h → IsCleared platform f h → Request frame f
   cleared_request frame f header.Malformed same c = absurd c
   cleared_request frame f (header.OtherRequest requester) same c = absurd c
   cleared_request frame f (header.Completion target relaxed_ordering) same c = absurd c
@@ -87,19 +91,6 @@ module _ (platform : Platform) (g : IsGuarded platform) where
           let at = first.below in
           absurd (omega (arith, e, more, at))
       go (inr c) = cleared_request frame r.function frame.head.header refl c
-
-  pub own_request : (frame : Descriptor) → Rising platform top_id frame → IsOwnRequest platform frame
-  own_request frame r =
-      let q = request_of frame r in
-      record {
-        function = r.function;
-        own = r.own;
-        parties = r.parties;
-        requester = q.requester;
-        address = q.address;
-        plain = q.plain;
-        owner = below_owner platform g frame.domain r.function q.requester r.own q.held;
-      }
 
   -- a table leads to a frame, to a function of the domain, or nowhere
   writes : (d : ℕ) (t : Packet) (o : Option MapTarget) → ((h : ℕ) → o ≡ Some (Peer h) → IsFunctionOf platform d h) → IsSome (write_to (share_of_domain platform d) t o)
@@ -134,27 +125,62 @@ module _ (platform : Platform) (g : IsGuarded platform) where
   owner_is : (o : Option ℕ) (d : ℕ) → o ≡ Some d → is_owner o d ≡ true
   owner_is o d e = rw e (eq-eqb d d refl)
 
-  -- its bytes, and its fate at its first port
-  pub bytes_of : (frame : Descriptor) (r : Rising platform top_id frame) (q : Request frame r.function) (e : Emission) → frame.head ≡ head_of e → MemoryBytes e.bytes q.requester Untranslated q.address
-  bytes_of frame r q e head = memory_bytes e.parties e.bytes q.requester Untranslated q.address (ap (λ h. h.header) (sym head) ∙ q.plain)
+  -- what carries a request: the host, or the function to which it goes directly
+  abbrev pub carried_so : Share → List (ℕ × List ℕ) → List (ℕ × List ℕ) → Packet → Option ℕ → Option Handling
+  carried_so share frames registers t None = serve share frames t
+  carried_so share frames registers t (Some peer) = Some (request_at_function share registers peer t)
 
-  pub fate_is : (frame : Descriptor) (r : Rising platform top_id frame) (q : Request frame r.function) (e : Emission) → frame.head ≡ head_of e → fates.fate platform.ports r.function e.bytes ≡ ToHost
-  fate_is frame r q e head =
-      let first = first_port_of platform g frame.domain r.function r.own in
-      goes_to_host platform.ports r.function first.port e.bytes q.requester q.address first.is (set_at platform g first.port first.listed) (first_held platform g frame.domain r.function q.requester first q.held) (bytes_of frame r q e head)
+  -- the bytes of a request, as the header has it
+  pub request_bytes : (frame : Descriptor) (f : ℕ) (q : Request frame f) (e : Emission) → frame.head ≡ head_of e → MemoryBytes e.bytes q.requester Untranslated q.address
+  request_bytes frame f q e head = memory_bytes e.parties e.bytes q.requester Untranslated q.address (ap (λ h. h.header) (sym head) ∙ q.plain)
 
-  -- how it ends at the host
+  -- its fate: the host, or the function to which a port lets it through
+  pub cleared_fate : (frame : Descriptor) (f : ℕ) → IsFunctionOf platform frame.domain f → (q : Request frame f) (e : Emission) → frame.head ≡ head_of e → (to : Option ℕ) → direct_to platform.ports f q.address ≡ to → fates.fate platform.ports f e.bytes ≡ fates.goes_to to
+  cleared_fate frame f own q e head to is =
+      let first = first_port_of platform g frame.domain f own in
+      goes_on platform.ports f first.port e.bytes q.requester q.address first.is (set_at platform g first.port first.listed) (first_held platform g frame.domain f q.requester first q.held) (request_bytes frame f q e head) ∙ ap fates.goes_to is
+
+  -- how a request of a function ends that its first port lets pass
+  pub cleared_end : (frame : Descriptor) (state : Alone) (f : ℕ) → IsFunctionOf platform frame.domain f → frame.head.parties ≡ Upward f → (q : Request frame f) (e : Emission) → frame.head ≡ head_of e → (to : Option ℕ) → direct_to platform.ports f q.address ≡ to
+      → carriage_of (share_of_domain platform frame.domain) state.frames state.registers e.bytes e.parties ≡ carried_so (share_of_domain platform frame.domain) state.frames state.registers (packet_of e.bytes) to
+  cleared_end frame state f own upward q e head to is =
+      let share = share_of_domain platform frame.domain in
+      let b = request_bytes frame f q e head in
+      let parties : e.parties ≡ Upward f = ap (λ h. h.parties) (sym head) ∙ upward in
+      let fate = cleared_fate frame f own q e head to is in
+      let owner = ap (owner_of platform.ports) b.requester_is ∙ below_owner platform g frame.domain f q.requester own q.held in
+      let carried : is_carried share (packet_of e.bytes) ≡ true = and_from _ _ (untranslated_is (packet_of e.bytes).address_type b.type_is) (owner_is (owner_of platform.ports (packet_of e.bytes).requester) frame.domain owner) in
+      ap (carriage_of share state.frames state.registers e.bytes) parties ∙ (ap (carriage_by share state.frames state.registers e.bytes) fate ∙ by_one share (packet_of e.bytes) e.bytes to carried refl)
+    where
+      by_one : (share : Share) (t : Packet) (bytes : List ℕ) (to : Option ℕ) → is_carried share t ≡ true → packet_of bytes ≡ t → carriage_by share state.frames state.registers bytes (fates.goes_to to) ≡ carried_so share state.frames state.registers (packet_of bytes) to
+      by_one share t bytes None carried is = cond-true (is_carried share (packet_of bytes)) (serve share state.frames (packet_of bytes)) None (ap (is_carried share) is ∙ carried)
+      by_one share t bytes (Some peer) carried is = cond-true (is_carried share (packet_of bytes)) (Some (request_at_function share state.registers peer (packet_of bytes))) None (ap (is_carried share) is ∙ carried)
+
+  -- no port lets a request through that comes up to the host
+  pub straight : (frame : Descriptor) (r : Rising platform top_id frame) (q : Request frame r.function) → direct_to platform.ports r.function q.address ≡ None
+  straight frame r q = none_direct platform g.laws r.function q.address (λ port listed held.
+      let more = not_first platform g.laws port listed in
+      subst (λ (h : Header). let_by platform port h ≡ None) q.plain (r.passed port listed held (omega (arith, more))))
+
+  pub own_request : (frame : Descriptor) → Rising platform top_id frame → IsOwnRequest platform frame
+  own_request frame r =
+      let q = request_of frame r in
+      record {
+        function = r.function;
+        own = r.own;
+        parties = r.parties;
+        requester = q.requester;
+        address = q.address;
+        plain = q.plain;
+        held = q.held;
+        owner = below_owner platform g frame.domain r.function q.requester r.own q.held;
+        straight = straight frame r q;
+      }
+
+  -- how it ends there
   pub carriage : (frame : Descriptor) (state : Alone) (r : Rising platform top_id frame) (e : Emission) → frame.head ≡ head_of e
       → carriage_of (share_of_domain platform frame.domain) state.frames state.registers e.bytes e.parties ≡ serve (share_of_domain platform frame.domain) state.frames (packet_of e.bytes)
-  carriage frame state r e head =
-      let q = request_of frame r in
-      let b = bytes_of frame r q e head in
-      let parties : e.parties ≡ Upward r.function = ap (λ h. h.parties) (sym head) ∙ r.parties in
-      let owner = ap (owner_of platform.ports) b.requester_is ∙ below_owner platform g frame.domain r.function q.requester r.own q.held in
-      let carried : is_carried (share_of_domain platform frame.domain) (packet_of e.bytes) ≡ true = and_from _ _ (untranslated_is (packet_of e.bytes).address_type b.type_is) (owner_is (owner_of platform.ports (packet_of e.bytes).requester) frame.domain owner) in
-      ap (carriage_of (share_of_domain platform frame.domain) state.frames state.registers e.bytes) parties
-      ∙ (ap (carriage_by (share_of_domain platform frame.domain) state.frames e.bytes) (fate_is frame r q e head)
-      ∙ cond-true (is_carried (share_of_domain platform frame.domain) (packet_of e.bytes)) (serve (share_of_domain platform frame.domain) state.frames (packet_of e.bytes)) None carried)
+  carriage frame state r e head = let q = request_of frame r in cleared_end frame state r.function r.own r.parties q e head None (straight frame r q)
 
   pub carries : (frame : Descriptor) (state : Alone) → Rising platform top_id frame → Flies state frame → IsLegal platform state frame (Carry frame.number)
   carries frame state r f =

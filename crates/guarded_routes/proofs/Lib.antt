@@ -3,11 +3,14 @@ pub mod Trees
 pub mod Below
 pub mod Nodes
 pub mod Owners
+pub mod Controls
+pub mod Requests
 pub mod Ports
+pub mod Peers
+pub mod Homes
 pub mod Passing
 pub mod Falling
 pub mod Bytes
-pub mod Homes
 pub mod Hosts
 pub mod Taking
 pub mod Links

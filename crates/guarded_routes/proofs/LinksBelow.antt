@@ -1,7 +1,7 @@
 -- Each link of a function's way has the function below it, and what goes on through a switch keeps to a way.
 use Rattle.std.proofs.Common.{◌≡◌, ℕ, suc, ◌+◌, ◌==◌, true, List, [], All, slice_get, Option, Some, None, option_map, refl, sym, ap, ◌∙◌, subst, arith}
 use Rattle.std.specs.Prelude.{Contains}
-use Rattle.std.proofs.lemmas.Bool.{eqb-true, eq-eqb}
+use Rattle.std.proofs.lemmas.Bool.{eqb-true}
 use Rattle.std.proofs.lemmas.List.Elements.{All-cons, All-nil, Contains-get_or}
 use Rattle.std.proofs.lemmas.Option.{get_or_from_slice_get, slice_get_within}
 use Rattle.fab_types.specs.Id.{bus_of}
@@ -13,18 +13,18 @@ use Rattle.platform.specs.Platform.{Platform}
 use Rattle.platform.specs.Tree.{is_on_bus}
 use Rattle.platform.specs.Tree.{id_below, internal_bus, switch_on}
 use Rattle.topology.specs.Nodes.{ports_on}
-use Rattle.topology.proofs.Members.{found, found_alone, kept_from}
-use Rattle.topology.proofs.OwnEnds.{one_id}
+use Rattle.topology.proofs.Members.{found, kept_from}
 use Rattle.topology.proofs.Standing.{switch_id}
 use Rattle.bridge.specs.declared.target.Target.TheVariants.{Bus}
 use Rattle.bridge.specs.Routes.{holder_on, holds_target}
 use Rattle.guarded_routes.specs.Guarded.{IsFunctionOf, IsGuarded, is_below, top_id}
-use Rattle.guarded_routes.specs.Links.{IsWay, link_above}
+use Rattle.guarded_routes.specs.Links.{IsPath, IsWay, link_above}
 use Rattle.guarded_routes.specs.Ways.{direction_out, down_from, up_from}
 use Rattle.guarded_routes.proofs.Below.{Under, holder_is, holds_own, lift}
 use Rattle.guarded_routes.proofs.Finds.{some, some_is}
 use Rattle.guarded_routes.proofs.Links.{Joined, above_is, joined}
 use Rattle.guarded_routes.proofs.Nodes.{At, First}
+use Rattle.guarded_routes.proofs.Peers.{listed_port}
 use Rattle.guarded_routes.proofs.Passing.{below, below_switch, first_port_of, switch_over, under}
 use Rattle.guarded_routes.proofs.Trees.{IsPort}
 
@@ -40,16 +40,16 @@ module _ (platform : Platform) (g : IsGuarded platform) where
       let j = joined platform g lower above e in
       subst (HasBelow platform f) j.is (below_switch platform g d f j.port j.listed j.over first (subst (HasBelow platform f) j.below h))
 
-  all_below : (d f lower : ℕ) (links : List ℕ) → First platform d f → IsWay platform lower links → is_below platform lower f ≡ true → All (HasBelow platform f) links
-  all_below d f _ _ first IsWay.AtTop h = All-cons (HasBelow platform f) top_id [] h (All-nil (HasBelow platform f))
-  all_below d f _ _ first (IsWay.Above lower above links e falls way) h =
-      All-cons (HasBelow platform f) lower links h (all_below d f above links first way (below_above d f lower above first e h))
+  all_below : (d f last lower : ℕ) (links : List ℕ) → First platform d f → IsPath platform last lower links → is_below platform lower f ≡ true → All (HasBelow platform f) links
+  all_below d f last _ _ first IsPath.AtLast h = All-cons (HasBelow platform f) last [] h (All-nil (HasBelow platform f))
+  all_below d f last _ _ first (IsPath.Above lower above links e falls way) h =
+      All-cons (HasBelow platform f) lower links h (all_below d f last above links first way (below_above d f lower above first e h))
 
   -- each link of a function's way has the function below it
   pub way_holds : (d f : ℕ) (links : List ℕ) → IsFunctionOf platform d f → IsWay platform f links → All (HasBelow platform f) links
   way_holds d f links own way =
       let first = first_port_of platform g d f own in
-      all_below d f f links first way (below platform g d f f (Some first.port) first (At.Over first.port first.listed first.below) Under.Here)
+      all_below d f top_id f links first way (below platform g d f f (Some first.port) first (At.Over first.port first.listed first.below) Under.Here)
 
   -- ---- the links directly below a switch
 
@@ -83,9 +83,6 @@ module _ (platform : Platform) (g : IsGuarded platform) where
 
   -- ---- the outputs of a switch
 
-  listed_port : (q : DownstreamPort) → Contains platform.ports q → IsPort platform q
-  listed_port q within = found_alone (λ (p : DownstreamPort). p.id == q.id) platform.ports q within (eq-eqb q.id q.id refl) (λ p listed same. one_id platform g.laws p q listed within (eqb-true p.id q.id same))
-
   -- two switches of one bus are one
   same_switch : (one other : Switch) → Contains platform.switches one → Contains platform.switches other → internal_bus one ≡ internal_bus other → one.id ≡ other.id
   same_switch one other here there bus =
@@ -96,7 +93,7 @@ module _ (platform : Platform) (g : IsGuarded platform) where
   -- a port of a switch leads down to a link below that switch's own
   port_leads : (switch : Switch) (q : DownstreamPort) → Contains platform.switches switch → Contains platform.ports q → bus_of q.id ≡ internal_bus switch → link_above platform (id_below q) ≡ Some switch.id
   port_leads switch q within listed on =
-      let port = listed_port q listed in
+      let port = listed_port platform g.laws q listed in
       let s = switch_over platform g q port in
       let at = found (λ (t : Switch). internal_bus t == bus_of q.id) platform.switches s.switch s.on in
       let same : s.switch.id ≡ switch.id = same_switch s.switch switch at.0 within (s.bus ∙ on) in

@@ -1,8 +1,9 @@
 -- What the downstream ports of a guarded layout do with sound packets.
 use Rattle.std.proofs.Common.{◌≡◌, ℕ, suc, ◌==◌, Bool, true, false, cond, ◌&&◌, ◌||◌, not, Option, Some, None, List, option_map, slice_get, refl, sym, ap, ◌∙◌, subst}
+use Rattle.std.specs.Prelude.{Ok}
 use Rattle.std.specs.List.{find, filter}
-use Rattle.std.proofs.lemmas.Bool.{and_parts, and_from, eq-eqb, false≢true, cond-true, cond-false}
-use Rattle.fab_types.specs.Controls.{validates_source, blocks_translated, redirects_requests, redirects_completions, forwards_upstream}
+use Rattle.std.proofs.lemmas.Bool.{and_from, eq-eqb, false≢true, cond-true, cond-false}
+use Rattle.fab_types.specs.Controls.{validates_source, blocks_translated, redirects_completions, forwards_upstream}
 use Rattle.fab_types.specs.Id.{bus_of}
 use Rattle.fab_types.specs.declared.head.AddressType.{AddressType}
 use Rattle.fab_types.specs.declared.head.AddressType.TheVariants.{Untranslated, TranslationRequest, Translated, Reserved}
@@ -18,7 +19,6 @@ use Rattle.platform.specs.declared.parts.Switch.{Switch}
 use Rattle.platform.specs.Owners.{holds_bus}
 use Rattle.platform.specs.Platform.{Platform}
 use Rattle.platform.specs.Tree.{is_on_bus}
-use Rattle.platform.specs.Share.{is_guarded_port}
 use Rattle.platform.specs.Tree.{id_below, internal_bus, is_taken}
 use Rattle.bridge.specs.declared.route.Route.TheVariants as to
 use Rattle.bridge.specs.declared.target.Target.{Target}
@@ -28,7 +28,7 @@ use Rattle.bridge.specs.Routes.{holder_on, route_from, route_of, target_of, to_h
 use Rattle.acs.specs.declared.vetting.Verdict.{Verdict}
 use Rattle.acs.specs.declared.vetting.Verdict.TheVariants as verdict
 use Rattle.acs.specs.Vetting.{is_translated, verdict_of}
-use Rattle.acs.specs.Redirection.{completion_goes_up, goes_up, own_goes_up, redirected, request_goes_up}
+use Rattle.acs.specs.Redirection.{goes_up, redirected, request_goes_up}
 use Rattle.port.specs.declared.config.Exit.{Exit}
 use Rattle.port.specs.declared.course.Forwarding.{Forwarding}
 use Rattle.port.specs.declared.course.Forwarding.TheVariants.{To, Stop}
@@ -36,25 +36,10 @@ use Rattle.port.specs.Configs.{downstream_config, exit_of, exits_of, lane_to, le
 use Rattle.port.specs.Courses.{course_of, routed, stopped, tested}
 use Rattle.topology.specs.Nodes.{ports_on}
 use Rattle.guarded_routes.specs.Ways.{direction_out, down_from}
+use Rattle.guarded_routes.proofs.Controls.{Set}
+use Rattle.guarded_routes.proofs.Requests.{not_blocked, own_up, stays_up}
 use Rattle.guarded_routes.proofs.Finds.{find_among, placed}
 use Rattle.guarded_routes.proofs.Trees.{IsPort}
-
--- ---- the controls
-
-pub record Set (line : DownstreamPort) : Type 0 where
-  pub source : validates_source line.controls ≡ true
-  pub translation : blocks_translated line.controls ≡ true
-  pub requests : redirects_requests line.controls ≡ true
-  pub completions : redirects_completions line.controls ≡ true
-  pub upstream : forwards_upstream line.controls ≡ true
-
-pub set_of : (line : DownstreamPort) → is_guarded_port line ≡ true → Set line
-set_of line h =
-    let u = and_parts _ (forwards_upstream line.controls) h in
-    let c = and_parts _ (redirects_completions line.controls) u.0 in
-    let r = and_parts _ (redirects_requests line.controls) c.0 in
-    let b = and_parts (validates_source line.controls) (blocks_translated line.controls) r.0 in
-    record { source = b.0; translation = b.1; requests = r.1; completions = c.1; upstream = u.1 }
 
 -- ---- outputs
 
@@ -130,11 +115,11 @@ abbrev course_at_port : Platform → DownstreamPort → Head → Forwarding
 course_at_port platform line head = course_of (of_platform platform) (downstream_config platform line) head
 
 -- what passes the tests and is routed up goes up
-pub course_up : (platform : Platform) (line : DownstreamPort) (head : Head) (h : Header) (x : Target) → head.header ≡ h → verdict_of line h ≡ verdict.Pass → target_of h ≡ Some x → redirected line (route_of platform.switches platform.ports line.id h) h ≡ to.Up
+pub course_up : (platform : Platform) (line : DownstreamPort) (head : Head) (h : Header) (x : Target) → head.header ≡ h → verdict_of line h ≡ verdict.Pass → target_of h ≡ Some x → redirected line (route_of platform.switches platform.ports line.id h) h ≡ Ok to.Up
     → course_of (of_platform platform) (downstream_config platform line) head ≡ To 0
 course_up platform line head h x same pass target up = rw (same, pass, target, up) refl
 
-pub course_down : (platform : Platform) (line : DownstreamPort) (head : Head) (h : Header) (x : Target) (q output : ℕ) → head.header ≡ h → verdict_of line h ≡ verdict.Pass → target_of h ≡ Some x → redirected line (route_of platform.switches platform.ports line.id h) h ≡ to.Port q
+pub course_down : (platform : Platform) (line : DownstreamPort) (head : Head) (h : Header) (x : Target) (q output : ℕ) → head.header ≡ h → verdict_of line h ≡ verdict.Pass → target_of h ≡ Some x → redirected line (route_of platform.switches platform.ports line.id h) h ≡ Ok (to.Port q)
     → lane_to (exits_of platform (bus_of line.id)) q ≡ Some output → course_of (of_platform platform) (downstream_config platform line) head ≡ To output
 course_down platform line head h x q output same pass target down leads = rw (same, pass, target, down, leads) refl
 
@@ -161,18 +146,9 @@ at_first platform line head is = go (verdict_of line head.header) refl (target_o
 
 -- from a guarded port a completion goes up, or with Relaxed Ordering to a port of the switch that holds its target
 pub data Reply (platform : Platform) (line : DownstreamPort) (target : ℕ) (relaxed_ordering : Bool) : Type 0 where
-  Rises : redirected line (route_of platform.switches platform.ports line.id (header.Completion target relaxed_ordering)) (header.Completion target relaxed_ordering) ≡ to.Up → Reply platform line target relaxed_ordering
+  Rises : redirected line (route_of platform.switches platform.ports line.id (header.Completion target relaxed_ordering)) (header.Completion target relaxed_ordering) ≡ Ok to.Up → Reply platform line target relaxed_ordering
   Turns : (q : DownstreamPort) → relaxed_ordering ≡ true → holder_on platform.ports (bus_of line.id) (Some (Bus (bus_of target))) ≡ Some q
-      → redirected line (route_of platform.switches platform.ports line.id (header.Completion target relaxed_ordering)) (header.Completion target relaxed_ordering) ≡ to.Port q.id → Reply platform line target relaxed_ordering
-
-or_last : (a b c : Bool) → c ≡ true → (a || b || c) ≡ true
-or_last true b c h = refl
-or_last false true c h = refl
-or_last false false c h = h
-
-same_either : (b : Bool) → cond b to.Up to.Up ≡ to.Up
-same_either true = refl
-same_either false = refl
+      → redirected line (route_of platform.switches platform.ports line.id (header.Completion target relaxed_ordering)) (header.Completion target relaxed_ordering) ≡ Ok (to.Port q.id) → Reply platform line target relaxed_ordering
 
 relaxed_by : (a b c : Bool) → b ≡ true → (a || (b && true && not c) || false) ≡ false → c ≡ true
 relaxed_by true b c h e = absurd (false≢true (sym e))
@@ -181,9 +157,6 @@ relaxed_by false true false h e = absurd (false≢true (sym e))
 relaxed_by false false c h e = absurd (false≢true h)
 
 module _ (platform : Platform) (line : DownstreamPort) (port : IsPort platform line) (set : Set line) where
-  pub own_up : (h : Header) → redirected line to.OwnEgress h ≡ to.Up
-  own_up h = cond-true (goes_up line to.OwnEgress h) to.Up to.OwnEgress (or_last (request_goes_up line to.OwnEgress h) (completion_goes_up line to.OwnEgress h) (own_goes_up line to.OwnEgress) (and_from (forwards_upstream line.controls) true set.upstream refl))
-
   pub reply_at : (target : ℕ) (relaxed_ordering : Bool) → Reply platform line target relaxed_ordering
   reply_at target relaxed_ordering = go (holds_bus line (bus_of target)) refl (holder_on platform.ports (bus_of line.id) (Some (Bus (bus_of target)))) refl
     where
@@ -201,13 +174,15 @@ module _ (platform : Platform) (line : DownstreamPort) (port : IsPort platform l
           ∙ ap (λ (o : Option DownstreamPort). redirected line (cond b to.OwnEgress (to_holder to.Up o)) h) j)
 
       turns : (q : DownstreamPort) (b : Bool) → goes_up line (to.Port q.id) h ≡ b → holder_on platform.ports (bus_of line.id) x ≡ Some q → redirected line (route_of platform.switches platform.ports line.id h) h ≡ redirected line (to.Port q.id) h → Reply platform line target relaxed_ordering
-      turns q true up j e = Reply.Rises (e ∙ cond-true (goes_up line (to.Port q.id) h) to.Up (to.Port q.id) up)
-      turns q false up j e = Reply.Turns q (relaxed_by (request_goes_up line (to.Port q.id) h) (redirects_completions line.controls) relaxed_ordering set.completions (or_stays up)) j (e ∙ cond-false (goes_up line (to.Port q.id) h) to.Up (to.Port q.id) up)
+      turns q true up j e = Reply.Rises (e ∙ (not_blocked line set (to.Port q.id) h ∙ ap Ok (cond-true (goes_up line (to.Port q.id) h) to.Up (to.Port q.id) up)))
+      turns q false up j e =
+          Reply.Turns q (relaxed_by (request_goes_up line (to.Port q.id) h) (redirects_completions line.controls) relaxed_ordering set.completions (or_stays up)) j
+          (e ∙ (not_blocked line set (to.Port q.id) h ∙ ap Ok (cond-false (goes_up line (to.Port q.id) h) to.Up (to.Port q.id) up)))
         where
           or_stays : goes_up line (to.Port q.id) h ≡ false → (request_goes_up line (to.Port q.id) h || (redirects_completions line.controls && true && not relaxed_ordering) || false) ≡ false
           or_stays e = subst (λ (c : Bool). (request_goes_up line (to.Port q.id) h || (redirects_completions line.controls && true && not relaxed_ordering) || c) ≡ false) (and_false (forwards_upstream line.controls)) e
 
       go : (b : Bool) → holds_bus line (bus_of target) ≡ b → (o : Option DownstreamPort) → holder_on platform.ports (bus_of line.id) x ≡ o → Reply platform line target relaxed_ordering
-      go true i o j = Reply.Rises (routed_so true o i j ∙ own_up h)
-      go false i None j = Reply.Rises (routed_so false None i j ∙ same_either (goes_up line to.Up h))
+      go true i o j = Reply.Rises (routed_so true o i j ∙ own_up line set h)
+      go false i None j = Reply.Rises (routed_so false None i j ∙ stays_up line set h)
       go false i (Some q) j = turns q (goes_up line (to.Port q.id) h) refl j (routed_so false (Some q) i j)

@@ -1,7 +1,9 @@
 -- What answers a sound packet, or is sent on in its place, is sound on the link that it enters.
-use Rattle.std.proofs.Common.{◌≡◌, ℕ, ◌+◌, ◌/◌, ◌%◌, ◌⊎◌, inl, inr, Bool, true, false, cond, Option, Some, None, List, option_map, option_and_then, refl, sym, ap, ◌∙◌, subst, arith, nat_lt}
+use Rattle.std.proofs.Common.{◌≡◌, ℕ, ◌+◌, ◌/◌, ◌%◌, ◌⊎◌, inl, inr, Bool, true, false, cond, ◌&&◌, Option, Some, None, List, option_map, option_and_then, refl, sym, ap, ◌∙◌, subst, arith, nat_lt}
 use Rattle.std.proofs.lemmas.Bool.{false≢true}
 use Rattle.fab_types.specs.Id.{bus_of}
+use Rattle.fab_types.specs.declared.class.Class.{Class}
+use Rattle.fab_types.specs.declared.class.Class.TheVariants.{Posted, NonPosted, Completion}
 use Rattle.fab_types.specs.declared.head.AddressType.TheVariants.{Untranslated}
 use Rattle.fab_types.specs.declared.head.Answerer.{Answerer}
 use Rattle.fab_types.specs.declared.head.Answerer.TheVariants as by
@@ -28,14 +30,16 @@ use Rattle.layout.specs.Tables.{target_of as mapped_to}
 use Rattle.layout.specs.Views.{share_of_domain}
 use Rattle.tlp_view.specs.Bytes.{address_at, enables_at, packet_of}
 use Rattle.tlp_view.specs.Completions.{atomic_completion, completion_bytes, read_completion, refusal}
-use Rattle.tlp_view.specs.Kinds.{has_address, is_fetch_add, is_memory}
+use Rattle.tlp_view.specs.Kinds.{class_of_kind, has_address, is_fetch_add, is_memory}
 use Rattle.tlp_view.specs.Malformed.{malformed}
 use Rattle.tlp_view.specs.Packet.{Body, Memory, Packet, dw_count}
 use Rattle.tlp_view.specs.Requests.{is_high, moved, moved_body, packet_bytes}
 use Rattle.tlp_view.specs.Runs.{is_write}
 use Rattle.tlp_view.proofs.Again.{body_memory}
-use Rattle.request_handling.specs.Answers.{address_of, answered_by, bar_of, forwarded, function_answer, host_data, host_operand, host_refusal, page_at, port_answer, shown}
-use Rattle.request_handling.specs.Carries.{access_of, add_if, carriage_of, forward, frame_for, port_id, read_from, refusal_by, refusal_of, refused_by_host, serve, serve_add, serve_read, write_to}
+use Rattle.request_handling.specs.Answers.{address_of, answered_by, bar_of, forwarded, function_answer, function_refusal, host_data, host_operand, host_refusal, page_at, port_answer, shown}
+use Rattle.request_handling.specs.AtFunctions.{access_of, is_access, lies_in, or_discarded, request_at_function, unserved}
+use Rattle.request_handling.specs.declared.handling.Handling.{Handling}
+use Rattle.request_handling.specs.Carries.{add_if, carriage_of, forward, port_id, read_from, refusal_by, refusal_of, refused_by_host, serve, serve_add, serve_read, write_to}
 use Rattle.domain_parts.specs.Ends.{conclude}
 use Rattle.request_handling.specs.Heads.{descriptor_of, header_unless}
 use Rattle.domain.specs.Machine.{carry, change, refuse}
@@ -44,10 +48,10 @@ use Rattle.domain_parts.specs.State.{Alone, Change, emits_nothing, item_at, with
 use Rattle.request_handling.specs.WellMade.{IsWellMade}
 use Rattle.domain.specs.declared.entry.Entry.TheVariants.{Carry, Deliver, Refuse}
 use Rattle.request_handling.specs.declared.fate.Fate.{Fate}
-use Rattle.request_handling.specs.declared.fate.Fate.TheVariants.{Vanish, Refused, ToHost}
+use Rattle.request_handling.specs.declared.fate.Fate.TheVariants.{Vanish, Refused, ToHost, Direct}
 use Rattle.domain.specs.Deliveries.{arrival, arrived}
 use Rattle.request_handling.specs.Fates as fates
-use Rattle.guarded_routes.specs.Ends.{Flies}
+use Rattle.guarded_routes.specs.Ends.{Flies, IsPeerRequest, IsRequestTo}
 use Rattle.guarded_routes.specs.Guarded.{IsFunctionOf, IsGuarded, has_id, is_below, top_id}
 use Rattle.guarded_routes.specs.Sound.{Falling, IsMeantFor, Reaches, Replying, Rising, is_reply}
 use Rattle.guarded_routes.proofs.Begins.{falls_from_host, low_at}
@@ -55,11 +59,11 @@ use Rattle.guarded_routes.proofs.Below.{Under, holds_own, under_root}
 use Rattle.guarded_routes.proofs.Bytes.{MemoryBytes, memory_bytes}
 use Rattle.guarded_routes.proofs.Finds.{some, some_is}
 use Rattle.guarded_routes.proofs.Homes.{peer_of}
-use Rattle.guarded_routes.proofs.Hosts.{bytes_of, carriage, no_reply as completion, request_of}
+use Rattle.guarded_routes.proofs.Hosts.{carriage, cleared_end, no_reply as completion, request_bytes, request_of}
 use Rattle.guarded_routes.proofs.Nodes.{At}
 use Rattle.guarded_routes.proofs.Passing.{below, first_port_of, holds_first, reply_falls}
 use Rattle.guarded_routes.proofs.Reaching.{reach_is}
-use Rattle.guarded_routes.proofs.Taking.{home_at, meant_at}
+use Rattle.guarded_routes.proofs.Taking.{asked_by, home_at, meant_at}
 use Rattle.domain.proofs.CompletionsRead.{refusal_read}
 use Rattle.guarded_routes.proofs.Spelled.{atomic_read, completion_read, request_read}
 use Rattle.request_handling.proofs.WellMadeLemmas.{left_memory, write_memory}
@@ -185,7 +189,7 @@ module _ (platform : Platform) (g : IsGuarded platform) where
       let share = share_of_domain platform frame.domain in
       let bytes = fl.emission.bytes in
       let q = request_of platform g frame r in
-      let b = bytes_of platform g frame r q fl.emission fl.head in
+      let b = request_bytes platform g frame r.function q fl.emission fl.head in
       let made' : option_map (conclude state frame.number bytes) (serve share state.frames (packet_of bytes)) ≡ Some c =
       ap (option_map (conclude state frame.number bytes)) (sym (carriage platform g frame state r fl.emission fl.head)) ∙ (ap (carry share state frame.number) (sym fl.there) ∙ made) in
       let reply = replied_with (conclude state frame.number bytes) (λ a. a.reply) (serve share state.frames (packet_of bytes)) c e (λ a. refl) made' sent in
@@ -208,15 +212,34 @@ module _ (platform : Platform) (g : IsGuarded platform) where
       go None each is = absurd cc
       go (Some page) each is = each page is
 
+  -- what a function answers to a request: the bytes of its page, or a refusal
+  data Answers (share : Share) (f : ℕ) (t : Packet) (e : Emission) : Type 0 where
+    Shows : (bytes : List ℕ) → e ≡ answered_by share f t (read_completion f t bytes) → Answers share f t e
+    Refuses : e ≡ function_refusal share f t → Answers share f t e
+
+  peer_reply : (share : Share) (registers : List (ℕ × List ℕ)) (f : ℕ) (t : Packet) (e : Emission) → (request_at_function share registers f t).reply ≡ Some e → Answers share f t e
+  peer_reply share registers f t e is = go (is_access t && lies_in (bar_of share.functions f) (address_of t)) is
+    where
+      accessed : (o : Option Handling) → access_of share registers f t ≡ o → (or_discarded o).reply ≡ Some e → Answers share f t e
+      accessed None made is = absurd cc
+      accessed (Some a) made is = let shown = access_reply share registers f t e (ap (option_and_then (λ (a : Handling). a.reply)) made ∙ is) in Answers.Shows shown.0 shown.1
+
+      refused : (class : Class) → (unserved class (function_refusal share f t)).reply ≡ Some e → Answers share f t e
+      refused Posted is = absurd cc
+      refused NonPosted is = Answers.Refuses (sym (some_is (function_refusal share f t) e is))
+      refused Completion is = absurd cc
+
+      go : (b : Bool) → (cond b (or_discarded (access_of share registers f t)) (unserved (class_of_kind t.kind) (function_refusal share f t))).reply ≡ Some e → Answers share f t e
+      go true is = accessed (access_of share registers f t) refl is
+      go false is = refused (class_of_kind t.kind) is
+
   -- a function's answer to a request whose requester completions reach
-  function_reply : (d number f : ℕ) (t : Packet) (x : Option Origin) (bytes : List ℕ) (e : Emission) → IsFunctionOf platform d f → Reaches platform d t.requester x → e ≡ answered_by (share_of_domain platform d) f t (read_completion f t bytes) → IsWellMade e.parties e.bytes
-      → Replying platform f (descriptor_of d number e)
-  function_reply d number f t x bytes e own reaches is well =
-      let made = answered_by (share_of_domain platform d) f t (read_completion f t bytes) in
-      let well' : IsWellMade made.parties made.bytes = subst (λ (e : Emission). IsWellMade e.parties e.bytes) is well in
-      let read = completion_read made.parties f t bytes well'.0 in
+  answer_reaches : (d number f : ℕ) (t : Packet) (x : Option Origin) (completion : List ℕ) → IsFunctionOf platform d f → Reaches platform d t.requester x
+      → (relaxed_ordering : Bool) × (header_unless (malformed completion) (Answer (by.Function f) (reach (share_of_domain platform d) t.requester)) completion ≡ header.Completion t.requester relaxed_ordering)
+      → Replying platform f (descriptor_of d number (record { parties = Answer (by.Function f) (reach (share_of_domain platform d) t.requester); bytes = completion }))
+  answer_reaches d number f t x completion own reaches read =
       let reached = reach_is platform g d f t.requester x own reaches in
-      subst (λ (e : Emission). Replying platform f (descriptor_of d number e)) (sym is) (record {
+      record {
         function = f;
         own = own;
         below = below_own d f own;
@@ -226,31 +249,63 @@ module _ (platform : Platform) (g : IsGuarded platform) where
         addressee = x;
         parties = ap (λ (x : Option Origin). Answer (by.Function f) x) reached;
         reaches = reaches;
-      })
+      }
 
-  -- what a function makes of a request to it is sound below its first port
-  answer_up : (frame : Descriptor) (number f : ℕ) (state : Alone) (c : Change) (e : Emission) (h : Header) → frame.head.header ≡ h → is_reply h ≡ false → IsFunctionOf platform frame.domain f → IsMeantFor platform frame.domain f frame.head.parties h → Flies state frame
-      → change (share_of_domain platform frame.domain) state (Carry frame.number) ≡ Some c → c.emission ≡ Some e → IsWellMade e.parties e.bytes → Replying platform f (descriptor_of frame.domain number e)
-  answer_up frame number f state c e header.Malformed same request own meant fl made sent well = absurd meant
-  answer_up frame number f state c e (header.OtherRequest requester) same request own meant fl made sent well = absurd meant
-  answer_up frame number f state c e (header.Completion target relaxed_ordering) same request own meant fl made sent well = absurd (false≢true (sym request))
-  answer_up frame number f state c e (header.Memory requester address_type address) same request own meant fl made sent well =
-      let share = share_of_domain platform frame.domain in
-      let bytes = fl.emission.bytes in
-      let parties : fl.emission.parties ≡ Downward f = ap (λ (h : Head). h.parties) (sym fl.head) ∙ meant.0 in
-      let b = memory_bytes fl.emission.parties bytes requester address_type address (ap (λ (h : Head). h.header) (sym fl.head) ∙ same) in
-      let made' : option_map (conclude state frame.number bytes) (access_of share state.registers f (packet_of bytes)) ≡ Some c =
-      ap (λ (p : Parties). option_map (conclude state frame.number bytes) (carriage_of share state.frames state.registers bytes p)) (sym parties) ∙ (ap (carry share state frame.number) (sym fl.there) ∙ made) in
-      let reply = replied_with (conclude state frame.number bytes) (λ a. a.reply) (access_of share state.registers f (packet_of bytes)) c e (λ a. refl) made' sent in
-      let shown = access_reply share state.registers f (packet_of bytes) e reply in
-      let reaches : Reaches platform frame.domain (packet_of bytes).requester meant.1 = subst (λ (r : ℕ). Reaches platform frame.domain r meant.1) (sym b.requester_is) meant.2 in
-      function_reply frame.domain number f (packet_of bytes) meant.1 shown.0 e own reaches shown.1 well
+  function_reply : (d number f : ℕ) (t : Packet) (x : Option Origin) (e : Emission) → IsFunctionOf platform d f → Reaches platform d t.requester x → Answers (share_of_domain platform d) f t e → IsWellMade e.parties e.bytes → Replying platform f (descriptor_of d number e)
+  function_reply d number f t x e own reaches (Answers.Shows bytes is) well =
+      let made = answered_by (share_of_domain platform d) f t (read_completion f t bytes) in
+      let well' : IsWellMade made.parties made.bytes = subst (λ (e : Emission). IsWellMade e.parties e.bytes) is well in
+      subst (λ (e : Emission). Replying platform f (descriptor_of d number e)) (sym is) (answer_reaches d number f t x made.bytes own reaches (completion_read made.parties f t bytes well'.0))
+  function_reply d number f t x e own reaches (Answers.Refuses is) well =
+      let made = function_refusal (share_of_domain platform d) f t in
+      let well' : IsWellMade made.parties made.bytes = subst (λ (e : Emission). IsWellMade e.parties e.bytes) is well in
+      subst (λ (e : Emission). Replying platform f (descriptor_of d number e)) (sym is) (answer_reaches d number f t x made.bytes own reaches (refusal_read made.parties f UR t well'.0))
+
+  module _ (frame : Descriptor) (number f : ℕ) (state : Alone) (c : Change) (e : Emission) (own : IsFunctionOf platform frame.domain f) (fl : Flies state frame) (made : change (share_of_domain platform frame.domain) state (Carry frame.number) ≡ Some c) (sent : c.emission ≡ Some e) where
+    -- of a packet that ends so
+    replied_by : (ending : Option Handling) → carriage_of (share_of_domain platform frame.domain) state.frames state.registers fl.emission.bytes fl.emission.parties ≡ ending → option_and_then (λ (a : Handling). a.reply) ending ≡ Some e
+    replied_by ending is =
+        replied_with (conclude state frame.number fl.emission.bytes) (λ a. a.reply) ending c e (λ a. refl)
+        (ap (option_map (conclude state frame.number fl.emission.bytes)) (sym is) ∙ (ap (carry (share_of_domain platform frame.domain) state frame.number) (sym fl.there) ∙ made)) sent
+
+    -- to a request of the host
+    answers_host : frame.head.parties ≡ Downward f → Answers (share_of_domain platform frame.domain) f (packet_of fl.emission.bytes) e
+    answers_host to =
+        let share = share_of_domain platform frame.domain in
+        let parties : fl.emission.parties ≡ Downward f = ap (λ (h : Head). h.parties) (sym fl.head) ∙ to in
+        let reply = replied_by (access_of share state.registers f (packet_of fl.emission.bytes)) (ap (carriage_of share state.frames state.registers fl.emission.bytes) parties) in
+        let shown = access_reply share state.registers f (packet_of fl.emission.bytes) e reply in
+        Answers.Shows shown.0 shown.1
+
+    -- to one that came directly
+    answers_peer : IsPeerRequest platform frame f → Answers (share_of_domain platform frame.domain) f (packet_of fl.emission.bytes) e
+    answers_peer q =
+        let share = share_of_domain platform frame.domain in
+        peer_reply share state.registers f (packet_of fl.emission.bytes) e
+        (replied_by (Some (request_at_function share state.registers f (packet_of fl.emission.bytes)))
+        (cleared_end platform g frame state q.sender q.own q.parties (record { requester = q.requester; address = q.address; plain = q.plain; held = q.held }) fl.emission fl.head (Some f) q.direct))
+
+    answers_asked : IsRequestTo platform frame f → Answers (share_of_domain platform frame.domain) f (packet_of fl.emission.bytes) e
+    answers_asked (inl to) = answers_host to
+    answers_asked (inr q) = answers_peer q
+
+    -- what a function makes of a request to it is sound below its first port
+    answer_up : (h : Header) → frame.head.header ≡ h → is_reply h ≡ false → IsMeantFor platform frame.domain f frame.head.parties h → IsWellMade e.parties e.bytes → Replying platform f (descriptor_of frame.domain number e)
+    answer_up header.Malformed same request meant well = absurd meant
+    answer_up (header.OtherRequest requester) same request meant well = absurd meant
+    answer_up (header.Completion target relaxed_ordering) same request meant well = absurd (false≢true (sym request))
+    answer_up (header.Memory requester address_type address) same request meant well =
+        let bytes = fl.emission.bytes in
+        let b = memory_bytes fl.emission.parties bytes requester address_type address (ap (λ (h : Head). h.header) (sym fl.head) ∙ same) in
+        let reaches : Reaches platform frame.domain (packet_of bytes).requester meant.1 = subst (λ (r : ℕ). Reaches platform frame.domain r meant.1) (sym b.requester_is) meant.2 in
+        function_reply frame.domain number f (packet_of bytes) meant.1 e own reaches (answers_asked (asked_by platform g f frame requester address address_type same meant.0)) well
 
   -- ---- at a first port
 
   refused_reply : (port f : ℕ) (bytes : List ℕ) (fate : Fate) (e : Emission) → option_and_then (λ a. a.reply) (refusal_by port f bytes fate) ≡ Some e → (status : Status) × (e ≡ port_answer port f status (packet_of bytes))
   refused_reply port f bytes Vanish e is = absurd cc
   refused_reply port f bytes ToHost e is = absurd cc
+  refused_reply port f bytes (Direct peer) e is = absurd cc
   refused_reply port f bytes (Refused status) e is = (status, sym (some_is _ e is))
 
   own_id : (d f : ℕ) → IsFunctionOf platform d f → has_id platform f f ≡ true
@@ -303,7 +358,7 @@ module _ (platform : Platform) (g : IsGuarded platform) where
   pub carried_up : (frame : Descriptor) (number f : ℕ) (state : Alone) (c : Change) (e : Emission) → is_function platform.functions f ≡ true → Falling platform f frame → is_reply frame.head.header ≡ false → Flies state frame
       → change (share_of_domain platform frame.domain) state (Carry frame.number) ≡ Some c → c.emission ≡ Some e → IsWellMade e.parties e.bytes → Replying platform f (descriptor_of frame.domain number e)
   carried_up frame number f state c e listed r request fl made sent well =
-      answer_up frame number f state c e frame.head.header refl request (home_at platform g f frame listed r) (meant_at platform g f frame listed r) fl made sent well
+      answer_up frame number f state c e (home_at platform g f frame listed r) fl made sent frame.head.header refl request (meant_at platform g f frame listed r) well
 
 replies_nothing : {A : Type 0} (f : A → Change) (o : Option A) (c : Change) → ((a : A) → (f a).emission ≡ None) → option_map f o ≡ Some c → c.emission ≡ None
 replies_nothing f None c none made = absurd cc

@@ -15,7 +15,11 @@ link_above_port platform port = option_map (λ switch. switch.id) (switch_on pla
 abbrev pub link_above : Platform → ℕ → Option ℕ
 link_above platform lower = option_and_then (link_above_port platform) (port_leading_to platform.ports lower)
 
--- from a link on, each followed by the one above it, up to that of the host
-pub data IsWay (platform : Platform) : ℕ → List ℕ → Type 0 where
-  AtTop : IsWay platform top_id (top_id ∷ [])
-  Above : (lower above : ℕ) (links : List ℕ) → link_above platform lower ≡ Some above → bus_of above < bus_of lower → IsWay platform above links → IsWay platform lower (lower ∷ links)
+-- from a link on, each followed by the one above it, up to the last
+pub data IsPath (platform : Platform) (last : ℕ) : ℕ → List ℕ → Type 0 where
+  AtLast : IsPath platform last last (last ∷ [])
+  Above : (lower above : ℕ) (links : List ℕ) → link_above platform lower ≡ Some above → bus_of above < bus_of lower → IsPath platform last above links → IsPath platform last lower (lower ∷ links)
+
+-- so up to that of the host
+abbrev pub IsWay : Platform → ℕ → List ℕ → Type 0
+IsWay platform lower links = IsPath platform top_id lower links

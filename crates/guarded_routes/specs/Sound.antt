@@ -1,6 +1,7 @@
 -- What holds of each packet on a link of a guarded layout, wherever it waits or travels there.
-use Rattle.std.specs.Prelude.{◌≡◌, ℕ, ◌⊎◌, Bool, true, false, Option, Some}
-use Rattle.fab_types.specs.Id.{host_of}
+use Rattle.std.specs.Prelude.{◌≡◌, ℕ, ◌<◌, ◌⊎◌, Bool, true, false, Option, Some, None}
+use Rattle.fab_types.specs.Id.{bus_of, host_of}
+use Rattle.fab_types.specs.declared.head.AddressType.{AddressType}
 use Rattle.fab_types.specs.declared.head.AddressType.TheVariants.{Untranslated}
 use Rattle.fab_types.specs.declared.head.Answerer.{Answerer}
 use Rattle.fab_types.specs.declared.head.Answerer.TheVariants as by
@@ -14,8 +15,11 @@ use Rattle.fab_types.specs.declared.origin.Origin.TheVariants.{Function, Host}
 use Rattle.fab_types.specs.declared.place.Way.{Way}
 use Rattle.fab_types.specs.declared.place.Way.TheVariants.{Up, Down}
 use Rattle.frame_log.specs.Descriptor.{Descriptor}
-use Rattle.platform.specs.Owners.{first_port}
+use Rattle.platform.specs.declared.parts.DownstreamPort.{DownstreamPort}
+use Rattle.platform.specs.Egress.{direct_at, direct_to}
+use Rattle.platform.specs.Owners.{first_port, holds_bus}
 use Rattle.platform.specs.Platform.{Platform}
+use Rattle.platform.specs.Tree.{port_at}
 use Rattle.bridge.specs.Routes.{target_of}
 use Rattle.guarded_routes.specs.Guarded.{IsFunctionOf, has_id, holds_if_any, is_below}
 
@@ -37,8 +41,16 @@ IsCleared platform function (header.Memory requester address_type address) = (ad
 IsCleared platform function (header.OtherRequest requester) = ⊥
 IsCleared platform function (header.Completion target relaxed_ordering) = ⊥
 
+-- to which function a port lets a request with this header through that comes up to it, if it lets it through to any
+abbrev pub let_by : Platform → DownstreamPort → Header → Option ℕ
+let_by platform port header.Malformed = None
+let_by platform port (header.Memory requester address_type address) = direct_at platform.ports address port
+let_by platform port (header.OtherRequest requester) = None
+let_by platform port (header.Completion target relaxed_ordering) = None
+
 -- what a function of the domain sent, on its way up: anything but a completion below its first port, and above that what the
--- port lets pass
+-- port lets pass. No port that it passed lets it through to another port of its switch: of the ports above a function the
+-- lower have the later buses
 pub record Rising (platform : Platform) (lower : ℕ) (frame : Descriptor) : Type 0 where
   pub function : ℕ
   pub own : IsFunctionOf platform frame.domain function
@@ -46,6 +58,7 @@ pub record Rising (platform : Platform) (lower : ℕ) (frame : Descriptor) : Typ
   pub request : is_reply frame.head.header ≡ false
   pub below : is_below platform lower function ≡ true
   pub cleared : (lower ≡ function) ⊎ IsCleared platform function frame.head.header
+  pub passed : (port : DownstreamPort) → port_at platform.ports port.id ≡ Some port → holds_bus port (bus_of function) ≡ true → bus_of lower < port.secondary → let_by platform port frame.head.header ≡ None
 
 -- an answer of a function of the domain, on its way up to whom its target reaches
 pub record Replying (platform : Platform) (lower : ℕ) (frame : Descriptor) : Type 0 where
@@ -59,11 +72,17 @@ pub record Replying (platform : Platform) (lower : ℕ) (frame : Descriptor) : T
   pub parties : frame.head.parties ≡ Answer (by.Function function) addressee
   pub reaches : Reaches platform frame.domain target addressee
 
+-- a memory request to a function: by the host, or directly by another function of the domain, whose first port let it pass
+pub data IsAsked (platform : Platform) (domain function requester : ℕ) (address_type : AddressType) (address : ℕ) (parties : Parties) : Type 0 where
+  ByHost : parties ≡ Downward function → IsAsked platform domain function requester address_type address parties
+  Directly : (sender : ℕ) → IsFunctionOf platform domain sender → parties ≡ Upward sender → IsCleared platform sender (header.Memory requester address_type address) → direct_to platform.ports sender address ≡ Some function
+      → IsAsked platform domain function requester address_type address parties
+
 -- what a function is to take: a memory request to it, whose requester completions reach in the domain, or a completion for it
 abbrev pub IsMeantFor : Platform → ℕ → ℕ → Parties → Header → Type 0
 IsMeantFor platform domain function parties header.Malformed = ⊥
 IsMeantFor platform domain function parties (header.Memory requester address_type address) =
-    (parties ≡ Downward function) × (addressee : Option Origin) × Reaches platform domain requester addressee
+    IsAsked platform domain function requester address_type address parties × (addressee : Option Origin) × Reaches platform domain requester addressee
 IsMeantFor platform domain function parties (header.OtherRequest requester) = ⊥
 IsMeantFor platform domain function parties (header.Completion target relaxed_ordering) =
     (answerer : Answerer) × (parties ≡ Answer answerer (Some (Function function)))

@@ -11,7 +11,7 @@ ghost use Rattle.layout.specs.Views.{share_of_domain};
 ghost use Rattle.fab_types.specs.Id.{bus_of, host_of};
 ghost use Rattle.fab_types.specs.declared.head.Header.TheVariants as header;
 ghost use Rattle.fab_types.specs.declared.head.Parties.{Parties};
-ghost use Rattle.fab_types.specs.declared.head.Parties.TheVariants.{Downward, Upward};
+ghost use Rattle.fab_types.specs.declared.head.Parties.TheVariants.{Upward};
 ghost use Rattle.fab_types.specs.declared.place.Direction.{Direction};
 ghost use Rattle.fab_types.specs.declared.origin.Origin.TheVariants.{Function, Host};
 ghost use Rattle.fab_types.specs.declared.violation.Violation.{Violation};
@@ -37,7 +37,7 @@ ghost use Rattle.domain.specs.Machine.{change, replay};
 ghost use Rattle.request_handling.specs.Emissions.{Emission};
 ghost use Rattle.domain_parts.specs.State.{Alone, Change};
 ghost use Rattle.request_handling.specs.WellMade.{IsWellMade};
-ghost use Rattle.guarded_routes.specs.Ends.{Flies, IsFor, IsLegal, IsOwnRequest};
+ghost use Rattle.guarded_routes.specs.Ends.{Flies, IsFor, IsLegal, IsOwnRequest, IsRequestTo};
 ghost use Rattle.guarded_routes.specs.Guarded.{IsFunctionOf, IsGuarded, is_below, top_id};
 ghost use Rattle.guarded_routes.specs.Links.{IsWay, link_above};
 ghost use Rattle.guarded_routes.specs.Sound.{IsSound, is_reply};
@@ -54,24 +54,23 @@ pub fn ports_and_machines_test_alike()
 
 /// A port with all five controls set does with each request of the function below it, and with all
 /// bytes that spell no packet, what the machine of the function's domain alone says: what has the host
-/// as its fate goes up, anything else is stopped there; and a request that fails a test of the port is
-/// reported. In a guarded layout the port directly above a function is such a port.
+/// as its fate goes up, what goes directly to another function goes by the route that the port leaves it,
+/// and anything else is stopped there; and a request that fails a test of the port is reported. In a
+/// guarded layout the port directly above a function is such a port.
 pub fn guarded_ports_do_what_fates_say()
     ensures fate { (tree : Routes) (config : Config) (line : DownstreamPort) (function : ℕ) (bytes : List ℕ)
         → IsGuardedFirst tree.ports config line function
         → (malformed bytes ≡ None → is_completion (packet_of bytes).kind ≡ false)
-        → course_of tree config (head_of (sent_by function bytes)) ≡ by_fate (fate tree.ports function bytes) (report_at line function (head_of (sent_by function bytes))) }
+        → course_of tree config (head_of (sent_by function bytes)) ≡ by_fate tree.ports config line (head_of (sent_by function bytes)) (fate tree.ports function bytes) (report_at line function (head_of (sent_by function bytes))) }
     ensures first { (platform : Platform) (line : DownstreamPort) (domain : ℕ) → IsGuarded platform → port_at platform.ports line.id ≡ Some line → IsFunctionOf platform domain (id_below line)
         → IsGuardedFirst platform.ports (downstream_config platform line) line (id_below line) }
-{
-    // for the proof: the law of the controls
-    acs::guarded_requests_go_up();
-}
+{}
 
-/// At a downstream port a packet that is sound on the link below it goes on to where it is sound: up,
-/// but for a completion with Relaxed Ordering, which may go to another port of the switch; or the port
-/// is the first one above the function that sent it, and stops it. It is never stray. What goes on may
-/// go on: its requester, if it has one, is of its domain. What is stopped has a case as refused.
+/// At a downstream port a packet that is sound on the link below it goes on to where it is sound: up, if
+/// the port doesn't let it through to another port of its switch; there, directly to the function below
+/// that, if it does, or as a completion with Relaxed Ordering; or the port is the first one above the
+/// function that sent it, and stops it. It is never stray. What goes on may go on: its requester, if it
+/// has one, is of its domain. What is stopped has a case as refused.
 pub fn ports_pass()
     ensures passes { (platform : Platform) (line : DownstreamPort) (frame : Descriptor) → IsGuarded platform → port_at platform.ports line.id ≡ Some line
         → IsSound platform (record { lower = id_below line; way = Up }) frame
@@ -80,10 +79,7 @@ pub fn ports_pass()
         → IsSound platform (record { lower = id_below line; way = Up }) frame
         → course_of (of_platform platform) (downstream_config platform line) frame.head ≡ Stop report
         → Flies state frame → IsLegal platform state frame (Refuse frame.number) }
-{
-    // for the proof: the law of the controls
-    acs::guarded_requests_go_up();
-}
+{}
 
 /// At the upstream port of a switch a packet that is sound on the link above it goes on down, to where
 /// it is sound.
@@ -94,7 +90,7 @@ pub fn upstream_ports_pass()
 {}
 
 /// At the host a sound request is a memory request of a function of its domain, in the name of an ID of
-/// that domain, and has a case as carried. A sound completion that goes to bus 00 goes to the host of its
+/// that domain, goes directly to no other function, and has a case as carried. A sound completion that goes to bus 00 goes to the host of its
 /// domain, and has a case as delivered. One that goes to another bus is sound on the way down.
 pub fn host_takes()
     ensures request { (platform : Platform) (frame : Descriptor) → IsGuarded platform → IsSound platform (record { lower = top_id; way = Up }) frame
@@ -110,8 +106,8 @@ pub fn host_takes()
 {}
 
 /// At a function a sound packet is of the function's own domain. A completion is for that function, and
-/// has a case as delivered. Anything else is a request to it, and has a case as carried in each state
-/// that a journal of the domain leaves.
+/// has a case as delivered. Anything else is a request to it, by the host or directly by another function
+/// of the domain, and has a case as carried in each state that a journal of the domain leaves.
 pub fn functions_take()
     ensures home { (platform : Platform) (function : ℕ) (frame : Descriptor) → IsGuarded platform → is_function platform.functions function ≡ true → IsSound platform (record { lower = function; way = Down }) frame
         → IsFunctionOf platform frame.domain function }
@@ -120,7 +116,7 @@ pub fn functions_take()
     ensures delivered { (platform : Platform) (function : ℕ) (frame : Descriptor) (state : Alone) → IsGuarded platform → is_function platform.functions function ≡ true → IsSound platform (record { lower = function; way = Down }) frame
         → is_reply frame.head.header ≡ true → Flies state frame → IsLegal platform state frame (Deliver frame.number) }
     ensures request { (platform : Platform) (function : ℕ) (frame : Descriptor) → IsGuarded platform → is_function platform.functions function ≡ true → IsSound platform (record { lower = function; way = Down }) frame
-        → is_reply frame.head.header ≡ false → frame.head.parties ≡ Downward function }
+        → is_reply frame.head.header ≡ false → IsRequestTo platform frame function }
     ensures carried { (platform : Platform) (function : ℕ) (frame : Descriptor) (state : Alone) (journal : List Entry) → IsGuarded platform → is_function platform.functions function ≡ true → IsSound platform (record { lower = function; way = Down }) frame
         → is_reply frame.head.header ≡ false → replay (share_of_domain platform frame.domain) journal ≡ Some state → Flies state frame → IsLegal platform state frame (Carry frame.number) }
 {}

@@ -27,12 +27,12 @@ abbrev pub lost_with : ℕ → LinkEnd → Config → Loss → Lost
 lost_with node input config loss = record { input = input; own = own_end node config; place = loss.place; report = loss.report }
 
 -- a packet with this head, which came into the port from this end, if the port has no case for it
-abbrev pub lost_by : ℕ → LinkEnd → Config → Head → Forwarding → Option Lost
-lost_by node input config head course = option_map (lost_with node input config) (loss_of config head course)
+abbrev pub lost_by : Routes → ℕ → LinkEnd → Config → Head → Forwarding → Option Lost
+lost_by routes node input config head course = option_map (lost_with node input config) (loss_of routes config head course)
 
 abbrev pub lost_of : Routes → ℕ → LinkEnd → Config → Option (Descriptor × List Descriptor) → Option Lost
 lost_of routes node input config None = None
-lost_of routes node input config (Some taken) = lost_by node input config taken.0.head (course_of routes config taken.0.head)
+lost_of routes node input config (Some taken) = lost_by routes node input config taken.0.head (course_of routes config taken.0.head)
 
 -- of the packets that come into a port, if anything does
 abbrev pub lost_from : Routes → List (List Channel) → Class → Config → ℕ → Option LinkEnd → Option Lost

@@ -4,6 +4,7 @@ ghost use Rattle.std.specs.Prelude.{◌≡◌, IfOk, IfSome, MatchBool, None, So
 ghost use Rattle.std.specs.List.{list_all};
 ghost use Rattle.fab_types.specs.declared.class.Class.{Class};
 ghost use Rattle.credit.specs.Limits.{at};
+ghost use Rattle.platform.specs.Egress.{goes_directly};
 ghost use Rattle.platform.specs.Owners.{owner_of};
 ghost use Rattle.platform.specs.Share.{is_guarded_port};
 ghost use Rattle.link.specs.Channels.{deliver, send, update_fc};
@@ -77,6 +78,13 @@ impl Interconnect {
         ensures { result ≡ owner_of (self.now.routes).ports id }
     {
         self.bridge.owner(id)
+    }
+
+    /// Does a request of this sender for this address go directly to this function, as `Bridge::goes_directly`?
+    pub fn goes_directly(&self, sender: Bdf, address: u64, function: Bdf) -> bool
+        ensures { result ≡ goes_directly (self.now.routes).ports sender address function }
+    {
+        self.bridge.goes_directly(sender, address, function)
     }
 
     /// Are all five ACS controls set on each downstream port (PCIe 4.0, 6.12.1)?

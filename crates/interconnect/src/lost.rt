@@ -40,7 +40,7 @@ pub(crate) fn lost_by(
     input: LinkEnd,
     head: &Head,
 ) -> Option<Lost>
-    ensures value { result ≡ lost_by node input port.now.config head.now (course_of bridge.now port.now.config head.now) }
+    ensures value { result ≡ lost_by bridge.now node input port.now.config head.now (course_of bridge.now port.now.config head.now) }
     ensures input { IfSome result (λ lost. lost.input ≡ input) }
     ensures own { IfSome result (λ lost. (lost.own.node ≡ node) × (lost.own.output ≤ length port.now.config.exits)) }
 {

@@ -1,9 +1,10 @@
 -- What holds of a platform holds with one line more, if nothing is wrong with it.
-use Rattle.std.proofs.Common.{◌≡◌, ℕ, ◌+◌, ◌==◌, ◌≤◌, ◌<◌, Bool, true, false, cond, List, [], ◌∷◌, ◌++◌, length, length-append, Option, Some, None, refl, arith, leb-true, leb-false, ltb-false, lt-ltb, eqb-true, ◌%◌, ◌^◌}
+use Rattle.std.proofs.Common.{◌≡◌, ℕ, ◌+◌, ◌==◌, ◌≤◌, ◌<◌, Bool, true, false, cond, List, [], ◌∷◌, ◌++◌, map, ◌∙◌, length, length-append, Option, Some, None, refl, arith, leb-true, leb-false, ltb-false, lt-ltb, eqb-true, ◌%◌, ◌^◌}
 use Rattle.std.specs.Prelude.{◌&&◌, ◌||◌, not, nat_le, nat_lt, count_by}
 use Rattle.std.specs.List.{list_all}
 use Rattle.fab_types.specs.Id.{bus_of, id_of}
 use Rattle.fab_types.specs.declared.faults.layout.LayoutCause.TheVariants as cause
+use Rattle.platform.specs.declared.parts.LayoutVersion.{LayoutVersion}
 use Rattle.platform.specs.declared.parts.Switch.{Switch}
 use Rattle.platform.specs.declared.parts.DownstreamPort.{DownstreamPort}
 use Rattle.platform.specs.declared.parts.EndpointFunction.{EndpointFunction}
@@ -13,18 +14,21 @@ use Rattle.layout_line.specs.declared.lines.PortText.{PortText}
 use Rattle.layout_line.specs.declared.lines.MapText.{MapText}
 use Rattle.layout_line.specs.declared.lines.BudgetText.{BudgetText}
 use Rattle.layout_line.specs.declared.lines.CreditText.{CreditText}
+use Rattle.layout_line.specs.declared.lines.EgressText.{EgressText}
 use Rattle.platform.specs.Owners.{is_function}
 use Rattle.platform.specs.Platform.{Platform}
 use Rattle.platform.specs.Tree.{port_at, port_leading_to, domain_of, switch_on, port_above, is_third_level, is_taken, id_below}
-use Rattle.layout.specs.Rules.{is_within, frames_fault, root_fault, switch_fault, switch_fault_below, port_fault, port_fault_on, port_fault_below, is_past_port_limits, function_fault, function_fault_below, map_fault, has_full_table, is_of_requester, budget_fault, has_good_credits, credit_fault, is_known_target, is_past_frames, is_foreign, is_mapped}
+use Rattle.layout.specs.Rules.{is_within, frames_fault, root_fault, switch_fault, switch_fault_below, port_fault, port_fault_on, port_fault_below, is_past_port_limits, function_fault, function_fault_below, map_fault, has_full_table, is_of_requester, budget_fault, has_good_credits, credit_fault, egress_fault, is_known_target, is_past_frames, is_foreign, is_mapped}
 use Rattle.platform.specs.Tree.{is_on_bus}
-use Rattle.layout.specs.Additions.{root_line, switch_line, port_line, map_line, budget_line, credit_line}
-use Rattle.layout.specs.Laws.{IsPlatform, is_good_budget, is_good_credit, are_apart, is_nested, has_domain, ends_low, is_hung, is_hung_below, is_level, is_level_below, is_placed, is_placed_below, AreAlone, is_no_switch, is_known_map, is_home_map, share_no_frame}
+use Rattle.layout.specs.Additions.{root_line, switch_line, port_line, map_line, budget_line, credit_line, with_vector}
+use Rattle.layout.specs.Laws.{IsPlatform, is_good_budget, is_good_credit, are_apart, is_nested, has_domain, ends_low, is_hung, is_hung_below, is_level, is_level_below, is_placed, is_placed_below, AreAlone, is_used, is_no_switch, is_known_map, is_home_map, share_no_frame}
 use Rattle.layout.proofs.Nesting.{nested-stays, nested-among, nested-new, hung-stays, placed-stays, apart-new}
 use Rattle.layout.proofs.Levels.{level-stays, level-among, level-new}
 use Rattle.layout.proofs.Alone.{few-functions, no-functions, alone-port, alone-function, alone-switch, alone-root}
 use Rattle.layout.proofs.Free.{free-function, free-switch}
 use Rattle.layout.proofs.Sharing.{home-stays, unshared-stays, known-new, home-new, unshared-new, known-stays}
+use Rattle.layout.proofs.Vectors.{vectors-more, vectors-new, no-vectors, vectors-given}
+use Rattle.layout.proofs.Given.{all-given, count-map, home-given, hung-given, levels-given, nested-given, pair-mapped, placed-given, unshared-given}
 use Rattle.layout.proofs.NoFault.{none-first, none-rest, three-none, four-none}
 use Rattle.layout.proofs.Bools.{and-second, and-both, or-first, or-second, not-false, all-more, all-weaker, all-weaker-among, all-found, all-none, pair-more, pair-weaker, count-kept}
 
@@ -65,6 +69,7 @@ keeps-budget p budget h none = record {
   known = h.known;
   home = h.home;
   unshared = h.unshared;
+  vectors = h.vectors;
 }
 
 -- credits
@@ -92,21 +97,22 @@ keeps-credit p credit h none = record {
   known = h.known;
   home = h.home;
   unshared = h.unshared;
+  vectors = h.vectors;
 }
 
 -- a mapping
-pub keeps-map : (p : Platform) (map : MapText) → IsPlatform p → None ≡ map_fault p map → IsPlatform (record p { maps = p.maps ++ map_line map ∷ [] })
+pub keeps-map : (p : Platform) (line : MapText) → IsPlatform p → None ≡ map_fault p line → IsPlatform (record p { maps = p.maps ++ map_line line ∷ [] })
 unfolding map_fault
-keeps-map p map h none =
-    let rules = four-none (not (is_function p.functions map.requester) || not (is_known_target p.functions map.target)) (is_past_frames p.frames map.target || has_full_table p.maps map.requester)
-    (is_foreign p.ports p.maps (domain_of p.ports map.requester) map.target) (is_mapped p.maps map.requester map.page) cause.Line cause.Limit cause.MapForeign cause.MapTwice none in
+keeps-map p line h none =
+    let rules = four-none (not (is_function p.functions line.requester) || not (is_known_target p.functions line.target)) (is_past_frames p.frames line.target || has_full_table p.maps line.requester)
+    (is_foreign p.ports p.maps (domain_of p.ports line.requester) line.target) (is_mapped p.maps line.requester line.page) cause.Line cause.Limit cause.MapForeign cause.MapTwice none in
     record {
       limits = record {
         frames = h.limits.frames;
         switches = h.limits.switches;
         ports = h.limits.ports;
         functions = h.limits.functions;
-        maps = λ requester. count-kept (is_of_requester requester) p.maps (map_line map) 64 (h.limits.maps requester) (room requester p.maps map (or-second _ _ rules.1));
+        maps = λ requester. count-kept (is_of_requester requester) p.maps (map_line line) 64 (h.limits.maps requester) (room requester p.maps line (or-second _ _ rules.1));
         budgets = h.limits.budgets;
         credits = h.limits.credits;
       };
@@ -119,19 +125,20 @@ keeps-map p map h none =
       placed = h.placed;
       alone = h.alone;
       free = h.free;
-      known = all-more (is_known_map p.functions p.frames) p.maps (map_line map) h.known (and-both _ _ (not-false (is_function p.functions map.requester) (or-first _ _ rules.0)) (known-new p.functions p.frames map.target (not-false (is_known_target p.functions map.target) (or-second _ _ rules.0)) (or-first _ _ rules.1)));
-      home = all-more (is_home_map p.ports) p.maps (map_line map) h.home (home-new p.ports p.maps (domain_of p.ports map.requester) map.target rules.2);
-      unshared = pair-more (share_no_frame p.ports) p.maps (map_line map) h.unshared (unshared-new p.ports p.maps (domain_of p.ports map.requester) map.target rules.2);
+      known = all-more (is_known_map p.functions p.frames) p.maps (map_line line) h.known (and-both _ _ (not-false (is_function p.functions line.requester) (or-first _ _ rules.0)) (known-new p.functions p.frames line.target (not-false (is_known_target p.functions line.target) (or-second _ _ rules.0)) (or-first _ _ rules.1)));
+      home = all-more (is_home_map p.ports) p.maps (map_line line) h.home (home-new p.ports p.maps (domain_of p.ports line.requester) line.target rules.2);
+      unshared = pair-more (share_no_frame p.ports) p.maps (map_line line) h.unshared (unshared-new p.ports p.maps (domain_of p.ports line.requester) line.target rules.2);
+      vectors = h.vectors;
     }
 
 -- a port
-pub below-none : (p : Platform) (port : PortText) (switch : Option Switch) → None ≡ port_fault_on p port switch → (s : Switch) × (switch ≡ Some s) × (None ≡ port_fault_below p.ports (port_above p.ports s) port)
+pub below-none : (p : Platform) (port : PortText) (switch : Option Switch) → None ≡ port_fault_on p port switch → (s : Switch) × (switch ≡ Some s) × (None ≡ port_fault_below p.version p.ports (port_above p.ports s) port)
 below-none p port None e = absurd cc
 below-none p port (Some s) e = (s, refl, e)
 
-pub limits-kept : (ports : List DownstreamPort) (above : Option DownstreamPort) (port : PortText) → None ≡ port_fault_below ports above port → is_past_port_limits ports port ≡ false
+pub limits-kept : (version : LayoutVersion) (ports : List DownstreamPort) (above : Option DownstreamPort) (port : PortText) → None ≡ port_fault_below version ports above port → is_past_port_limits ports port ≡ false
 unfolding port_fault_below
-limits-kept ports above port none = none-first _ _ _ (none-rest _ _ _ none)
+limits-kept version ports above port none = none-first _ _ _ (none-rest _ _ _ none)
 
 owner-new : (ports : List DownstreamPort) (port : PortText) → is_past_port_limits ports port ≡ false → has_domain (port_line port) ≡ true
 unfolding is_past_port_limits
@@ -141,7 +148,7 @@ pub keeps-port : (p : Platform) (port : PortText) → IsPlatform p → port.limi
 unfolding port_fault
 keeps-port p port h low none =
     let on = below-none p port (switch_on p.switches (bus_of port.id)) none in
-    let limits = limits-kept p.ports (port_above p.ports on.0) port on.2 in
+    let limits = limits-kept p.version p.ports (port_above p.ports on.0) port on.2 in
     record {
       limits = record {
         frames = h.limits.frames;
@@ -152,10 +159,10 @@ keeps-port p port h low none =
         budgets = h.limits.budgets;
         credits = h.limits.credits;
       };
-      apart = pair-more are_apart p.ports (port_line port) h.apart (apart-new p.ports (port_above p.ports on.0) port on.2);
+      apart = pair-more are_apart p.ports (port_line port) h.apart (apart-new p.version p.ports (port_above p.ports on.0) port on.2);
       nested = all-more (is_nested p.switches (p.ports ++ port_line port ∷ [])) p.ports (port_line port)
           (all-weaker (is_nested p.switches p.ports) (is_nested p.switches (p.ports ++ port_line port ∷ [])) p.ports (λ other. nested-stays p.switches p.ports (port_line port ∷ []) other h.hung) h.nested)
-          (nested-stays p.switches p.ports (port_line port ∷ []) (port_line port) h.hung (rw on.1 (nested-new p.ports on.0 port on.2)));
+          (nested-stays p.switches p.ports (port_line port ∷ []) (port_line port) h.hung (rw on.1 (nested-new p.version p.ports on.0 port on.2)));
       owners = all-more has_domain p.ports (port_line port) h.owners (owner-new p.ports port limits);
       windows = all-more ends_low p.ports (port_line port) h.windows (lt-ltb port.limit (2 ^ 32) low);
       hung = all-weaker (is_hung p.ports) (is_hung (p.ports ++ port_line port ∷ [])) p.switches (λ switch. hung-stays p.ports (port_line port ∷ []) switch.above switch) h.hung;
@@ -166,6 +173,7 @@ keeps-port p port h low none =
       known = h.known;
       home = all-weaker-among (is_known_map p.functions p.frames) (is_home_map p.ports) (is_home_map (p.ports ++ port_line port ∷ [])) p.maps (λ line. home-stays p.ports (port_line port ∷ []) p.functions p.frames line h.placed) h.known h.home;
       unshared = pair-weaker (is_known_map p.functions p.frames) (share_no_frame p.ports) (share_no_frame (p.ports ++ port_line port ∷ [])) p.maps (λ one other. unshared-stays p.ports (port_line port ∷ []) p.functions p.frames one other h.placed) h.known h.unshared;
+      vectors = vectors-new p.functions p.ports port (no-vectors p.version p.ports (port_above p.ports on.0) port on.2) h.vectors;
     }
 
 placed-new : (p : Platform) (function : EndpointFunction) (above : Option DownstreamPort) → None ≡ function_fault_below p function above → is_placed_below above function ≡ true
@@ -209,6 +217,7 @@ keeps-function p function h none =
       known = all-weaker (is_known_map p.functions p.frames) (is_known_map (p.functions ++ function ∷ []) p.frames) p.maps (known-stays p.functions (function ∷ []) p.frames) h.known;
       home = h.home;
       unshared = h.unshared;
+      vectors = vectors-more p.functions (function ∷ []) p.ports h.vectors;
     }
 
 -- a switch
@@ -268,6 +277,7 @@ keeps-switch p switch h none = record {
   known = h.known;
   home = h.home;
   unshared = h.unshared;
+  vectors = h.vectors;
 }
 
 pub keeps-frames : (p : Platform) (count : ℕ) → IsPlatform p → None ≡ frames_fault p count → IsPlatform (record p { frames = count })
@@ -294,6 +304,7 @@ keeps-frames p count h none = record {
   known = all-none (is_known_map p.functions count) p.maps (eqb-true (length p.maps) 0 (not-false (length p.maps == 0) (or-second _ _ (none-first _ _ _ none))));
   home = h.home;
   unshared = h.unshared;
+  vectors = h.vectors;
 }
 
 pub no-switches : (p : Platform) (id : ℕ) → None ≡ root_fault p id → length p.switches ≡ 0
@@ -325,6 +336,35 @@ keeps-root p id h none = record {
   known = h.known;
   home = h.home;
   unshared = h.unshared;
+  vectors = h.vectors;
+}
+
+-- a vector
+pub keeps-egress : (p : Platform) (egress : EgressText) → IsPlatform p → None ≡ egress_fault p egress → IsPlatform (record p { ports = map (with_vector egress) p.ports })
+unfolding egress_fault
+keeps-egress p egress h none = record {
+  limits = record {
+    frames = h.limits.frames;
+    switches = h.limits.switches;
+    ports = λ bus. rw (count-map (is_on_bus bus) (with_vector egress) p.ports (λ port. refl)) (h.limits.ports bus);
+    functions = h.limits.functions;
+    maps = h.limits.maps;
+    budgets = h.limits.budgets;
+    credits = h.limits.credits;
+  };
+  apart = pair-mapped are_apart (with_vector egress) p.ports (λ one other. refl) ∙ h.apart;
+  nested = nested-given egress p.ports p.switches ∙ h.nested;
+  owners = all-given egress p.ports has_domain (λ port. refl) ∙ h.owners;
+  windows = all-given egress p.ports ends_low (λ port. refl) ∙ h.windows;
+  hung = hung-given egress p.ports p.switches ∙ h.hung;
+  levels = levels-given egress p.ports p.switches p.switches ∙ h.levels;
+  placed = placed-given egress p.ports p.functions ∙ h.placed;
+  alone = rw (count-map (is_used p.switches p.functions) (with_vector egress) p.ports (λ port. refl)) h.alone;
+  free = h.free;
+  known = h.known;
+  home = home-given egress p.ports p.maps ∙ h.home;
+  unshared = unshared-given egress p.ports p.maps ∙ h.unshared;
+  vectors = vectors-given p egress h.vectors (none-first _ _ _ (none-rest _ _ _ none));
 }
 
 -- the same of whatever lists came out

@@ -2,6 +2,8 @@ pub mod Pieces
 pub mod Bools
 pub mod Counts
 pub mod NoFault
+pub mod Vectors
+pub mod Given
 pub mod Nesting
 pub mod Levels
 pub mod Sharing

@@ -3,6 +3,7 @@ use Rattle.std.proofs.Common.{◌≡◌, ℕ, ◌+◌, ◌*◌, ◌/◌, ◌==�
 use Rattle.std.specs.Prelude.{◌&&◌, ◌||◌, not, nat_le, nat_lt, is_some, option_and_then}
 use Rattle.std.specs.List.{list_all}
 use Rattle.fab_types.specs.Id.{bus_of}
+use Rattle.platform.specs.declared.parts.LayoutVersion.{LayoutVersion}
 use Rattle.platform.specs.declared.parts.Switch.{Switch}
 use Rattle.platform.specs.declared.parts.DownstreamPort.{DownstreamPort}
 use Rattle.platform.specs.declared.parts.EndpointFunction.{EndpointFunction}
@@ -67,18 +68,18 @@ inside-new None port buses window owner = and-first _ _ (not-false (nat_lt (bus_
 inside-new (Some above) port buses window owner =
     and-both _ _ (and-both _ _ (not-false (nat_lt (bus_of port.id) port.secondary && nat_le port.subordinate above.subordinate) buses) (not-false (nat_le above.base port.base && nat_le port.limit above.limit) window)) (not-false (port.owner == above.owner) owner)
 
-pub nested-new : (ports : List DownstreamPort) (switch : Switch) (port : PortText) → None ≡ port_fault_below ports (port_above ports switch) port → is_nested_on ports (Some switch) (port_line port) ≡ true
+pub nested-new : (version : LayoutVersion) (ports : List DownstreamPort) (switch : Switch) (port : PortText) → None ≡ port_fault_below version ports (port_above ports switch) port → is_nested_on ports (Some switch) (port_line port) ≡ true
 unfolding has_bad_fields
-nested-new ports switch port none =
-    let good = good-port ports (port_above ports switch) port none in
+nested-new version ports switch port none =
+    let good = good-port version ports (port_above ports switch) port none in
     and-both _ _ (and-both _ _ (le-test port.secondary port.subordinate (or-second _ _ (or-first _ _ (or-first _ _ (or-first _ _ good.fields))))) (lt-test port.base port.limit (or-second _ _ good.fields)))
     (inside-new (port_above ports switch) port good.outside good.window good.owner)
 
 -- a new port is apart from the others
-pub apart-new : (ports : List DownstreamPort) (above : Option DownstreamPort) (port : PortText) → None ≡ port_fault_below ports above port → list_all (λ other. are_apart other (port_line port)) ports ≡ true
+pub apart-new : (version : LayoutVersion) (ports : List DownstreamPort) (above : Option DownstreamPort) (port : PortText) → None ≡ port_fault_below version ports above port → list_all (λ other. are_apart other (port_line port)) ports ≡ true
 unfolding has_bad_fields buses_meet windows_meet
-apart-new ports above port none =
-    let good = good-port ports above port none in
+apart-new version ports above port none =
+    let good = good-port version ports above port none in
     let one = λ (other : DownstreamPort). other.id == port.id in
     let two = λ (other : DownstreamPort). is_on_bus (bus_of port.id) other && nat_le other.secondary port.subordinate && nat_le port.secondary other.subordinate in
     let three = λ (other : DownstreamPort). is_on_bus (bus_of port.id) other && nat_le other.base port.limit && nat_le port.base other.limit in

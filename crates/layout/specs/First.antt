@@ -16,7 +16,7 @@ abbrev pub all_controls : AcsControl
 all_controls = record { 0 = 31 }
 
 abbrev pub first_port_line : DownstreamPort
-first_port_line = record { id = id_of 2 0 0; secondary = 3; subordinate = 3; base = 0x90000000; limit = 0x900fffff; controls = all_controls; owner = 1 }
+first_port_line = record { id = id_of 2 0 0; secondary = 3; subordinate = 3; base = 0x90000000; limit = 0x900fffff; controls = all_controls; owner = 1; egress_vector = None }
 
 abbrev pub first_function : EndpointFunction
 first_function = record { id = id_of 3 0 0; bar = 0x90000000 }

@@ -13,7 +13,7 @@ use Rattle.platform.specs.declared.parts.CreditLine.{CreditLine}
 use Rattle.platform.specs.Platform.{Platform}
 use Rattle.platform.specs.Owners.{is_function}
 use Rattle.platform.specs.Tree.{port_at, port_leading_to, port_above, switch_on, id_below, is_switch, is_third_level, is_taken, domain_of}
-use Rattle.layout.specs.Rules.{is_within, is_of_requester, is_mapping_of}
+use Rattle.layout.specs.Rules.{is_within, is_of_requester, is_mapping_of, lets_abroad}
 use Rattle.platform.specs.Tree.{is_on_bus}
 
 abbrev pub is_good_budget : BudgetLine → Bool
@@ -135,6 +135,10 @@ is_own_frame ports one domain (mapped.Peer peer) = true
 abbrev pub share_no_frame : List DownstreamPort → Mapping → Mapping → Bool
 share_no_frame ports one other = is_own_frame ports one (domain_of ports other.requester) other.target
 
+-- requests that a port lets through to other ports of its switch stay with its owner, and find a function there
+abbrev pub keeps_home : List EndpointFunction → List DownstreamPort → DownstreamPort → Bool
+keeps_home functions ports port = not (lets_abroad functions ports port)
+
 -- what holds of every platform
 pub record IsPlatform (platform : Platform) : Type 0 where
   pub limits : HasLimits platform
@@ -150,3 +154,4 @@ pub record IsPlatform (platform : Platform) : Type 0 where
   pub known : list_all (is_known_map platform.functions platform.frames) platform.maps ≡ true
   pub home : list_all (is_home_map platform.ports) platform.maps ≡ true
   pub unshared : each_pair (share_no_frame platform.ports) platform.maps ≡ true
+  pub vectors : list_all (keeps_home platform.functions platform.ports) platform.ports ≡ true

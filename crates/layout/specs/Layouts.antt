@@ -6,6 +6,7 @@ use Rattle.layout.specs.declared.layout.Layout.TheInside.{Inside}
 
 abbrev pub platform_of : Inside → Platform
 platform_of s = record {
+  version = s.version;
   frames = s.frames;
   switches = s.switches.items;
   ports = s.ports.items;

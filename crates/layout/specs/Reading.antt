@@ -1,5 +1,5 @@
 -- A text is read line by line: it is a platform, or it has a first faulty line.
-use Rattle.std.specs.Prelude.{◌≡◌, ℕ, ◌+◌, ◌^◌, ◌-◌, min, Bool, true, ◌&&◌, not, nat_le, List, [], ◌∷◌, codes, Option, Some, None, Result, Ok, Err, MatchResult, ◌⊎◌, if◌then◌else◌}
+use Rattle.std.specs.Prelude.{◌≡◌, ℕ, ◌+◌, ◌^◌, ◌-◌, min, Bool, true, ◌&&◌, nat_le, List, [], ◌∷◌, codes, Option, Some, None, Result, Ok, Err, MatchResult, ◌⊎◌, if◌then◌else◌}
 use Rattle.std.specs.Str.{bytes_eq}
 use Rattle.fab_types.specs.declared.faults.layout.LayoutCause.{LayoutCause}
 use Rattle.fab_types.specs.declared.faults.layout.LayoutCause.TheVariants as cause
@@ -7,6 +7,8 @@ use Rattle.fab_types.specs.declared.faults.layout.LayoutFault.{LayoutFault}
 use Rattle.layout_line.specs.declared.lines.LayoutLine.{LayoutLine}
 use Rattle.text.specs.Text.{pieces, is_last, is_comment}
 use Rattle.layout_line.specs.LayoutLines.{layout_line_of}
+use Rattle.platform.specs.declared.parts.LayoutVersion.{LayoutVersion}
+use Rattle.platform.specs.declared.parts.LayoutVersion.TheVariants.{One, Two}
 use Rattle.platform.specs.Platform.{Platform, no_lines}
 use Rattle.platform.specs.Tree.{has_root}
 use Rattle.layout.specs.Rules.{fault_of}
@@ -50,9 +52,19 @@ read_from platform number (line ∷ rest) =
     if is_last rest then ended platform number line
     else and_on number (λ next. read_from next (next_number number) rest) (with_line platform line)
 
+-- the first line says the version
+abbrev pub version_of : List ℕ → Option LayoutVersion
+version_of line =
+    if bytes_eq line (codes "pciefab 1") then Some One
+    else (if bytes_eq line (codes "pciefab 2") then Some Two else None)
+
+abbrev pub read_after : Option LayoutVersion → List (List ℕ) → Result Platform LayoutFault
+read_after None rest = Err (fault_at 1 cause.Line)
+read_after (Some version) rest = if is_last rest then Err (fault_at 1 cause.Line) else read_from (no_lines version) 2 rest
+
 abbrev pub read_pieces : List (List ℕ) → Result Platform LayoutFault
 read_pieces [] = Err (fault_at 1 cause.Line)
-read_pieces (first ∷ rest) = if bytes_eq first (codes "pciefab 1") && not (is_last rest) then read_from no_lines 2 rest else Err (fault_at 1 cause.Line)
+read_pieces (first ∷ rest) = read_after (version_of first) rest
 
 -- what a text is: a platform, or its first faulty line and the least number that applies there
 unfoldable pub reading : List ℕ → Result Platform LayoutFault

@@ -17,12 +17,17 @@ use Rattle.layout_line.specs.declared.lines.TargetText.{TargetText}
 use Rattle.layout_line.specs.declared.lines.TargetText.TheVariants as target
 use Rattle.layout_line.specs.declared.lines.BudgetText.{BudgetText}
 use Rattle.layout_line.specs.declared.lines.CreditText.{CreditText}
+use Rattle.layout_line.specs.declared.lines.EgressText.{EgressText}
 use Rattle.layout_line.specs.declared.lines.LayoutLine.{LayoutLine}
-use Rattle.layout_line.specs.declared.lines.LayoutLine.TheVariants.{Frames, Root, Port, Function, Map, Budget, Credit}
+use Rattle.layout_line.specs.declared.lines.LayoutLine.TheVariants.{Frames, Root, Port, Function, Map, Budget, Credit, Egress}
 use Rattle.platform.specs.Owners.{is_function, owns_port}
 use Rattle.platform.specs.Tree.{port_at, port_leading_to, id_below, switch_on, is_on_bus, port_above, is_third_level, is_taken, domain_of}
 use Rattle.platform.specs.Platform.{Platform}
-use Rattle.layout.specs.Additions.{function_line}
+use Rattle.platform.specs.Egress.{lets_through}
+use Rattle.fab_types.specs.Controls.{controls_egress}
+use Rattle.platform.specs.declared.parts.LayoutVersion.{LayoutVersion}
+use Rattle.platform.specs.declared.parts.LayoutVersion.TheVariants.{One, Two}
+use Rattle.layout.specs.Additions.{function_line, with_vector}
 
 -- the first cause whose condition holds
 abbrev pub first_of : List (Bool × LayoutCause) → Option LayoutCause
@@ -72,6 +77,15 @@ unfoldable pub windows_meet : List DownstreamPort → PortText → Bool
 windows_meet ports port =
     list_any (λ other. is_on_bus (bus_of port.id) other && nat_le other.base port.limit && nat_le port.base other.limit) ports
 
+-- a port on this bus has been given a vector
+unfoldable pub has_vectors : List DownstreamPort → ℕ → Bool
+has_vectors ports bus = list_any (λ other. is_on_bus bus other && is_some other.egress_vector) ports
+
+-- the greatest value of a port's controls
+abbrev pub last_controls : LayoutVersion → ℕ
+last_controls One = 31
+last_controls Two = 63
+
 abbrev pub last_bus : Option DownstreamPort → ℕ
 last_bus None = 255
 last_bus (Some above) = above.subordinate
@@ -88,21 +102,21 @@ abbrev pub owner_differs : Option DownstreamPort → PortText → Bool
 owner_differs None port = false
 owner_differs (Some above) port = not (port.owner == above.owner)
 
--- `port ID SEC SUB BASE LIMIT ACS OWNER`: on the internal bus of an earlier switch
-unfoldable pub port_fault_below : List DownstreamPort → Option DownstreamPort → PortText → Option LayoutCause
-port_fault_below ports above port = first_of (
-    (has_bad_fields ports port, cause.Line)
+-- `port ID SEC SUB BASE LIMIT ACS OWNER`: on the internal bus of an earlier switch, none of whose ports has a vector yet
+unfoldable pub port_fault_below : LayoutVersion → List DownstreamPort → Option DownstreamPort → PortText → Option LayoutCause
+port_fault_below version ports above port = first_of (
+    (has_bad_fields ports port || has_vectors ports (bus_of port.id), cause.Line)
     ∷ (is_past_port_limits ports port, cause.Limit)
     ∷ (buses_meet ports port, cause.BusOverlap)
     ∷ (buses_are_outside above port, cause.BusOutside)
     ∷ (windows_meet ports port, cause.WindowOverlap)
     ∷ (window_is_outside above port, cause.WindowOutside)
     ∷ (owner_differs above port, cause.OwnerMixed)
-    ∷ (nat_lt 31 port.controls, cause.AcsUnknown) ∷ [])
+    ∷ (nat_lt (last_controls version) port.controls, cause.AcsUnknown) ∷ [])
 
 abbrev pub port_fault_on : Platform → PortText → Option Switch → Option LayoutCause
 port_fault_on platform port None = Some cause.Line
-port_fault_on platform port (Some switch) = port_fault_below platform.ports (port_above platform.ports switch) port
+port_fault_on platform port (Some switch) = port_fault_below platform.version platform.ports (port_above platform.ports switch) port
 
 unfoldable pub port_fault : Platform → PortText → Option LayoutCause
 port_fault platform port = port_fault_on platform port (switch_on platform.switches (bus_of port.id))
@@ -176,6 +190,35 @@ credit_fault platform credit = first_of (
     (not (is_taken platform.switches platform.functions credit.id) || list_any (λ line. line.id == credit.id) platform.credits, cause.Line)
     ∷ (not (has_good_credits credit), cause.CreditRange) ∷ [])
 
+-- requests from below the port may go directly to another port of its switch that is none of the same owner with a function
+-- directly below
+abbrev pub is_let_abroad : List EndpointFunction → DownstreamPort → DownstreamPort → Bool
+is_let_abroad functions port other =
+    is_on_bus (bus_of port.id) other && not (other.id == port.id) && lets_through port other.id
+    && not ((other.owner == port.owner) && is_function functions (id_below other))
+
+abbrev pub lets_abroad : List EndpointFunction → List DownstreamPort → DownstreamPort → Bool
+lets_abroad functions ports port = list_any (is_let_abroad functions port) ports
+
+unfoldable pub has_foreign_bit : Platform → EgressText → Bool
+has_foreign_bit platform egress =
+    list_any (λ port. (port.id == egress.port) && lets_abroad platform.functions platform.ports (with_vector egress port)) platform.ports
+
+abbrev pub is_first_version : LayoutVersion → Bool
+is_first_version One = true
+is_first_version Two = false
+
+-- may a line give the port a vector? It has to control egress, and gets one once
+abbrev pub takes_vector : Option DownstreamPort → Bool
+takes_vector None = false
+takes_vector (Some port) = controls_egress port.controls && not (is_some port.egress_vector)
+
+-- `egress PORT VECTOR`, from version 2 on
+unfoldable pub egress_fault : Platform → EgressText → Option LayoutCause
+egress_fault platform egress = first_of (
+    (is_first_version platform.version || not (takes_vector (port_at platform.ports egress.port)), cause.Line)
+    ∷ (has_foreign_bit platform egress, cause.EgressForeign) ∷ [])
+
 -- the least number that applies to a line after these
 abbrev pub fault_of : Platform → LayoutLine → Option LayoutCause
 fault_of platform (Frames count) = frames_fault platform count
@@ -186,3 +229,4 @@ fault_of platform (Function function) = function_fault platform (function_line f
 fault_of platform (Map map) = map_fault platform map
 fault_of platform (Budget budget) = budget_fault platform budget
 fault_of platform (Credit credit) = credit_fault platform credit
+fault_of platform (Egress egress) = egress_fault platform egress

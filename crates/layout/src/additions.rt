@@ -1,17 +1,17 @@
 //! A platform with one line more.
 
-ghost use Rattle.std.specs.Prelude.{◌≡◌, ◌≤◌, ◌<◌, ◌^◌, ◌==◌, true, false, option_map};
+ghost use Rattle.std.specs.Prelude.{◌≡◌, ◌≤◌, ◌<◌, ◌^◌, ◌==◌, true, false, map, option_map};
 ghost use Rattle.std.specs.List.{find};
 ghost use Rattle.layout.specs.Rules.{has_good_credits, is_past_frames};
 ghost use Rattle.platform.specs.Owners.{owns_port};
-ghost use Rattle.layout.specs.Additions.{port_line, function_line, target_of_text, rights_of_text, limits_of_text};
+ghost use Rattle.layout.specs.Additions.{port_line, function_line, with_vector, target_of_text, rights_of_text, limits_of_text};
 ghost use Rattle.layout.specs.Reading.{with_layout_line, with_form, with_line, IsStep};
 
 use crate::layout::Layout;
 use fab_types::{AcsControl, Bdf, DomainId, LayoutCause, PortId};
 use layout_line::{
-    BudgetText, CreditText, FunctionText, LayoutLine, MapText, PortText, RightsText, SwitchText,
-    TargetText, layout_line_of,
+    BudgetText, CreditText, EgressText, FunctionText, LayoutLine, MapText, PortText, RightsText,
+    SwitchText, TargetText, layout_line_of,
 };
 use platform::{
     BudgetLine, CreditLimits, CreditLine, DownstreamPort, EndpointFunction, MapTarget, Mapping,
@@ -21,7 +21,7 @@ use text::is_comment;
 
 fn port_line(port: &PortText) -> DownstreamPort
     requires owner { (1 ≤ port.now.owner) × (port.now.owner ≤ 31) }
-    requires controls { port.now.controls < 32 }
+    requires controls { port.now.controls < 64 }
     ensures value { result ≡ port_line port.now }
     ensures low { port.now.limit < 2 ^ 32 }
 {
@@ -35,6 +35,30 @@ fn port_line(port: &PortText) -> DownstreamPort
         limit: port.limit,
         controls: AcsControl::from_register(port.controls).unwrap(),
         owner: DomainId::new(port.owner as u8).unwrap(),
+        egress_vector: None,
+    }
+}
+
+pub(crate) fn with_vector(egress: &EgressText, port: &DownstreamPort) -> DownstreamPort
+    ensures { result ≡ with_vector egress.now port.now }
+{
+    let egress_vector = if port.id.id() == egress.port {
+        Some(egress.vector)
+    } else {
+        port.egress_vector
+    };
+    DownstreamPort {
+        egress_vector,
+        ..*port
+    }
+}
+
+/// Gives the port of the line the line's vector.
+fn give_vector(ports: &mut [DownstreamPort], egress: &EgressText)
+    ensures { ports.new ≡ map (with_vector egress.now) ports.old }
+{
+    for place in 0..ports.len() {
+        ports[place] = with_vector(egress, &ports[place]);
     }
 }
 
@@ -221,6 +245,17 @@ impl Layout {
         }
     }
 
+    #[tactic(auto, unfolding(crate::specs::Reading::with_layout_line))]
+    fn take_egress(&mut self, egress: &EgressText) -> Result<(), LayoutCause>
+        ensures { IsStep (with_layout_line self.old (LayoutLine.Egress egress.now)) result self.new }
+    {
+        if let Some(cause) = self.egress_fault(egress) {
+            return Err(cause);
+        }
+        give_vector(self.ports.as_mut_slice(), egress);
+        Ok(())
+    }
+
     fn take_layout_line(&mut self, statement: &LayoutLine) -> Result<(), LayoutCause>
         ensures { IsStep (with_layout_line self.old statement.now) result self.new }
     {
@@ -233,6 +268,7 @@ impl Layout {
             LayoutLine::Map(map) => self.take_map(map),
             LayoutLine::Budget(budget) => self.take_budget(budget),
             LayoutLine::Credit(credit) => self.take_credit(credit),
+            LayoutLine::Egress(egress) => self.take_egress(egress),
         }
     }
 

@@ -4,7 +4,9 @@ ghost use Rattle.std.specs.Prelude.{◌≡◌, true};
 ghost use Rattle.std.specs.List.{list_all};
 ghost use Rattle.platform.specs.Platform.{no_lines};
 
-use platform::{BudgetLine, CreditLine, DownstreamPort, EndpointFunction, Mapping, Switch};
+use platform::{
+    BudgetLine, CreditLine, DownstreamPort, EndpointFunction, LayoutVersion, Mapping, Switch,
+};
 use std::alloc::Global;
 use std::marker::Model;
 
@@ -12,6 +14,7 @@ use std::marker::Model;
 /// domain may reach.
 #[derive(Drop)]
 pub struct Layout {
+    pub(crate) version: LayoutVersion,
     pub(crate) frames: u16,
     pub(crate) switches: Vec<Switch>,
     pub(crate) ports: Vec<DownstreamPort>,
@@ -37,11 +40,12 @@ impl Layout {
     ghost use Rattle.layout.specs.Laws.{IsPlatform, is_good_budget};
     ghost use Rattle.layout.specs.Places.{IsWellPlaced};
 
-    /// The platform of no lines.
-    pub(crate) fn empty(alloc: Global) -> Layout
-        ensures { result ≡ no_lines }
+    /// The platform of no lines, in a text of this version.
+    pub(crate) fn empty(alloc: Global, version: LayoutVersion) -> Layout
+        ensures { result ≡ no_lines version }
     {
         Layout {
+            version,
             frames: 0,
             switches: Vec::new(alloc),
             ports: Vec::new(alloc),
@@ -50,6 +54,12 @@ impl Layout {
             budgets: Vec::new(alloc),
             credits: Vec::new(alloc),
         }
+    }
+
+    pub(crate) fn version(&self) -> LayoutVersion
+        ensures { result ≡ self.now.version }
+    {
+        self.version
     }
 
     /// How many frames of memory there are.

@@ -5,11 +5,11 @@ ghost use Rattle.text.specs.Text.{pieces};
 ghost use Rattle.platform.specs.Platform.{no_lines};
 ghost use Rattle.layout.specs.Laws.{IsPlatform};
 ghost use Rattle.layout.specs.Places.{IsWellPlaced};
-ghost use Rattle.layout.specs.Reading.{ended, read_from, reading, IsReading};
+ghost use Rattle.layout.specs.Reading.{ended, read_from, reading, version_of, IsReading};
 
 use crate::layout::Layout;
 use fab_types::{LayoutCause, LayoutFault};
-use platform::has_root;
+use platform::{LayoutVersion, has_root};
 use std::alloc::Global;
 use text::{cut, is_keyword};
 
@@ -26,12 +26,25 @@ fn ended(layout: Layout, line: u32, rest: &[u8]) -> Result<Layout, LayoutFault>
     Err(LayoutFault { cause, line })
 }
 
-fn read_lines(alloc: Global, text: &[u8]) -> Result<Layout, LayoutFault>
-    ensures exact { IsReading (read_from no_lines 2 (pieces text.now)) result }
+// The version that the first line says.
+fn version_of(line: &[u8]) -> Option<LayoutVersion>
+    ensures { result ≡ version_of line.now }
+{
+    if is_keyword(line, "pciefab 1") {
+        Some(LayoutVersion::One)
+    } else if is_keyword(line, "pciefab 2") {
+        Some(LayoutVersion::Two)
+    } else {
+        None
+    }
+}
+
+fn read_lines(alloc: Global, version: LayoutVersion, text: &[u8]) -> Result<Layout, LayoutFault>
+    ensures exact { IsReading (read_from (no_lines version) 2 (pieces text.now)) result }
     ensures laws { IfOk result (λ layout. IsPlatform layout) }
     ensures places { IfOk result (λ layout. IsWellPlaced layout) }
 {
-    let mut layout = Layout::empty(alloc);
+    let mut layout = Layout::empty(alloc, version);
     let mut line: u32 = 2;
     let mut rest = text;
     while let Some(parts) = cut(rest, b'\n') {
@@ -59,8 +72,8 @@ impl Layout {
     {
         match cut(text.as_bytes(), b'\n') {
             Some(first) => {
-                if is_keyword(first.before, "pciefab 1") {
-                    return read_lines(alloc, first.after);
+                if let Some(version) = version_of(first.before) {
+                    return read_lines(alloc, version, first.after);
                 }
             }
             None => {}

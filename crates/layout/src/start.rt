@@ -51,6 +51,7 @@ impl Start {
             limit: 0x900f_ffff,
             controls: AcsControl::from_register(0x1f).unwrap(),
             owner: DomainId::new(1).unwrap(),
+            egress_vector: None,
         };
         let function = EndpointFunction {
             id: Bdf::from_bits(0x0300),

@@ -7,7 +7,7 @@ use Rattle.layout_line.specs.declared.lines.RightsText.{RightsText}
 use Rattle.layout_line.specs.declared.lines.TargetText.{TargetText}
 use Rattle.layout_line.specs.declared.lines.TargetText.TheVariants as target
 use Rattle.layout_line.specs.declared.lines.LayoutLine.{LayoutLine}
-use Rattle.layout_line.specs.declared.lines.LayoutLine.TheVariants.{Frames, Root, Switch, Port, Function, Map, Budget, Credit}
+use Rattle.layout_line.specs.declared.lines.LayoutLine.TheVariants.{Frames, Root, Switch, Port, Function, Map, Budget, Credit, Egress}
 
 -- `frames N`
 abbrev pub frames_text : List ℕ → Option LayoutLine
@@ -115,6 +115,14 @@ credit_text rest = do
   completion_headers ← at_blank non_posted_data.1
   credit_fields id.0 posted_headers.0 posted_data.0 non_posted_headers.0 non_posted_data.0 completion_headers.0 completion_headers.1
 
+-- `egress PORT VECTOR`
+abbrev pub egress_text : List ℕ → Option LayoutLine
+egress_text rest = do
+  first ← at_blank rest
+  port ← id_at first.0
+  vector ← hexadecimal 8 8 first.1
+  Some (Egress (record { port = port; vector = vector }))
+
 abbrev pub layout_line_of_word : List ℕ → List ℕ → Option LayoutLine
 layout_line_of_word word rest =
     if bytes_eq word (codes "frames") then frames_text rest
@@ -124,7 +132,8 @@ layout_line_of_word word rest =
     else (if bytes_eq word (codes "map") then map_text rest
     else (if bytes_eq word (codes "budget") then budget_text rest
     else (if bytes_eq word (codes "credit") then credit_text rest
-    else None))))))
+    else (if bytes_eq word (codes "egress") then egress_text rest
+    else None)))))))
 
 -- what a line says, if it has one of the forms
 abbrev pub layout_line_of : List ℕ → Option LayoutLine

@@ -1,11 +1,11 @@
 //! What a line says, before any rule is tested.
 
 ghost use Rattle.std.specs.Prelude.{◌≡◌};
-ghost use Rattle.layout_line.specs.LayoutLines.{frames_text, switch_below, switch_text, port_fields, port_text, function_text, rights_text, target_text, map_fields, map_text, budget_text, credit_fields, credit_text, layout_line_of_word, layout_line_of};
+ghost use Rattle.layout_line.specs.LayoutLines.{frames_text, switch_below, switch_text, port_fields, port_text, function_text, rights_text, target_text, map_fields, map_text, budget_text, credit_fields, credit_text, egress_text, layout_line_of_word, layout_line_of};
 
 use crate::lines::{
-    BudgetText, CreditText, FunctionText, LayoutLine, MapText, PortText, RightsText, SwitchText,
-    TargetText,
+    BudgetText, CreditText, EgressText, FunctionText, LayoutLine, MapText, PortText, RightsText,
+    SwitchText, TargetText,
 };
 use fab_types::Bdf;
 use text::{at_blank, decimal, hex_byte, hex_word, hexadecimal, id, is_keyword};
@@ -207,6 +207,15 @@ fn credit_text(rest: &[u8]) -> Option<LayoutLine>
     })
 }
 
+fn egress_text(rest: &[u8]) -> Option<LayoutLine>
+    ensures { result ≡ egress_text rest.now }
+{
+    let first = at_blank(rest)?;
+    let port = id(first.before)?;
+    let vector = hex_word(first.after)?;
+    Some(LayoutLine::Egress(EgressText { port, vector }))
+}
+
 fn layout_line_of_word(word: &[u8], rest: &[u8]) -> Option<LayoutLine>
     ensures { result ≡ layout_line_of_word word.now rest.now }
 {
@@ -224,6 +233,8 @@ fn layout_line_of_word(word: &[u8], rest: &[u8]) -> Option<LayoutLine>
         budget_text(rest)
     } else if is_keyword(word, "credit") {
         credit_text(rest)
+    } else if is_keyword(word, "egress") {
+        egress_text(rest)
     } else {
         None
     }

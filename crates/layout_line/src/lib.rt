@@ -6,6 +6,6 @@ mod lines;
 
 pub use forms::layout_line_of;
 pub use lines::{
-    BudgetText, CreditText, FunctionText, LayoutLine, MapText, PortText, RightsText, SwitchText,
-    TargetText,
+    BudgetText, CreditText, EgressText, FunctionText, LayoutLine, MapText, PortText, RightsText,
+    SwitchText, TargetText,
 };

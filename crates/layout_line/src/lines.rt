@@ -71,6 +71,13 @@ pub struct CreditText {
     pub completion_data: u32,
 }
 
+/// What an `egress` line says.
+#[derive(Clone, Copy, Debug, PartialEq, Eq)]
+pub struct EgressText {
+    pub port: Bdf,
+    pub vector: u32,
+}
+
 /// What a line says: a variant for each form.
 #[derive(Clone, Copy, Debug, PartialEq, Eq)]
 pub enum LayoutLine {
@@ -82,4 +89,5 @@ pub enum LayoutLine {
     Map(MapText),
     Budget(BudgetText),
     Credit(CreditText),
+    Egress(EgressText),
 }

@@ -26,6 +26,16 @@ fn a_block_is_eight_bytes_of_which_the_controls_are_the_seventh(
     Ok(())
 }
 
+#[test]
+fn a_block_with_a_vector_has_that_behind_the_controls(rt: HostRuntime) -> Result<(), Fail> {
+    let control = AcsControl::from_register(0x3f).ok_or("no controls")?;
+    let bytes = [
+        0x0d, 0x00, 0x01, 0x00, 0x3f, 0x20, 0x3f, 0x00, 0xfb, 0xff, 0xff, 0xff,
+    ];
+    assert_eq!(rt; AcsBlock::with_egress(control, 0xffff_fffb), bytes);
+    Ok(())
+}
+
 fn port_of(layout: &Layout, id: u16) -> Option<DownstreamPort> {
     let id = PortId::new(Bdf::from_bits(id));
     layout.ports().iter().find(|port| port.id == id).copied()
@@ -77,12 +87,13 @@ fn a_guarded_port_sends_all_up_but_relaxed_completions(rt: HostRuntime) -> Resul
     let layout = Layout::read(rt.alloc(), EXAMPLE)?;
     let port = port_of(&layout, 0x0500).ok_or("no port")?;
     let beside = Route::Port(PortId::new(Bdf::from_bits(0x0508)));
-    assert_eq!(rt; redirect(&port, beside, &request(0x0600)), Route::Up);
-    assert_eq!(rt; redirect(&port, beside, &completion(false)), Route::Up);
-    assert_eq!(rt; redirect(&port, beside, &completion(true)), beside);
-    assert_eq!(rt;
-        redirect(&port, Route::OwnEgress, &request(0x0600)),
-        Route::Up
-    );
+    let left = redirect(&port, beside, &request(0x0600)).ok();
+    assert_eq!(rt; left.ok_or("stopped")?, Route::Up);
+    let left = redirect(&port, beside, &completion(false)).ok();
+    assert_eq!(rt; left.ok_or("stopped")?, Route::Up);
+    let left = redirect(&port, beside, &completion(true)).ok();
+    assert_eq!(rt; left.ok_or("stopped")?, beside);
+    let left = redirect(&port, Route::OwnEgress, &request(0x0600)).ok();
+    assert_eq!(rt; left.ok_or("stopped")?, Route::Up);
     Ok(())
 }

@@ -2,13 +2,14 @@
 use Rattle.std.specs.Prelude.{ℕ, ◌++◌, Bool, true, false, List, codes}
 use Rattle.fab_types.specs.Texts.{id_text}
 use Rattle.fab_types.specs.declared.violation.Check.{Check}
-use Rattle.fab_types.specs.declared.violation.Check.TheVariants.{SourceValidation, TranslationBlocking}
+use Rattle.fab_types.specs.declared.violation.Check.TheVariants.{EgressControl, SourceValidation, TranslationBlocking}
 use Rattle.fab_types.specs.declared.violation.Violation.{Violation}
 
 -- the letter of the control (PCIe 4.0, 7.7.8.3)
 abbrev pub check_letter : Check → List ℕ
 check_letter SourceValidation = codes "V"
 check_letter TranslationBlocking = codes "B"
+check_letter EgressControl = codes "E"
 
 abbrev pub class_word : Bool → List ℕ
 class_word true = codes "posted"

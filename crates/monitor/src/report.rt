@@ -12,6 +12,7 @@ fn letter(check: Check) -> &'static str
     match check {
         Check::SourceValidation => "V",
         Check::TranslationBlocking => "B",
+        Check::EgressControl => "E",
     }
 }
 

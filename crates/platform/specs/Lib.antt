@@ -1,3 +1,4 @@
+pub mod Egress
 pub mod Platform
 pub mod Share
 pub mod Owners

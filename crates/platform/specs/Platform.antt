@@ -1,5 +1,6 @@
 -- A platform, as the lines of a layout say it.
 use Rattle.std.specs.Prelude.{ℕ, List, []}
+use Rattle.platform.specs.declared.parts.LayoutVersion.{LayoutVersion}
 use Rattle.platform.specs.declared.parts.Switch.{Switch}
 use Rattle.platform.specs.declared.parts.DownstreamPort.{DownstreamPort}
 use Rattle.platform.specs.declared.parts.EndpointFunction.{EndpointFunction}
@@ -8,6 +9,7 @@ use Rattle.platform.specs.declared.parts.BudgetLine.{BudgetLine}
 use Rattle.platform.specs.declared.parts.CreditLine.{CreditLine}
 
 pub record Platform : Type 0 where
+  pub version : LayoutVersion
   pub frames : ℕ  -- how many frames of memory there are; 0 without a line
   pub switches : List Switch
   pub ports : List DownstreamPort
@@ -16,5 +18,6 @@ pub record Platform : Type 0 where
   pub budgets : List BudgetLine
   pub credits : List CreditLine
 
-abbrev pub no_lines : Platform
-no_lines = record { frames = 0; switches = []; ports = []; functions = []; maps = []; budgets = []; credits = [] }
+-- those of no lines
+abbrev pub no_lines : LayoutVersion → Platform
+no_lines version = record { version = version; frames = 0; switches = []; ports = []; functions = []; maps = []; budgets = []; credits = [] }

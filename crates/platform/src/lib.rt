@@ -2,14 +2,16 @@
 //! who owns what (PCIe 4.0, 7.5.1.3).
 #![tactic(auto)]
 
+mod egress;
 mod owners;
 mod parts;
 mod tree;
 
+pub use egress::{direct_to, goes_directly, holder_beside};
 pub use owners::{is_function, owner_of, owns_port, port_with_secondary};
 pub use parts::{
-    Access, BudgetLine, CreditLimits, CreditLine, DownstreamPort, EndpointFunction, MapTarget,
-    Mapping, Rights, Switch,
+    Access, BudgetLine, CreditLimits, CreditLine, DownstreamPort, EndpointFunction, LayoutVersion,
+    MapTarget, Mapping, Rights, Switch,
 };
 pub use tree::{
     domain_of, find_port, has_root, id_below, internal_bus, is_on_bus, is_switch, is_taken,

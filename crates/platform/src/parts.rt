@@ -2,6 +2,14 @@
 
 use fab_types::{AcsControl, Bdf, DomainId, PortId};
 
+/// The version of a layout text.
+#[derive(Clone, Copy, Debug, PartialEq, Eq)]
+pub enum LayoutVersion {
+    One,
+    /// With egress control.
+    Two,
+}
+
 /// A switch.
 #[derive(Clone, Copy, Debug, PartialEq, Eq)]
 pub struct Switch {
@@ -26,6 +34,9 @@ pub struct DownstreamPort {
     pub limit: u32,
     pub controls: AcsControl,
     pub owner: DomainId,
+    /// The Egress Control Vector (PCIe 4.0, 7.7.8.4), a bit for each device number of the switch's bus; none was given where
+    /// all bits are 1.
+    pub egress_vector: Option<u32>,
 }
 
 /// An endpoint function and its register page.

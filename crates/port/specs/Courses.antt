@@ -1,6 +1,6 @@
 -- What becomes of a packet that came into a port (PCIe 4.0, 6.12.1.1): up from below, through the tests and the
 -- redirection of a downstream port; or down from above, by its route alone.
-use Rattle.std.specs.Prelude.{ℕ, ◌≤◌, ◌==◌, ⊤, Bool, true, false, List, Option, Some, None, option_map, if◌then◌else◌}
+use Rattle.std.specs.Prelude.{ℕ, ◌≤◌, ◌==◌, ⊤, Bool, true, false, List, Option, Some, None, Result, Ok, Err, option_map, if◌then◌else◌}
 use Rattle.fab_types.specs.declared.class.Class.{Class}
 use Rattle.fab_types.specs.declared.class.Class.TheVariants.{Posted, NonPosted, Completion}
 use Rattle.fab_types.specs.declared.head.Answerer.{Answerer}
@@ -89,11 +89,17 @@ up_by config line head (Port other) = down_lane (lane_to config.exits other)
 up_by config line head OwnEgress = returned line head
 up_by config line head Nobody = NoCase
 
+-- by the route that is left, or stopped for a test of that
+abbrev pub led : Config → DownstreamPort → Head → Result Route Verdict → Forwarding
+led config line head (Ok route) = up_by config line head route
+led config line head (Err verdict.Pass) = stopped line head None
+led config line head (Err (verdict.Violation check)) = stopped line head (Some check)
+
 -- a packet without a target is malformed, or a request of a kind that no port takes: it is stopped
 abbrev pub routed : Routes → Config → DownstreamPort → Head → Option Target → Forwarding
 routed tree config line head None = stopped line head None
 routed tree config line head (Some target) =
-    up_by config line head (redirected line (route_of tree.switches tree.ports config.id head.header) head.header)
+    led config line head (redirected line (route_of tree.switches tree.ports config.id head.header) head.header)
 
 -- a request that fails a test is stopped for it
 abbrev pub tested : Routes → Config → DownstreamPort → Head → Verdict → Forwarding
@@ -118,10 +124,17 @@ abbrev pub failed_report : DownstreamPort → Head → Verdict → Option Violat
 failed_report line head (verdict.Violation check) = reported_from line head check head.parties
 failed_report line head verdict.Pass = None
 
-abbrev pub report_at : Head → Option DownstreamPort → Option Violation
-report_at head None = None
-report_at head (Some line) = failed_report line head (verdict_of line head.header)
+-- the first test that it fails, that of its route last
+abbrev pub verdict_after : Verdict → Result Route Verdict → Verdict
+verdict_after (verdict.Violation check) route = verdict.Violation check
+verdict_after verdict.Pass (Ok route) = verdict.Pass
+verdict_after verdict.Pass (Err failed) = failed
+
+abbrev pub report_at : Routes → Config → Head → Option DownstreamPort → Option Violation
+report_at tree config head None = None
+report_at tree config head (Some line) =
+    failed_report line head (verdict_after (verdict_of line head.header) (redirected line (route_of tree.switches tree.ports config.id head.header) head.header))
 
 -- what a port reports of a packet that another than the first port above its sender refuses
-abbrev pub report_elsewhere : Config → Head → Option Violation
-report_elsewhere config head = report_at head config.line
+abbrev pub report_elsewhere : Routes → Config → Head → Option Violation
+report_elsewhere tree config head = report_at tree config head config.line

@@ -3,7 +3,7 @@
 ghost use Rattle.std.specs.Prelude.{◌≡◌, ◌≤◌, ℕ, None, IfSome, length};
 ghost use Rattle.bridge.specs.Routes.{target_of, route_of};
 ghost use Rattle.acs.specs.Vetting.{verdict_of};
-ghost use Rattle.port.specs.Courses.{failed_report, is_posted, report_elsewhere, report_of, reported_by, reported_from, returned, stopped, stopped_answer, up_by, down_by, down_lane, routed, tested, course_of, IsWithin};
+ghost use Rattle.port.specs.Courses.{failed_report, verdict_after, led, is_posted, report_elsewhere, report_of, reported_by, reported_from, returned, stopped, stopped_answer, up_by, down_by, down_lane, routed, tested, course_of, IsWithin};
 
 use crate::config::lane_to;
 use crate::port::Port;
@@ -110,12 +110,24 @@ fn reported_from(line: &DownstreamPort, head: &Head, check: Check) -> Option<Vio
     }
 }
 
-fn failed_report(line: &DownstreamPort, head: &Head) -> Option<Violation>
-    ensures { result ≡ failed_report line.now head.now (verdict_of line.now head.now.header) }
+fn failed_report(line: &DownstreamPort, head: &Head, verdict: Verdict) -> Option<Violation>
+    ensures { result ≡ failed_report line.now head.now verdict }
 {
-    match vet(line, &head.header) {
+    match verdict {
         Verdict::Violation(check) => reported_from(line, head, check),
         Verdict::Pass => None,
+    }
+}
+
+fn verdict_after(verdict: Verdict, redirected: Result<Route, Verdict>) -> Verdict
+    ensures { result ≡ verdict_after verdict redirected }
+{
+    match verdict {
+        Verdict::Violation(_) => verdict,
+        Verdict::Pass => match redirected {
+            Ok(_) => Verdict::Pass,
+            Err(failed) => failed,
+        },
     }
 }
 
@@ -152,6 +164,22 @@ impl Port {
         }
     }
 
+    fn led(
+        &self,
+        line: &DownstreamPort,
+        head: &Head,
+        redirected: Result<Route, Verdict>,
+    ) -> Forwarding
+        ensures value { result ≡ led self.now.config line.now head.now redirected }
+        ensures lane { IsWithin (length self.now.config.exits) result }
+    {
+        match redirected {
+            Ok(route) => self.up_by(line, head, route),
+            Err(Verdict::Pass) => stopped(line, head, None),
+            Err(Verdict::Violation(check)) => stopped(line, head, Some(check)),
+        }
+    }
+
     fn routed(&self, bridge: &Bridge, line: &DownstreamPort, head: &Head) -> Forwarding
         ensures value { result ≡ routed bridge.now self.now.config line.now head.now (target_of head.now.header) }
         ensures lane { IsWithin (length self.now.config.exits) result }
@@ -160,7 +188,7 @@ impl Port {
             None => stopped(line, head, None),
             Some(_) => {
                 let route = bridge.route(self.id, &head.header);
-                self.up_by(line, head, redirect(line, route, &head.header))
+                self.led(line, head, redirect(line, route, &head.header))
             }
         }
     }
@@ -192,11 +220,19 @@ impl Port {
     /// What the port reports of a packet with this head that another than the first port above its sender
     /// refuses: a request by a function that fails an ACS test of this port is a violation (PCIe 4.0,
     /// 6.12.1.1). An upstream port tests nothing.
-    pub fn report_elsewhere(&self, head: &Head) -> Option<Violation>
-        ensures { result ≡ report_elsewhere self.now.config head.now }
+    pub fn report_elsewhere(&self, bridge: &Bridge, head: &Head) -> Option<Violation>
+        ensures { result ≡ report_elsewhere bridge.now self.now.config head.now }
     {
         match &self.line {
-            Some(line) => failed_report(line, head),
+            Some(line) => {
+                let route = bridge.route(self.id, &head.header);
+                let redirected = redirect(line, route, &head.header);
+                failed_report(
+                    line,
+                    head,
+                    verdict_after(vet(line, &head.header), redirected),
+                )
+            }
             None => None,
         }
     }

@@ -22,13 +22,13 @@ pub struct Loss {
 impl Port {
     /// What is lost of a packet with this head that came into the port, if the port has no case for it.
     pub fn loss(&self, bridge: &Bridge, head: &Head) -> Option<Loss>
-        ensures { result ≡ loss_of self.now.config head.now (course_of bridge.now self.now.config head.now) }
+        ensures { result ≡ loss_of bridge.now self.now.config head.now (course_of bridge.now self.now.config head.now) }
     {
         match self.course(bridge, head) {
             Forwarding::To(_) | Forwarding::Stop(_) => None,
             Forwarding::NoCase => Some(Loss {
                 place: Place::Ingress(self.direction_in()),
-                report: self.report_elsewhere(head),
+                report: self.report_elsewhere(bridge, head),
             }),
         }
     }

@@ -29,7 +29,7 @@ pub record Loses (tree : Routes) (class : Class) (waiting waiting' : List Descri
   pub frame : Descriptor
   pub taken : eligible class waiting ≡ Some (frame, waiting')
   pub loss : Loss
-  pub lost : loss_of port.config frame.head (course_of tree port.config frame.head) ≡ Some loss
+  pub lost : loss_of tree port.config frame.head (course_of tree port.config frame.head) ≡ Some loss
   pub answer : Option Descriptor
   pub entered : EnteredThere frame loss.place answer
   pub put : frames_of sent' ≡ frames_of sent ++ option_to_list answer

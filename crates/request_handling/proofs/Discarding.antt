@@ -6,7 +6,8 @@ use Rattle.fab_types.specs.declared.head.Answerer.{Answerer}
 use Rattle.platform.specs.Share.{Share}
 use Rattle.tlp_view.specs.Packet.{Packet}
 use Rattle.request_handling.specs.declared.handling.Handling.{Handling}
-use Rattle.request_handling.specs.Carries.{answer_refusal, discarded, is_returned}
+use Rattle.request_handling.specs.AtFunctions.{discarded}
+use Rattle.request_handling.specs.Carries.{answer_refusal, is_returned}
 
 some_is : (x y : Handling) → Some x ≡ Some y → x ≡ y
 some_is x y e = cc

@@ -15,7 +15,7 @@ use Rattle.tlp_view.specs.Spelling.{Spells}
 use Rattle.tlp_view.proofs.Again.{packet_of-spelled}
 use Rattle.request_handling.specs.declared.handling.Made.{Made}
 use Rattle.request_handling.specs.declared.handling.Made.TheVariants.{Completion, Request}
-use Rattle.request_handling.specs.Requests.{is_access}
+use Rattle.request_handling.specs.AtFunctions.{is_access}
 use Rattle.request_handling.specs.Answers.{IsReadAs, IsReply}
 use Rattle.request_handling.specs.WellMade.{IsWellMade}
 

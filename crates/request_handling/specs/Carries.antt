@@ -1,6 +1,6 @@
 -- What becomes of a request at its sender's first port, at the host, where the table of its Requester ID says
 -- where it goes, and at the function whose register page it is for.
-use Rattle.std.specs.Prelude.{ℕ, ◌/◌, ◌%◌, ◌==◌, Bool, ◌&&◌, nat_lt, List, Option, Some, None, option_map, if◌then◌else◌, false}
+use Rattle.std.specs.Prelude.{ℕ, ◌/◌, ◌%◌, ◌==◌, Bool, ◌&&◌, nat_lt, List, Option, Some, None, if◌then◌else◌, false}
 use Rattle.platform.specs.declared.parts.MapTarget.{MapTarget}
 use Rattle.platform.specs.declared.parts.MapTarget.TheVariants.{Frame, Peer}
 use Rattle.platform.specs.declared.parts.Access.{Access as AccessLetter}
@@ -19,18 +19,14 @@ use Rattle.tlp_view.specs.Runs.{is_write}
 use Rattle.tlp_view.specs.Bytes.{packet_of}
 use Rattle.tlp_view.specs.Malformed.{malformed}
 use Rattle.fab_types.specs.declared.faults.malformed.Malformed.{Malformed}
-use Rattle.request_handling.specs.declared.handling.Effect.TheVariants.{Leave, Block, Store, Add, Access}
+use Rattle.request_handling.specs.declared.handling.Effect.TheVariants.{Leave, Block, Store, Add}
 use Rattle.request_handling.specs.declared.handling.Handling.{Handling}
 use Rattle.request_handling.specs.Emissions.{Emission}
-use Rattle.host_memory.specs.Pages.{page_of}
-use Rattle.request_handling.specs.Answers.{address_of, bar_of, forwarded, function_answer, host_data, host_operand, host_refusal, port_answer, shown}
+use Rattle.request_handling.specs.Answers.{address_of, bar_of, forwarded, host_data, host_operand, host_refusal, port_answer, shown}
 use Rattle.request_handling.specs.declared.fate.Fate.{Fate}
-use Rattle.request_handling.specs.declared.fate.Fate.TheVariants.{Vanish, Refused, ToHost}
+use Rattle.request_handling.specs.declared.fate.Fate.TheVariants.{Vanish, Refused, ToHost, Direct}
+use Rattle.request_handling.specs.AtFunctions.{access_of, discarded, request_at_function}
 use Rattle.request_handling.specs.Fates.{fate, is_untranslated, returns_completion}
-
--- nothing happens, and nothing answers
-abbrev pub discarded : Handling
-discarded = record { effect = Leave; reply = None }
 
 -- ---- at the first port of its sender
 
@@ -43,6 +39,7 @@ abbrev pub refusal_by : ℕ → ℕ → List ℕ → Fate → Option Handling
 refusal_by port function bytes Vanish = Some discarded
 refusal_by port function bytes (Refused status) = Some (record { effect = Leave; reply = Some (port_answer port function status (packet_of bytes)) })
 refusal_by port function bytes ToHost = None
+refusal_by port function bytes (Direct peer) = None
 
 abbrev pub returned_by : Option DownstreamPort → Packet → Bool
 returned_by None t = false
@@ -146,22 +143,17 @@ is_owner (Some owner) domain = owner == domain
 abbrev pub is_carried : Share → Packet → Bool
 is_carried share t = is_untranslated t.address_type && is_owner (owner_of share.ports t.requester) share.domain
 
-abbrev pub carriage_by : Share → List (ℕ × List ℕ) → List ℕ → Fate → Option Handling
-carriage_by share frames bytes Vanish = None
-carriage_by share frames bytes (Refused status) = None
-carriage_by share frames bytes ToHost = if is_carried share (packet_of bytes) then serve share frames (packet_of bytes) else None
-
--- ---- at a function
-
--- a request of the host reads or writes the function's register page
-abbrev pub access_of : Share → List (ℕ × List ℕ) → ℕ → Packet → Option Handling
-access_of share registers function t =
-    option_map (λ page. record { effect = Access function; reply = function_answer share function page t }) (page_of registers function)
+-- by the host, or by the function to which it goes directly
+abbrev pub carriage_by : Share → List (ℕ × List ℕ) → List (ℕ × List ℕ) → List ℕ → Fate → Option Handling
+carriage_by share frames registers bytes Vanish = None
+carriage_by share frames registers bytes (Refused status) = None
+carriage_by share frames registers bytes ToHost = if is_carried share (packet_of bytes) then serve share frames (packet_of bytes) else None
+carriage_by share frames registers bytes (Direct function) = if is_carried share (packet_of bytes) then Some (request_at_function share registers function (packet_of bytes)) else None
 
 -- ---- at either
 
 abbrev pub carriage_of : Share → List (ℕ × List ℕ) → List (ℕ × List ℕ) → List ℕ → Parties → Option Handling
-carriage_of share frames registers bytes (Upward function) = carriage_by share frames bytes (fate share.ports function bytes)
+carriage_of share frames registers bytes (Upward function) = carriage_by share frames registers bytes (fate share.ports function bytes)
 carriage_of share frames registers bytes (Downward function) = access_of share registers function (packet_of bytes)
 carriage_of share frames registers bytes (Answer answerer addressee) = None
 

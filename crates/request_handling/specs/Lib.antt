@@ -3,6 +3,7 @@ pub mod WellMade
 pub mod Heads
 pub mod Fates
 pub mod Answers
+pub mod AtFunctions
 pub mod Carries
 pub mod Requests
 pub mod Takers

@@ -1,10 +1,8 @@
 -- What is done with a request that is taken where its home's machine has no case. Only layouts in which a port
 -- lacks one of the five controls have such requests. Which of them are served is the project's own; the
 -- completions are those of PCIe 4.0, 2.3.1.
-use Rattle.std.specs.Prelude.{ℕ, ◌/◌, ◌==◌, Bool, false, ◌&&◌, ◌||◌, not, nat_lt, List, Option, Some, None, if◌then◌else◌}
+use Rattle.std.specs.Prelude.{ℕ, ◌/◌, ◌==◌, ◌&&◌, ◌||◌, nat_lt, List, Option, Some, None, if◌then◌else◌}
 use Rattle.std.specs.List.{find}
-use Rattle.fab_types.specs.declared.class.Class.{Class}
-use Rattle.fab_types.specs.declared.class.Class.TheVariants.{Posted, NonPosted, Completion}
 use Rattle.fab_types.specs.declared.head.AddressType.{AddressType}
 use Rattle.fab_types.specs.declared.head.AddressType.TheVariants.{Untranslated, TranslationRequest, Translated, Reserved}
 use Rattle.fab_types.specs.declared.head.Parties.{Parties}
@@ -15,23 +13,11 @@ use Rattle.platform.specs.Share.{Share}
 use Rattle.tlp_view.specs.Kinds.{class_of_kind, is_memory}
 use Rattle.tlp_view.specs.Packet.{Packet, dw_count}
 use Rattle.tlp_view.specs.Runs.{is_write}
-use Rattle.request_handling.specs.declared.handling.Effect.TheVariants.{Leave}
 use Rattle.request_handling.specs.declared.handling.Handling.{Handling}
-use Rattle.request_handling.specs.Answers.{address_of, bar_of, function_refusal, host_refusal}
-use Rattle.request_handling.specs.Carries.{access_of, discarded, from_frame, is_owner, refusal_by, refused_by_host, serve, to_frame}
+use Rattle.request_handling.specs.Answers.{address_of, host_refusal}
+use Rattle.request_handling.specs.AtFunctions.{discarded, or_discarded, unserved}
+use Rattle.request_handling.specs.Carries.{from_frame, is_owner, refusal_by, refused_by_host, serve, to_frame}
 use Rattle.request_handling.specs.Fates.{fate_at}
-use Rattle.request_handling.specs.Emissions.{Emission}
-
--- where nobody has a case for it nothing happens
-abbrev pub or_discarded : Option Handling → Handling
-or_discarded None = discarded
-or_discarded (Some handling) = handling
-
--- a request that nobody serves: a non-posted one is answered so, any other is discarded
-abbrev pub unserved : Class → Emission → Handling
-unserved Posted answer = discarded
-unserved NonPosted answer = record { effect = Leave; reply = Some answer }
-unserved Completion answer = discarded
 
 -- ---- a request at the host
 
@@ -72,26 +58,10 @@ request_at_host share frames t (Some TranslationRequest) = unserved_by_host shar
 request_at_host share frames t (Some Translated) = if is_memory t.kind then by_number share frames t else unserved_by_host share t
 request_at_host share frames t (Some Reserved) = unserved_by_host share t
 
--- ---- a request at a function
-
--- is the address in the register page that begins there?
-abbrev pub lies_in : Option ℕ → ℕ → Bool
-lies_in None address = false
-lies_in (Some bar) address = (address / 4096) == (bar / 4096)
-
--- a memory write, or a memory read of at most 64 DW
-abbrev pub is_access : Packet → Bool
-is_access t = is_memory t.kind && (is_write t.kind || not (nat_lt 64 (dw_count t.length)))
-
-abbrev pub request_at_function : Share → List (ℕ × List ℕ) → ℕ → Packet → Handling
-request_at_function share registers g t =
-    if is_access t && lies_in (bar_of share.functions g) (address_of t) then or_discarded (access_of share registers g t)
-    else unserved (class_of_kind t.kind) (function_refusal share g t)
-
 -- ---- at a port
 
--- a port that refuses a request of a function, by its own line, answers that function
-abbrev pub at_port : DownstreamPort → List ℕ → Parties → Handling
-at_port port bytes (Upward function) = or_discarded (refusal_by port.id function bytes (fate_at port bytes))
-at_port port bytes (Downward function) = discarded
-at_port port bytes (Answer answerer addressee) = discarded
+-- a port that refuses a request of a function, by its own line among these, answers that function
+abbrev pub at_port : List DownstreamPort → DownstreamPort → List ℕ → Parties → Handling
+at_port ports port bytes (Upward function) = or_discarded (refusal_by port.id function bytes (fate_at ports function port bytes))
+at_port ports port bytes (Downward function) = discarded
+at_port ports port bytes (Answer answerer addressee) = discarded

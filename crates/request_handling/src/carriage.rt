@@ -1,6 +1,6 @@
 //! What the host does with a request, and what a function does with one of the host.
 
-ghost use Rattle.std.specs.Prelude.{◌≡◌, ◌/◌, ◌≤◌, true, None, if◌then◌else◌};
+ghost use Rattle.std.specs.Prelude.{◌≡◌, ◌/◌, ◌≤◌, true, None, Some, if◌then◌else◌};
 ghost use Rattle.fab_types.specs.declared.head.Parties.TheVariants.{Downward, Upward};
 ghost use Rattle.function.specs.Accesses.{IsAccess};
 ghost use Rattle.tlp_view.specs.Bytes.{packet_of};
@@ -8,7 +8,8 @@ ghost use Rattle.tlp_view.specs.Kinds.{has_address, is_fetch_add, is_memory};
 ghost use Rattle.tlp_view.specs.Packet.{dw_count};
 ghost use Rattle.tlp_view.specs.Runs.{is_write};
 ghost use Rattle.request_handling.specs.WellMade.{IsWellMade};
-ghost use Rattle.request_handling.specs.Carries.{access_of, add_to_frame, blocked_by_host, carriage_by, carriage_of, frame_for, from_frame, is_carried, is_owner, refused_by_host, serve, serve_add, serve_read, to_frame, write_to, read_from};
+ghost use Rattle.request_handling.specs.AtFunctions.{access_of, request_at_function};
+ghost use Rattle.request_handling.specs.Carries.{add_to_frame, blocked_by_host, carriage_by, carriage_of, frame_for, from_frame, is_carried, is_owner, refused_by_host, serve, serve_add, serve_read, to_frame, write_to, read_from};
 ghost use Rattle.layout.specs.Tables.{target_of};
 ghost use Rattle.platform.specs.declared.parts.Access.TheVariants as access;
 ghost use Rattle.request_handling.specs.Answers.{address_of};
@@ -18,6 +19,7 @@ use crate::answers::{forward, function_answer, host_data, host_operand, host_ref
 use crate::fate::{Fate, is_untranslated, packet_fate};
 use crate::handling::{Effect, Handling};
 use crate::page::place;
+use crate::requests::request_at_function;
 use fab_types::{Bdf, DomainId};
 use function::Function;
 use host_memory::HostMemory;
@@ -215,41 +217,62 @@ fn carried(
     }
 }
 
-/// What the host does with what passes this first port of its sender.
+/// What a function does with a request of this domain that goes directly to it.
+fn carried_directly(
+    start: &Start,
+    functions: &[Function],
+    function: Bdf,
+    view: &TlpView,
+) -> Option<Handling>
+    requires addressed { has_address (view.now).kind ≡ true }
+    ensures { result ≡ (if is_carried start.now view.now then Some (request_at_function start.now functions.now function view.now) else None) }
+{
+    if is_carried(start, view) {
+        Some(request_at_function(start, functions, function, view))
+    } else {
+        None
+    }
+}
+
+/// What the host, or the function that it goes to, does with what passes this first port of its sender.
 fn carriage_past(
     port: &DownstreamPort,
     start: &Start,
     table: &HostTable,
     memory: &HostMemory,
+    functions: &[Function],
+    function: Bdf,
     bytes: &[u8],
 ) -> Option<Handling>
     requires { table.now ≡ (start.now).maps }
-    ensures { result ≡ carriage_by start.now memory.now bytes.now (fate_at port.now bytes.now) }
+    ensures { result ≡ carriage_by start.now memory.now functions.now bytes.now (fate_at start.now.ports function port.now bytes.now) }
 {
     let Ok(view) = TlpView::read(bytes) else {
         return None;
     };
-    match packet_fate(port, &view) {
+    match packet_fate(start.ports(), function, port, &view) {
         Fate::ToHost => carried(start, table, memory, &view),
+        Fate::Direct(peer) => carried_directly(start, functions, peer, &view),
         Fate::Vanish => None,
         Fate::Refused(_) => None,
     }
 }
 
-/// What the host does with these bytes that a function sent; `None` where they don't go on to the host, or
-/// it carries nothing of the kind.
-pub fn carriage_to_host(
+/// What the host does with these bytes that a function sent, or the function to which they go directly;
+/// `None` where a port stops them, or nothing of the kind is carried.
+pub fn carriage_up(
     start: &Start,
     table: &HostTable,
     memory: &HostMemory,
+    functions: &[Function],
     function: Bdf,
     bytes: &[u8],
 ) -> Option<Handling>
     requires { table.now ≡ (start.now).maps }
-    ensures { result ≡ carriage_by start.now memory.now bytes.now (fate start.now.ports function bytes.now) }
+    ensures { result ≡ carriage_by start.now memory.now functions.now bytes.now (fate start.now.ports function bytes.now) }
 {
     match start.first_port(function) {
-        Some(port) => carriage_past(&port, start, table, memory, bytes),
+        Some(port) => carriage_past(&port, start, table, memory, functions, function, bytes),
         None => None,
     }
 }

@@ -1,12 +1,12 @@
 //! What the first port of a function does with what the function sends.
 
-ghost use Rattle.std.specs.Prelude.{◌≡◌, true};
+ghost use Rattle.std.specs.Prelude.{◌≡◌, ℕ, true};
 ghost use Rattle.tlp_view.specs.Kinds.{has_address};
-ghost use Rattle.request_handling.specs.Fates.{fails_source, fails_translation, fate, fate_at, is_untranslated, packet_fate, returns_completion, returns_to_sender, stopped};
+ghost use Rattle.request_handling.specs.Fates.{fails_egress, fails_source, fails_translation, fate, fate_at, goes_to, is_blocked_from, is_untranslated, packet_fate, returns_completion, returns_to_sender, stopped};
 
 use fab_types::{AddressType, Bdf, Class, Status};
 use layout::Start;
-use platform::DownstreamPort;
+use platform::{DownstreamPort, direct_to, holder_beside};
 use tlp_view::TlpView;
 
 /// What the first port of a function does with what the function sends (PCIe 4.0, 6.12.1).
@@ -18,6 +18,8 @@ pub enum Fate {
     Refused(Status),
     /// It goes on to the host.
     ToHost,
+    /// It goes directly to this function, below another port of a switch that it comes to.
+    Direct(Bdf),
 }
 
 fn stopped(status: Status, class: Class) -> Fate
@@ -64,25 +66,62 @@ pub(crate) fn returns_completion(port: &DownstreamPort, view: &TlpView) -> bool
     !port.controls.forwards_upstream() && port.holds_bus(view.requester().bus())
 }
 
-pub(crate) fn packet_fate(port: &DownstreamPort, view: &TlpView) -> Fate
-    ensures value { result ≡ packet_fate port.now view.now }
+fn is_blocked_from(port: &DownstreamPort, other: Option<DownstreamPort>) -> bool
+    ensures { result ≡ is_blocked_from port.now other }
+{
+    match other {
+        Some(other) => !port.lets_through(other.id),
+        None => false,
+    }
+}
+
+/// Is it for another port of the switch, to which the port's vector lets no request through, and isn't redirected?
+fn fails_egress(ports: &[DownstreamPort], port: &DownstreamPort, view: &TlpView) -> bool
+    ensures { result ≡ fails_egress ports.now port.now view.now }
+{
+    let address = view.address().unwrap_or(0);
+    port.controls.controls_egress()
+        && !port.controls.redirects_requests()
+        && !port.holds_address(address)
+        && is_blocked_from(port, holder_beside(ports, port, address))
+}
+
+fn goes_to(function: Option<Bdf>) -> Fate
+    ensures { result ≡ goes_to function }
+{
+    match function {
+        Some(function) => Fate::Direct(function),
+        None => Fate::ToHost,
+    }
+}
+
+pub(crate) fn packet_fate(
+    ports: &[DownstreamPort],
+    function: Bdf,
+    port: &DownstreamPort,
+    view: &TlpView,
+) -> Fate
+    ensures value { result ≡ packet_fate ports.now function port.now view.now }
     ensures addressed { result ≡ Fate.ToHost → has_address (view.now).kind ≡ true }
+    ensures direct { (g : ℕ) → result ≡ Fate.Direct g → has_address (view.now).kind ≡ true }
 {
     let class = view.class();
     if fails_source(port, view) || fails_translation(port, view) {
         stopped(Status::CA, class)
     } else if !view.kind().has_address() || returns_to_sender(port, view) {
         stopped(Status::UR, class)
+    } else if fails_egress(ports, port, view) {
+        stopped(Status::CA, class)
     } else {
-        Fate::ToHost
+        goes_to(direct_to(ports, function, view.address().unwrap_or(0)))
     }
 }
 
-fn fate_at(port: &DownstreamPort, bytes: &[u8]) -> Fate
-    ensures { result ≡ fate_at port.now bytes.now }
+fn fate_at(ports: &[DownstreamPort], function: Bdf, port: &DownstreamPort, bytes: &[u8]) -> Fate
+    ensures { result ≡ fate_at ports.now function port.now bytes.now }
 {
     match TlpView::read(bytes) {
-        Ok(view) => packet_fate(port, &view),
+        Ok(view) => packet_fate(ports, function, port, &view),
         Err(_) => Fate::Vanish,
     }
 }
@@ -93,7 +132,7 @@ pub fn first_port_fate(start: &Start, function: Bdf, bytes: &[u8]) -> Fate
     ensures { result ≡ fate start.now.ports function bytes.now }
 {
     match start.first_port(function) {
-        Some(port) => fate_at(&port, bytes),
+        Some(port) => fate_at(start.ports(), function, &port, bytes),
         None => Fate::Vanish,
     }
 }

@@ -12,7 +12,7 @@ mod requests;
 mod taker;
 
 pub use answers::bar_of;
-pub use carriage::{carriage_to_function, carriage_to_host};
+pub use carriage::{carriage_to_function, carriage_up};
 pub use fate::{Fate, first_port_fate};
 pub use handling::{Effect, Handling, Made, Reply};
 pub use heads::{head_of, target_for};

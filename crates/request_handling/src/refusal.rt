@@ -5,7 +5,8 @@ ghost use Rattle.fab_types.specs.declared.head.Parties.TheVariants.{Upward};
 ghost use Rattle.tlp_view.specs.Bytes.{packet_of};
 ghost use Rattle.tlp_view.specs.Malformed.{malformed};
 ghost use Rattle.platform.specs.Owners.{first_port};
-ghost use Rattle.request_handling.specs.Carries.{answer_refusal, discarded, is_returned, refusal_by, refusal_of};
+ghost use Rattle.request_handling.specs.AtFunctions.{discarded};
+ghost use Rattle.request_handling.specs.Carries.{answer_refusal, is_returned, refusal_by, refusal_of};
 ghost use Rattle.request_handling.specs.Fates.{fate_at};
 
 use crate::answers::port_answer;
@@ -26,20 +27,25 @@ pub fn discarded() -> Handling
     }
 }
 
-/// How these bytes of a function end at this port, if they end there.
-pub(crate) fn refusal_at(port: &DownstreamPort, function: Bdf, bytes: &[u8]) -> Option<Handling>
-    ensures { result ≡ refusal_by port.now.id function bytes.now (fate_at port.now bytes.now) }
+/// How these bytes of a function end at this port, one of these, if they end there.
+pub(crate) fn refusal_at(
+    ports: &[DownstreamPort],
+    port: &DownstreamPort,
+    function: Bdf,
+    bytes: &[u8],
+) -> Option<Handling>
+    ensures { result ≡ refusal_by port.now.id function bytes.now (fate_at ports.now function port.now bytes.now) }
 {
     let Ok(view) = TlpView::read(bytes) else {
         return Some(discarded());
     };
-    match packet_fate(port, &view) {
+    match packet_fate(ports, function, port, &view) {
         Fate::Vanish => Some(discarded()),
         Fate::Refused(status) => Some(Handling {
             effect: Effect::Leave,
             reply: Some(port_answer(port.id, function, status, &view)),
         }),
-        Fate::ToHost => None,
+        Fate::ToHost | Fate::Direct(_) => None,
     }
 }
 
@@ -48,7 +54,7 @@ pub fn refusal_of(start: &Start, function: Bdf, bytes: &[u8]) -> Option<Handling
     ensures { result ≡ refusal_of start.now bytes.now (Upward function) }
 {
     match start.first_port(function) {
-        Some(port) => refusal_at(&port, function, bytes),
+        Some(port) => refusal_at(start.ports(), &port, function, bytes),
         None => Some(discarded()),
     }
 }

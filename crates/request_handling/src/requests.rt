@@ -4,7 +4,8 @@ ghost use Rattle.std.specs.Prelude.{◌≡◌, ◌==◌, true};
 ghost use Rattle.std.specs.List.{find};
 ghost use Rattle.tlp_view.specs.Kinds.{has_address};
 ghost use Rattle.tlp_view.specs.View.{address_type_in};
-ghost use Rattle.request_handling.specs.Requests.{at_frame, at_port, by_number, by_table, frame_at, is_access, lies_in, or_discarded, request_at_function, request_at_host, unserved, unserved_by_host};
+ghost use Rattle.request_handling.specs.AtFunctions.{is_access, lies_in, or_discarded, request_at_function, unserved};
+ghost use Rattle.request_handling.specs.Requests.{at_frame, at_port, by_number, by_table, frame_at, request_at_host, unserved_by_host};
 
 use crate::answers::{bar_of, function_refusal, host_refusal};
 use crate::carriage::{
@@ -132,7 +133,7 @@ fn is_access(view: &TlpView) -> bool
     view.kind().is_memory() && (is_write(view.kind()) || view.dw_length() <= 64)
 }
 
-/// What a function does with a request that is alien there.
+/// What a function does with a request that came to it directly, or is alien there.
 #[tactic(auto, using(crate::proofs::WellMadeLemmas::is_an_access))]
 pub fn request_at_function(
     start: &Start,
@@ -150,12 +151,17 @@ pub fn request_at_function(
     }
 }
 
-/// A port refuses what its own line refuses.
-pub fn at_port(port: &DownstreamPort, bytes: &[u8], sender: Parties) -> Handling
-    ensures { result ≡ at_port port.now bytes.now sender }
+/// A port refuses what its own line, one of these, refuses.
+pub fn at_port(
+    ports: &[DownstreamPort],
+    port: &DownstreamPort,
+    bytes: &[u8],
+    sender: Parties,
+) -> Handling
+    ensures { result ≡ at_port ports.now port.now bytes.now sender }
 {
     match sender {
-        Parties::Upward(function) => or_discarded(refusal_at(port, function, bytes)),
+        Parties::Upward(function) => or_discarded(refusal_at(ports, port, function, bytes)),
         Parties::Downward(_) | Parties::Answer(..) => discarded(),
     }
 }

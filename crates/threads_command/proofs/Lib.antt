@@ -2,4 +2,3 @@ pub mod Adding
 pub mod Answering
 pub mod Finding
 pub mod Lines
-pub mod Faults

@@ -9,16 +9,16 @@ use Rattle.workers.specs.declared.job.Job.{Job}
 use Rattle.workers.specs.declared.job.Job.TheVariants.{Port, Function, Root}
 use Rattle.workers.specs.declared.post.Post.{Post}
 
--- what one works for: a port, among these switches; a function, of a domain if it has one, over the locks of these numbers;
--- or the root complex
+-- what one works for: a port, among these switches; a function, of a domain if it has one, among these switches and over the
+-- locks of these numbers; or the root complex
 pub data Duty : Type 0 where
   OfPort : Config → Routes → Duty
-  OfFunction : ℕ → Option ℕ → List ℕ → Duty
+  OfFunction : ℕ → Option ℕ → Routes → List ℕ → Duty
   OfRoot : RootKept → Duty
 
 abbrev pub duty_of : Job → Duty
 duty_of (Port work) = OfPort work.kept.config work.kept.routes
-duty_of (Function work) = OfFunction work.kept.function (Some work.kept.domain) work.kept.locks
+duty_of (Function work) = OfFunction work.kept.function (Some work.kept.domain) work.kept.routes work.kept.locks
 duty_of (Root work) = OfRoot work.kept
 
 -- a port has a seat in the queue of violations, and others have none

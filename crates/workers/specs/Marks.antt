@@ -16,7 +16,7 @@ pub record Mark : Type 0 where
 
 abbrev pub config_of : Duty → Option Config
 config_of (OfPort config routes) = Some config
-config_of (OfFunction function domain locks) = None
+config_of (OfFunction function domain routes locks) = None
 config_of (OfRoot kept) = None
 
 abbrev pub config_in : Job → Option Config

@@ -32,7 +32,7 @@ downstream_role platform port = port_role (downstream_worker port) (downstream_c
 
 abbrev pub function_role : Platform → EndpointFunction → Role
 function_role platform function =
-    record { id = function_worker function; duty = OfFunction function.id (domain_above platform.ports function.id) (starting_numbers platform) }
+    record { id = function_worker function; duty = OfFunction function.id (domain_above platform.ports function.id) (of_platform platform) (starting_numbers platform) }
 
 abbrev pub root_role : Platform → Role
 root_role platform = record {

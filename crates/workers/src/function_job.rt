@@ -42,10 +42,11 @@ pub(crate) fn function_post(
         unreachable!();
     };
     let side = side_of(alloc, layout, line.id)?;
+    let bridge = shared.bridge()?;
     let locks = shared.locks()?;
     let origin = Origin::Function(line.id);
     let (injector, ends) = Injector::open(alloc, origin, layout.budget(domain))?;
-    let work = FunctionWork::new(alloc, line.id, domain, outbox, ends, side, locks);
+    let work = FunctionWork::new(alloc, line.id, domain, outbox, ends, side, bridge, locks);
     let post = Post {
         id: WorkerId::Function(line.id),
         job: Job::Function(work),

@@ -47,6 +47,9 @@ pub enum LayoutCause {
     /// Memory was refused.
     #[error("out of memory")]
     NoMemory,
+    /// An egress control vector lets requests through to a port that isn't one of the same owner with a function below.
+    #[error("the vector lets requests through to a foreign port")]
+    EgressForeign,
 }
 
 impl LayoutCause {
@@ -68,6 +71,7 @@ impl LayoutCause {
             LayoutCause::AcsUnknown => 11,
             LayoutCause::CreditRange => 12,
             LayoutCause::NoMemory => 13,
+            LayoutCause::EgressForeign => 14,
         }
     }
 
@@ -89,6 +93,7 @@ impl LayoutCause {
             LayoutCause::AcsUnknown => "AcsUnknown",
             LayoutCause::CreditRange => "CreditRange",
             LayoutCause::NoMemory => "NoMemory",
+            LayoutCause::EgressForeign => "EgressForeign",
         }
     }
 }

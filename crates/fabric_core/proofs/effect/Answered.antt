@@ -10,6 +10,7 @@ use Rattle.fab_types.specs.declared.status.Status.{Status}
 use Rattle.fab_types.specs.declared.status.Status.TheVariants.{UR, CA}
 use Rattle.frame_log.specs.Descriptor.{Descriptor}
 use Rattle.platform.specs.declared.parts.DownstreamPort.{DownstreamPort}
+use Rattle.platform.specs.Egress.{direct_to}
 use Rattle.platform.specs.Owners.{first_port}
 use Rattle.platform.specs.Share.{Share}
 use Rattle.tlp_view.specs.Bytes.{packet_of}
@@ -19,14 +20,15 @@ use Rattle.tlp_view.specs.Malformed.{malformed}
 use Rattle.tlp_view.specs.Packet.{Packet}
 use Rattle.domain.specs.declared.entry.Entry.TheVariants.{Refuse}
 use Rattle.request_handling.specs.declared.fate.Fate.{Fate}
-use Rattle.request_handling.specs.declared.fate.Fate.TheVariants.{Vanish, Refused, ToHost}
+use Rattle.request_handling.specs.declared.fate.Fate.TheVariants.{Vanish, Refused, ToHost, Direct}
 use Rattle.request_handling.specs.declared.handling.Handling.{Handling}
-use Rattle.request_handling.specs.Answers.{port_answer}
-use Rattle.request_handling.specs.Carries.{answer_refusal, discarded, port_id, refusal_by, refusal_of}
+use Rattle.request_handling.specs.Answers.{address_of, port_answer}
+use Rattle.request_handling.specs.AtFunctions.{discarded}
+use Rattle.request_handling.specs.Carries.{answer_refusal, port_id, refusal_by, refusal_of}
 use Rattle.request_handling.proofs.Discarding.{answer_discarded}
 use Rattle.domain.specs.Domains.{DomainView}
 use Rattle.domain_parts.specs.Ends.{conclude}
-use Rattle.request_handling.specs.Fates.{fate, fate_below, fate_unless, packet_fate, stopped}
+use Rattle.request_handling.specs.Fates.{fate, fate_below, fate_unless, goes_to, packet_fate, stopped}
 use Rattle.request_handling.specs.Heads.{descriptor_of}
 use Rattle.domain.specs.Machine.{change, refuse}
 use Rattle.domain.proofs.PortAnswers.{answer_class}
@@ -49,21 +51,23 @@ stopped_refused s status Posted e = absurd cc
 stopped_refused s status NonPosted e = refl
 stopped_refused s status Completion e = absurd cc
 
-by_tests : (fails goes_nowhere : Bool) (c : Class) (status : Status) → cond fails (stopped CA c) (cond goes_nowhere (stopped UR c) ToHost) ≡ Refused status → c ≡ NonPosted
-by_tests true nowhere c status e = stopped_refused CA status c e
-by_tests false true c status e = stopped_refused UR status c e
-by_tests false false c status e = absurd cc
+by_tests : (fails goes_nowhere blocked : Bool) (c : Class) (direct : Option ℕ) (status : Status) → cond fails (stopped CA c) (cond goes_nowhere (stopped UR c) (cond blocked (stopped CA c) (goes_to direct))) ≡ Refused status → c ≡ NonPosted
+by_tests true nowhere blocked c direct status e = stopped_refused CA status c e
+by_tests false true blocked c direct status e = stopped_refused UR status c e
+by_tests false false true c direct status e = stopped_refused CA status c e
+by_tests false false false c None status e = absurd cc
+by_tests false false false c (Some peer) status e = absurd cc
 
-packet_refused : (port : DownstreamPort) (t : Packet) (status : Status) → packet_fate port t ≡ Refused status → class_of_kind t.kind ≡ NonPosted
-packet_refused port t status e = by_tests _ _ (class_of_kind t.kind) status e
+packet_refused : (ports : List DownstreamPort) (function : ℕ) (port : DownstreamPort) (t : Packet) (status : Status) → packet_fate ports function port t ≡ Refused status → class_of_kind t.kind ≡ NonPosted
+packet_refused ports function port t status e = by_tests _ _ _ (class_of_kind t.kind) (direct_to ports function (address_of t)) status e
 
-refused_unless : (m : Option Malformed) (port : DownstreamPort) (bytes : List ℕ) (status : Status) → fate_unless m port bytes ≡ Refused status → (cost_unless m bytes).class ≡ NonPosted
-refused_unless None port bytes status e = packet_refused port (packet_of bytes) status e
-refused_unless (Some cause) port bytes status e = absurd cc
+refused_unless : (m : Option Malformed) (ports : List DownstreamPort) (function : ℕ) (port : DownstreamPort) (bytes : List ℕ) (status : Status) → fate_unless m ports function port bytes ≡ Refused status → (cost_unless m bytes).class ≡ NonPosted
+refused_unless None ports function port bytes status e = packet_refused ports function port (packet_of bytes) status e
+refused_unless (Some cause) ports function port bytes status e = absurd cc
 
-refused_below : (port : Option DownstreamPort) (bytes : List ℕ) (status : Status) → fate_below port bytes ≡ Refused status → (cost_of bytes).class ≡ NonPosted
-refused_below None bytes status e = absurd cc
-refused_below (Some port) bytes status e = refused_unless (malformed bytes) port bytes status e
+refused_below : (ports : List DownstreamPort) (function : ℕ) (port : Option DownstreamPort) (bytes : List ℕ) (status : Status) → fate_below ports function port bytes ≡ Refused status → (cost_of bytes).class ≡ NonPosted
+refused_below ports function None bytes status e = absurd cc
+refused_below ports function (Some port) bytes status e = refused_unless (malformed bytes) ports function port bytes status e
 
 -- ---- what answers it
 
@@ -78,6 +82,7 @@ refused_by s n port function bytes (Refused status) c reply h e is =
     let same : port_answer port function status (packet_of bytes) ≡ reply = some_is _ reply (ap (λ (x : Change). x.emission) (some_is _ c e) ∙ is) in
     (h status refl, ap (λ (x : Emission). (cost_of x.bytes).class) (sym same) ∙ answer_class port status (packet_of bytes))
 refused_by s n port function bytes ToHost c reply h e is = absurd cc
+refused_by s n port function bytes (Direct peer) c reply h e is = absurd cc
 
 discarded_of : (s : Alone) (n : ℕ) (bytes : List ℕ) (o : Option Handling) (c : Change) (reply : Emission) → ((a : Handling) → o ≡ Some a → a ≡ discarded) → option_map (conclude s n bytes) o ≡ Some c → c.emission ≡ Some reply → AreClasses bytes reply
 discarded_of s n bytes None c reply h e is = absurd cc
@@ -89,7 +94,7 @@ discarded_of s n bytes (Some a) c reply h e is =
 refused_of : (share : Share) (s : Alone) (n : ℕ) (bytes : List ℕ) (parties : Parties) (c : Change) (reply : Emission) → option_map (conclude s n bytes) (refusal_of share bytes parties) ≡ Some c → c.emission ≡ Some reply → AreClasses bytes reply
 refused_of share s n bytes (Upward function) c reply e is =
     let port = first_port share.ports function in
-    refused_by s n (port_id port) function bytes (fate share.ports function bytes) c reply (λ status f. refused_below port bytes status f) e is
+    refused_by s n (port_id port) function bytes (fate share.ports function bytes) c reply (λ status f. refused_below share.ports function port bytes status f) e is
 refused_of share s n bytes (Downward function) c reply e is = absurd cc
 refused_of share s n bytes (Answer answerer addressee) c reply e is =
     discarded_of s n bytes (answer_refusal share (malformed bytes) answerer (packet_of bytes)) c reply (λ a h. answer_discarded share (malformed bytes) answerer (packet_of bytes) a h) e is

@@ -1,5 +1,6 @@
 -- A course names an output of the port's switch.
 use Rattle.std.proofs.Common.{◌≡◌, ℕ, suc, ◌==◌, Bool, true, false, cond, List, [], ◌∷◌, length, Option, Some, None, refl, sym, arith}
+use Rattle.std.specs.Prelude.{Result, Ok, Err}
 use Rattle.std.specs.List.{position}
 use Rattle.std.specs.Option.{option_map}
 use Rattle.std.proofs.lemmas.List.Quantifiers.{position-Some}
@@ -24,7 +25,7 @@ use Rattle.port.specs.declared.config.Exit.{Exit}
 use Rattle.port.specs.declared.course.Forwarding.{Forwarding}
 use Rattle.port.specs.declared.course.Forwarding.TheVariants.{Stop, NoCase}
 use Rattle.port.specs.Configs.{Config, lane_to, leads_to}
-use Rattle.port.specs.Courses.{IsWithin, course_at, course_of, down_by, down_lane, reported_by, returned_from, routed, stopped_answer, stopped_from, tested, up_by}
+use Rattle.port.specs.Courses.{IsWithin, course_at, course_of, down_by, down_lane, led, reported_by, returned_from, routed, stopped_answer, stopped_from, tested, up_by}
 
 output_by : (exits : List Exit) (p : Exit → Bool) (o : Option ℕ) → o ≡ position p exits → IsWithin (length exits) (down_lane (option_map suc o))
 output_by exits p None is = tt
@@ -65,9 +66,14 @@ up_within config line head (Port other) = output_within config.exits other
 up_within config line head OwnEgress = returned_within (length config.exits) line head head.parties
 up_within config line head Nobody = tt
 
+led_within : (config : Config) (line : DownstreamPort) (head : Head) (r : Result Route Verdict) → IsWithin (length config.exits) (led config line head r)
+led_within config line head (Ok way) = up_within config line head way
+led_within config line head (Err verdict.Pass) = stopped_within (length config.exits) line head None head.parties
+led_within config line head (Err (verdict.Violation check)) = stopped_within (length config.exits) line head (Some check) head.parties
+
 routed_within : (tree : Routes) (config : Config) (line : DownstreamPort) (head : Head) (target : Option Target) → IsWithin (length config.exits) (routed tree config line head target)
 routed_within tree config line head None = stopped_within (length config.exits) line head None head.parties
-routed_within tree config line head (Some target) = up_within config line head (redirected line (route_of tree.switches tree.ports config.id head.header) head.header)
+routed_within tree config line head (Some target) = led_within config line head (redirected line (route_of tree.switches tree.ports config.id head.header) head.header)
 
 tested_within : (tree : Routes) (config : Config) (line : DownstreamPort) (head : Head) (v : Verdict) → IsWithin (length config.exits) (tested tree config line head v)
 tested_within tree config line head (verdict.Violation check) = stopped_within (length config.exits) line head (Some check) head.parties

@@ -107,7 +107,7 @@ turned_step h mid new agents agents' violations violations' strays class outcome
 
 -- ---- where memory may be wanted
 
-wants_course : (w : World) (site : Site) (t : Taken) (input : LinkEnd) (course : Forwarding) (lost : Lost) → lost_by site.node input site.config t.frame.head course ≡ Some lost → CourseWants w site t course
+wants_course : (w : World) (site : Site) (t : Taken) (input : LinkEnd) (course : Forwarding) (lost : Lost) → lost_by w.routes site.node input site.config t.frame.head course ≡ Some lost → CourseWants w site t course
 wants_course w site t input (To output) lost e = absurd cc
 wants_course w site t input (Stop report) lost e = absurd cc
 wants_course w site t input NoCase lost e = tt

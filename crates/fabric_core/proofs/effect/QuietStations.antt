@@ -1,5 +1,5 @@
 -- At a quiet station no event moves anything.
-use Rattle.std.proofs.Common.{◌≡◌, ℕ, Bool, true, false, cond, ◌&&◌, List, [], ◌∷◌, Option, Some, None, refl, sym, ap, ◌∙◌, subst}
+use Rattle.std.proofs.Common.{◌≡◌, ℕ, Bool, true, false, cond, ◌&&◌, List, [], ◌∷◌, Option, Some, None, refl, ap, ◌∙◌, subst}
 use Rattle.std.specs.Prelude.{All, is_none, is_some, map, slice_get, slice_index_or, option_map}
 use Rattle.std.specs.Option.{option_and_then}
 use Rattle.std.proofs.lemmas.List.Elements.{All-append, All-cons, All-nil}
@@ -19,7 +19,6 @@ use Rattle.lane.specs.Lanes.{eligible}
 use Rattle.domains.specs.Domains.{place_of_function}
 use Rattle.topology.specs.Links.{sender_of}
 use Rattle.topology.specs.declared.nodes.LinkEnd.{LinkEnd}
-use Rattle.topology.specs.declared.places.PortPlace.{PortPlace}
 use Rattle.interconnect.specs.Lost.{lost_from, lost_number, lost_of}
 use Rattle.interconnect.specs.declared.lost.Lost.{Lost}
 use Rattle.interconnect.specs.Moves.{channel_at, on_channel, with_channel}
@@ -29,7 +28,7 @@ use Rattle.fabric_core.specs.Aliens.{to_function, to_host}
 use Rattle.fabric_core.specs.Receipts.{arrived, rooted, taken_at}
 use Rattle.fabric_core.specs.Events.{StepsTo, effect, entered_at, link_of, refusal}
 use Rattle.fabric_core.specs.Losing.{losing_by, passed_unless}
-use Rattle.fabric_core.specs.Passing.{passed, passed_number, site_at, turned}
+use Rattle.fabric_core.specs.Passing.{passed, passed_number, site_at}
 use Rattle.fabric_core.specs.Stations.{classes, events_at, is_quiet}
 use Rattle.fabric_core.specs.World.{World, with_channels}
 use Rattle.fabric_core.specs.declared.event.Event.{Event}

@@ -171,15 +171,15 @@ arrived_is w function t Nobody = refl
 pub arrive_ends : (h taking : InterconnectView) (agents : AgentsView) (violations : List Violation) (strays : List Descriptor) (function : ℕ) (end : LinkEnd) (class : Class) (frame : Descriptor) (t : Took h taking end class frame)
     → Some end ≡ sender_of h.tree.links (to_function function) → is_some (place_of_function agents.domains function) ≡ true
     → effect (world_over h agents violations strays) (Arrive function class)
-    ≡ Some (ended (world_over h agents violations strays) (record { frame = frame; channels = left_at (channels h) end t.left }) (agents_by_function agents function frame (receipt_in agents.domains function frame)))
+    ≡ Some (ended (world_over h agents violations strays) (record { frame = frame; channels = left_at (channels h) end t.left }) (agents_by_function agents function frame (receipt_in h.routes.ports agents.domains function frame)))
 arrive_ends h taking agents violations strays function end class frame t is there =
     let w = world_over h agents violations strays in
     ap (λ (b : Bool). cond b (arrived w function (taken_at w.channels class (sender_of w.tree.links (to_function function)))) None) there
     ∙ (ap (arrived w function) (found_at (channels h) class end (sender_of h.tree.links (to_function function)) frame t.left is t.found)
-    ∙ ap (λ (x : World). Some x) (arrived_is w function (record { frame = frame; channels = left_at (channels h) end t.left }) (receipt_in agents.domains function frame)))
+    ∙ ap (λ (x : World). Some x) (arrived_is w function (record { frame = frame; channels = left_at (channels h) end t.left }) (receipt_in h.routes.ports agents.domains function frame)))
 
 pub arrive_wants : (h taking : InterconnectView) (agents : AgentsView) (violations : List Violation) (strays : List Descriptor) (function : ℕ) (end : LinkEnd) (class : Class) (frame : Descriptor) (t : Took h taking end class frame)
-    → Some end ≡ sender_of h.tree.links (to_function function) → EntryWants (entry_by_function agents.domains function frame (receipt_in agents.domains function frame))
+    → Some end ≡ sender_of h.tree.links (to_function function) → EntryWants (entry_by_function agents.domains function frame (receipt_in h.routes.ports agents.domains function frame))
     → WantsMemory (world_over h agents violations strays) (Arrive function class)
 arrive_wants h taking agents violations strays function end class frame t is wants =
     subst (OfTaken (ArriveWants (world_over h agents violations strays) function)) (sym (found_at (channels h) class end (sender_of h.tree.links (to_function function)) frame t.left is t.found)) wants

@@ -46,14 +46,14 @@ pub record LostAt (node : ℕ) (input : Option LinkEnd) (config : Config) (l : L
   pub from : input ≡ Some l.input
   pub own : l.own ≡ own_end node config
 
-lost_as : (node : ℕ) (input : LinkEnd) (config : Config) (frame : Descriptor) (course : Forwarding) (l : Lost) → lost_by node input config frame.head course ≡ Some l → LostAt node (Some input) config l
-lost_as node input config frame (To output) l e = absurd cc
-lost_as node input config frame (Stop report) l e = absurd cc
-lost_as node input config frame NoCase l e = subst (LostAt node (Some input) config) (some_is _ l e) (record { from = refl; own = refl })
+lost_as : (routes : Routes) (node : ℕ) (input : LinkEnd) (config : Config) (frame : Descriptor) (course : Forwarding) (l : Lost) → lost_by routes node input config frame.head course ≡ Some l → LostAt node (Some input) config l
+lost_as routes node input config frame (To output) l e = absurd cc
+lost_as routes node input config frame (Stop report) l e = absurd cc
+lost_as routes node input config frame NoCase l e = subst (LostAt node (Some input) config) (some_is _ l e) (record { from = refl; own = refl })
 
 lost_if : (routes : Routes) (node : ℕ) (input : LinkEnd) (config : Config) (found : Option (Descriptor × List Descriptor)) (l : Lost) → lost_of routes node input config found ≡ Some l → LostAt node (Some input) config l
 lost_if routes node input config None l e = absurd cc
-lost_if routes node input config (Some taken) l e = lost_as node input config taken.0 (course_of routes config taken.0.head) l e
+lost_if routes node input config (Some taken) l e = lost_as routes node input config taken.0 (course_of routes config taken.0.head) l e
 
 lost_in_from : (w : World) (class : Class) (config : Config) (node : ℕ) (input : Option LinkEnd) (l : Lost) → lost_from w.routes w.channels class config node input ≡ Some l → LostAt node input config l
 lost_in_from w class config node None l e = absurd cc

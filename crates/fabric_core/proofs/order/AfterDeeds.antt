@@ -64,8 +64,8 @@ module _ (w w' : World) (g : IsGuardedFabric w) (places : List Place) (p q : Des
 
   finishes_end : (frame : Descriptor) (direction : Direction) (entry : Entry) (target : Place) → Finishes g.platform frame direction entry target → (n : ℕ) → consumes n entry ≡ (frame.number == n)
   finishes_end frame _ _ _ (Finishes.Stopped line report listed parties course sound) n = refl
-  finishes_end frame _ _ _ (Finishes.CarriedByHost function parties) n = refl
-  finishes_end frame _ _ _ (Finishes.CarriedByFunction function parties) n = refl
+  finishes_end frame _ _ _ (Finishes.CarriedByHost own) n = refl
+  finishes_end frame _ _ _ (Finishes.CarriedByFunction function request) n = refl
 
   ended : (k : Keeps) (frame : Descriptor) (direction : Direction) (between : Standings) → Leaving f between (Ingress direction) frame → Turn f → IsTaken w w' frame → (Turn between → Turn (standing_at w')) → (p frame ≡ false → q frame ≡ true → ⊥) → After w w' places p q
   ended k frame direction between l t taken then never = by (p frame) (q frame) refl refl

@@ -9,14 +9,14 @@ use Rattle.platform.specs.Share.{Share}
 use Rattle.domain.specs.Consumed.{consumes, times_consumed}
 use Rattle.domain.specs.Domains.{DomainView}
 use Rattle.domain.specs.Orders.{IsPosted}
-use Rattle.domain.specs.Sent.{Sent, sent}
+use Rattle.domain.specs.Sent.{IsBySource, Sent, sent}
+use Rattle.request_handling.specs.Heads.{head_of}
 use Rattle.request_handling.specs.Emissions.{Emission}
 use Rattle.domain_parts.specs.State.{item_at}
 use Rattle.domain.specs.declared.entry.Entry.{Entry}
 use Rattle.domain.proofs.Consuming.{consumed_once}
-use Rattle.domain.proofs.Sending.{are_sent}
+use Rattle.domain.proofs.Sending.{are_sent, sender_of_sent}
 use Rattle.domains.specs.Domains.{place_of}
-use Rattle.guarded_routes.proofs.Agreement.{RoutesUp}
 use Rattle.fabric_core.specs.declared.event.Event.{Event}
 use Rattle.fabric_core.specs.Events.{effect}
 use Rattle.fabric_core.specs.Invariant.{IsFabric}
@@ -30,7 +30,8 @@ use Rattle.fabric_core.proofs.order.DeedOf.{deed_of}
 use Rattle.fabric_core.proofs.order.DownwardOrder.{down_goes}
 use Rattle.fabric_core.proofs.invariant.Flying.{one_if, within}
 use Rattle.fabric_core.proofs.soundness.Guarded.{guarded_after}
-use Rattle.fabric_core.proofs.order.KeptOrder.{is_domain, posted_down, posted_up}
+use Rattle.fabric_core.proofs.order.KeptOrder.{is_domain, posted_across, posted_down, posted_up}
+use Rattle.fabric_core.proofs.order.AcrossOrder.{across_goes, let_peer}
 use Rattle.fabric_core.proofs.places.OnePlace.{one_place}
 use Rattle.fabric_core.proofs.order.OrderedSteps.{Next, at_most_one, flown_here, fresh, next, next_here, some_waits, still, well_kept}
 use Rattle.fabric_core.proofs.order.UpwardOrder.{up_goes}
@@ -46,19 +47,32 @@ not_flying w g place d at journal entry n grown is some =
     let most = at_most_one (nat_lt n (length d.state.flight)) in
     absurd (omega (arith, once, counted, one, last, waits, most))
 
-module _ (routes : RoutesUp) (w w' : World) (fabric : IsFabric w) (guarded : is_guarded w ≡ true) (place : ℕ) (d d' : DomainView) (at : slice_get w.agents.domains place ≡ Some d) (at' : slice_get w'.agents.domains place ≡ Some d') (g' : IsGuardedFabric w') (n : ℕ)
+module _ (w w' : World) (fabric : IsFabric w) (guarded : is_guarded w ≡ true) (place : ℕ) (d d' : DomainView) (at : slice_get w.agents.domains place ≡ Some d) (at' : slice_get w'.agents.domains place ≡ Some d') (g' : IsGuardedFabric w') (n : ℕ)
     (first : Sent) (listed : slice_get (sent d.share d.journal) n ≡ Some first) (posted : IsPosted first.emission) (e : Emission) (flies : item_at d.state.flight n ≡ Some e) where
   first_is : flown w.agents.domains d.share.domain n ≡ Some first.emission
   first_is =
       flown_here w fabric.kept place d at n ∙ (flies
       ∙ (sym ((are_sent d.share d.journal d.state (well_kept w (fabric.guarded guarded) place d at).replayed).each n e flies) ∙ ap (option_map (λ (s : Sent). s.emission)) listed))
 
+  by_source : IsBySource first
+  by_source = sender_of_sent d.share d.journal d.state (well_kept w (fabric.guarded guarded) place d at).replayed n first listed
+
   keeps : (places : List Place) → GoesBy (fabric.guarded guarded).platform d.share.domain first places → Keeps w w' (fabric.guarded guarded) places (is_numbered d.share.domain n) never
-  keeps _ (GoesBy.Up function links source own way) =
+  keeps _ (GoesBy.Up function links source none own way) =
       let g = fabric.guarded guarded in
       let number = d.share.domain in
-      let are = posted_up routes w g (one_place w fabric guarded).shown number n n first first first_is (λ y there. same_Some y first.emission (sym there ∙ first_is)) posted in record {
+      let are = posted_up w g (one_place w fabric guarded).shown number n n first first first_is (λ y there. same_Some y first.emission (sym there ∙ first_is)) by_source by_source posted function source none in record {
         goes = λ f' source target y leaps mv t. up_goes w g number function links own way (is_numbered number n) never are f' source target y leaps mv t;
+        ends = λ f' direction y l t is_p is_q entry target finishes. false≢true is_q;
+        delivers = λ f' direction y l t is_p is_q last. false≢true is_q;
+        fresh = λ entry o made is z sent. (fresh w fabric.kept place d at n (within d.state.flight n e flies) entry o made is z sent, refl);
+      }
+  keeps _ (GoesBy.Across function peer line links source some own listed_line held lets path) =
+      let g = fabric.guarded guarded in
+      let number = d.share.domain in
+      let beyond = let_peer g.platform g.guarded line listed_line peer (head_of first.emission).header lets in
+      let are = posted_across w g (one_place w fabric guarded).shown number n n first first first_is (λ y there. same_Some y first.emission (sym there ∙ first_is)) by_source by_source posted function peer source some in record {
+        goes = λ f' source target y leaps mv t. across_goes w g number function peer line links own listed_line held path beyond.0 beyond.1 (is_numbered number n) never are f' source target y leaps mv t;
         ends = λ f' direction y l t is_p is_q entry target finishes. false≢true is_q;
         delivers = λ f' direction y l t is_p is_q last. false≢true is_q;
         fresh = λ entry o made is z sent. (fresh w fabric.kept place d at n (within d.state.flight n e flies) entry o made is z sent, refl);
@@ -66,7 +80,7 @@ module _ (routes : RoutesUp) (w w' : World) (fabric : IsFabric w) (guarded : is_
   keeps _ (GoesBy.Down function links source to own way) =
       let g = fabric.guarded guarded in
       let number = d.share.domain in
-      let are = posted_down routes w g (one_place w fabric guarded).shown number n n first first first_is (λ y there. same_Some y first.emission (sym there ∙ first_is)) posted function to in record {
+      let are = posted_down w g (one_place w fabric guarded).shown number n n first first first_is (λ y there. same_Some y first.emission (sym there ∙ first_is)) by_source by_source posted function to in record {
         goes = λ f' source target y leaps mv t. down_goes w g number function links own way (is_numbered number n) never are f' source target y leaps mv t;
         ends = λ f' direction y l t is_p is_q entry target finishes. false≢true is_q;
         delivers = λ f' direction y l t is_p is_q last. false≢true is_q;
@@ -90,15 +104,15 @@ module _ (routes : RoutesUp) (w w' : World) (fabric : IsFabric w) (guarded : is_
       let x = next_here w fabric.kept place d at w' d' at' k.entry (place_of w.agents.domains frame.domain) k.m k.is k.domains (ap (place_of w.agents.domains) at_home.0 ∙ fabric.kept.settled.numbered place d at) in
       absurd (not_flying w' g' place d' at' d.journal k.entry n x.journal (k.ends n ∙ eq-eqb frame.number n at_home.1) some)
 
-pub way_kept : (routes : RoutesUp) (w w' : World) (event : Event) (fabric : IsFabric w) (guarded : is_guarded w ≡ true) → effect w event ≡ Some w' → (place : ℕ) (d d' : DomainView) → slice_get w.agents.domains place ≡ Some d → slice_get w'.agents.domains place ≡ Some d' → (n : ℕ) (first : Sent)
+pub way_kept : (w w' : World) (event : Event) (fabric : IsFabric w) (guarded : is_guarded w ≡ true) → effect w event ≡ Some w' → (place : ℕ) (d d' : DomainView) → slice_get w.agents.domains place ≡ Some d → slice_get w'.agents.domains place ≡ Some d' → (n : ℕ) (first : Sent)
     → slice_get (sent d.share d.journal) n ≡ Some first → IsPosted first.emission → IsSome (item_at d.state.flight n) → (places : List Place) → GoesBy (fabric.guarded guarded).platform d.share.domain first places → KeepsToWay w d places n
     → IsSome (item_at d'.state.flight n) → KeepsToWay w' d' places n
-way_kept routes w w' event fabric guarded moved place d d' at at' n first listed posted some places goes turn then = by (item_at d.state.flight n) refl some
+way_kept w w' event fabric guarded moved place d d' at at' n first listed posted some places goes turn then = by (item_at d.state.flight n) refl some
   where
     by : (o : Option Emission) → item_at d.state.flight n ≡ o → IsSome o → KeepsToWay w' d' places n
     by None flies some = absurd cc
     by (Some e) flies some =
         let g = fabric.guarded guarded in
-        let g' = guarded_after routes w w' event fabric.kept g moved in
-        stays routes w w' fabric guarded place d d' at at' g' n first listed posted e flies places
-        (after_deed w w' g places (is_numbered d.share.domain n) never (keeps routes w w' fabric guarded place d d' at at' g' n first listed posted e flies places goes) (deed_of routes w w' event fabric.kept g moved) turn) then
+        let g' = guarded_after w w' event fabric.kept g moved in
+        stays w w' fabric guarded place d d' at at' g' n first listed posted e flies places
+        (after_deed w w' g places (is_numbered d.share.domain n) never (keeps w w' fabric guarded place d d' at at' g' n first listed posted e flies places goes) (deed_of w w' event fabric.kept g moved) turn) then

@@ -32,7 +32,7 @@ use Rattle.fabric_core.proofs.order.Boxes.{joined_in}
 use Rattle.fabric_core.proofs.order.DeedTaking.{TakenAway, goes_then, taken_away}
 use Rattle.fabric_core.proofs.order.Deeds.{Deed, Finishes, IsLast, Leaps}
 use Rattle.fabric_core.proofs.soundness.GuardedAliens.{home_at_function, home_at_host}
-use Rattle.fabric_core.proofs.soundness.GuardedArrival.{FunctionHome, carry_legal, function_home, listed, meant, of_domain}
+use Rattle.fabric_core.proofs.soundness.GuardedArrival.{FunctionHome, carry_legal, function_home, is_carried, listed, meant, of_domain}
 use Rattle.fabric_core.proofs.soundness.GuardedEnds.{IsLegalThere, legal_at_home}
 use Rattle.fabric_core.proofs.soundness.GuardedRoot.{no_malformed, no_other}
 use Rattle.fabric_core.proofs.invariant.Settling.{made_from}
@@ -84,7 +84,7 @@ module _ (w w' : World) (kept : IsConsistent w) (g : IsGuardedFabric w) (class :
   requested request is =
       let own = here.request request in
       subst (Deed g.platform w) (same_Some _ w' (ap (λ (p : Parties). rooted_by w class t (request_at_host p)) (sym own.parties) ∙ is))
-      (as_own Receipt.Carry (carries w kept g to_host t (Host t.frame.domain) k (Finishes.CarriedByHost own.function own.parties) (home_there request) (legal request)))
+      (as_own Receipt.Carry (carries w kept g to_host t (Host t.frame.domain) k (Finishes.CarriedByHost own) (home_there request) (legal request)))
 
   relays_unless : (end : LinkEnd) → sender_of w.tree.links from_host ≡ Some end → is_reply t.frame.head.header ≡ true → (full : Bool) → cond full None (Some (with_channels w (put_at t.channels end t.frame))) ≡ Some w' → Deed g.platform w w'
   relays_unless end from reply true is = absurd cc
@@ -145,17 +145,17 @@ module _ (w : World) (kept : IsConsistent w) (g : IsGuardedFabric w) (function :
   is_meant : (h : Header) → t.frame.head.header ≡ h → IsMeantFor g.platform t.frame.domain function t.frame.head.parties h
   is_meant h same = meant w g function home t k.soundly h same
 
-  arrived_as : (h : Header) → t.frame.head.header ≡ h → Deed g.platform w (left_by (receipt_by_function t.frame.head.parties h))
+  arrived_as : (h : Header) → t.frame.head.header ≡ h → Deed g.platform w (left_by (receipt_by_function w.routes.ports function t.frame.head.parties h))
   arrived_as header.Malformed same = absurd (is_meant header.Malformed same)
   arrived_as (header.Memory requester address_type address) same =
       let request = ap is_reply same in
-      subst (λ (p : Parties). Deed g.platform w (left_by (receipt_by_function p (header.Memory requester address_type address)))) (sym (request_at g.platform g.guarded function t.frame is_listed k.soundly.sound request)) (carried request)
+      subst (λ (r : Receipt). Deed g.platform w (left_by r)) (sym (is_carried w g function home t k.soundly requester address address_type same (request_at g.platform g.guarded function t.frame is_listed k.soundly.sound request))) (carried request)
   arrived_as (header.OtherRequest requester) same = absurd (is_meant (header.OtherRequest requester) same)
   arrived_as (header.Completion target relaxed_ordering) same = delivered_here (ap is_reply same)
 
   arrived_own : Deed g.platform w (left_by (receipt_at_function w function t.frame))
   arrived_own =
-      subst (λ (b : Bool). Deed g.platform w (left_by (cond b (receipt_by_function t.frame.head.parties t.frame.head.header) Receipt.Nobody))) (sym is_own) (arrived_as t.frame.head.header refl)
+      subst (λ (b : Bool). Deed g.platform w (left_by (cond b (receipt_by_function w.routes.ports function t.frame.head.parties t.frame.head.header) Receipt.Nobody))) (sym is_own) (arrived_as t.frame.head.header refl)
 
   deed_arrived : Deed g.platform w (arrived_by w function t (receipt_at_function w function t.frame))
   deed_arrived = subst (λ (o : Option AgentsView). Deed g.platform w (ended w t o)) (sym (home_at_function w g function t.frame (receipt_at_function w function t.frame))) arrived_own

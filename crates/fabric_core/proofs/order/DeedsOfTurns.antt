@@ -1,5 +1,5 @@
 -- The deed of a port's turn in a guarded fabric.
-use Rattle.std.proofs.Common.{◌≡◌, ◌⊎◌, inl, inr, ℕ, zero, suc, ◌<◌, ◌==◌, Bool, true, false, cond, Option, Some, None, refl, sym, ap, ◌∙◌, subst, arith, eqb-true}
+use Rattle.std.proofs.Common.{◌≡◌, ℕ, zero, suc, ◌<◌, ◌==◌, Bool, true, false, cond, Option, Some, None, refl, sym, ap, ◌∙◌, subst, arith, eqb-true}
 use Rattle.std.specs.Prelude.{Contains, slice_index_or}
 use Rattle.std.specs.Option.{option_and_then}
 use Rattle.std.proofs.lemmas.List.Quantifiers.{position-Some}
@@ -36,8 +36,7 @@ use Rattle.topology.proofs.Members.{found}
 use Rattle.interconnect.specs.Moves.{put_at}
 use Rattle.interconnect.specs.Passes.{index_of, no_place}
 use Rattle.guarded_routes.specs.Sound.{IsSound}
-use Rattle.guarded_routes.specs.Ways.{GoesOn, IsRelaxed, Passes, PassesDown, direction_out, down_from}
-use Rattle.guarded_routes.proofs.Agreement.{RoutesUp}
+use Rattle.guarded_routes.specs.Ways.{GoesOn, LeavesBy, Passes, PassesDown, direction_out, down_from}
 use Rattle.guarded_routes.proofs.Falling.{passes_down}
 use Rattle.guarded_routes.proofs.LinksBelow.{output_down_keeps, output_up_keeps}
 use Rattle.guarded_routes.proofs.Passing.{passes}
@@ -116,18 +115,20 @@ passed_upstream w w' kept g i switch class (Some t) listed out is =
 
 -- ---- from below
 
-module _ (up_routes : RoutesUp) (w w' : World) (kept : IsConsistent w) (g : IsGuardedFabric w) (i : ℕ) (line : DownstreamPort) (listed : IsPort g.platform line) (t : Taken) (k : TakenAway w kept g (up (id_below line)) t) where
+module _ (w w' : World) (kept : IsConsistent w) (g : IsGuardedFabric w) (i : ℕ) (line : DownstreamPort) (listed : IsPort g.platform line) (t : Taken) (k : TakenAway w kept g (up (id_below line)) t) where
   abbrev site : Site
   site = record { number = i; node = (downstream_place g.platform line).node; config = downstream_config g.platform line }
 
-  -- up, or across
-  rises_by : (switch : Switch) (output : ℕ) → switch_on g.platform.switches (bus_of line.id) ≡ Some switch → (on : GoesOn g.platform switch t.frame output) → (output ≡ 0) ⊎ IsRelaxed t.frame.head.header → Leaps g.platform t.frame (Ingress (up (id_below line))) (Egress on.direction)
-  rises_by switch output at on (inr relaxed) = Leaps.Crosses (id_below line) on.direction relaxed
-  rises_by switch output at on (inl first) =
+  -- up, across, or directly to a function
+  rises_by : (switch : Switch) (output : ℕ) → switch_on g.platform.switches (bus_of line.id) ≡ Some switch → (on : GoesOn g.platform switch t.frame output) → LeavesBy g.platform line t.frame output on.direction → Leaps g.platform t.frame (Ingress (up (id_below line))) (Egress on.direction)
+  rises_by switch output at on (LeavesBy.Crosses relaxed) = Leaps.Crosses (id_below line) on.direction relaxed
+  rises_by switch output at on (LeavesBy.Turns sender peer requester address address_type held parties same cleared here direct is) =
+      subst (λ (d : Direction). Leaps g.platform t.frame (Ingress (up (id_below line))) (Egress d)) (sym is) (Leaps.Turns line sender peer requester address address_type listed held parties same cleared here direct)
+  rises_by switch output at on (LeavesBy.Rises first none) =
       let leads : direction_out g.platform switch 0 ≡ Some on.direction = ap (direction_out g.platform switch) (sym first) ∙ on.leads in
       let keeps = output_up_keeps g.platform g.guarded line switch on.direction listed at leads in
       let same : on.direction ≡ up on.direction.lower = same_direction on.direction Up keeps.0 in
-      subst (λ (d : Direction). Leaps g.platform t.frame (Ingress (up (id_below line))) (Egress d)) (sym same) (Leaps.Rises (id_below line) on.direction.lower keeps.1)
+      subst (λ (d : Direction). Leaps g.platform t.frame (Ingress (up (id_below line))) (Egress d)) (sym same) (Leaps.Rises line on.direction.lower listed keeps.1 none)
 
   -- what answers it, if anything, is put to its sender
   answered : (answer : Option Descriptor) → ((x : Descriptor) → answer ≡ Some x → IsSound g.platform (down_from line) x)
@@ -141,7 +142,7 @@ module _ (up_routes : RoutesUp) (w w' : World) (kept : IsConsistent w) (g : IsGu
   refused : (report : Option Violation) (o : Option Made) → course_of (of_platform g.platform) (downstream_config g.platform line) t.frame.head ≡ Stop report → t.frame.head.parties ≡ Upward (id_below line)
       → made w.agents.domains t.frame.domain (Refuse t.frame.number) ≡ o → Deed g.platform w (refused_by w site report t o)
   refused report None course parties e =
-      absurd (legal_at_home w g t.frame (Refuse t.frame.number) k.soundly.flown (λ d old share flies. refuses g.platform g.guarded up_routes line t.frame d.state report listed k.soundly.sound course flies) e)
+      absurd (legal_at_home w g t.frame (Refuse t.frame.number) k.soundly.flown (λ d old share flies. refuses g.platform g.guarded line t.frame d.state report listed k.soundly.sound course flies) e)
   refused report (Some m) course parties e =
       Deed.Ends (up (id_below line)) (Refuse t.frame.number) (Egress (down (id_below line))) t.frame m (standing_in w.tree.links t.channels w.agents.outboxes) (Finishes.Stopped line report listed parties course k.soundly.sound) k.soundly.flown e k.leaving
       (answered m.sent (answer_sound w g t.frame (Refuse t.frame.number) m k.soundly.flown tt e (down_from line)
@@ -162,35 +163,35 @@ module _ (up_routes : RoutesUp) (w w' : World) (kept : IsConsistent w) (g : IsGu
 
   passed_downstream : (class : Class) → passed w site class t ≡ Some w' → Deed g.platform w w'
   passed_downstream class is =
-      passed_as class (course_of (of_platform g.platform) (downstream_config g.platform line) t.frame.head) refl (passes g.platform g.guarded up_routes line listed t.frame k.soundly.sound)
+      passed_as class (course_of (of_platform g.platform) (downstream_config g.platform line) t.frame.head) refl (passes g.platform g.guarded line listed t.frame k.soundly.sound)
       (ap (λ (r : Routes). passed_by w site class t (course_of r (downstream_config g.platform line) t.frame.head)) (sym g.of_it.routes) ∙ is)
 
-downstream_if : (up_routes : RoutesUp) (w w' : World) (kept : IsConsistent w) (g : IsGuardedFabric w) (i : ℕ) (line : DownstreamPort) (class : Class) (o : Option Taken) → IsPort g.platform line → ((t : Taken) → o ≡ Some t → TakenAway w kept g (up (id_below line)) t)
+downstream_if : (w w' : World) (kept : IsConsistent w) (g : IsGuardedFabric w) (i : ℕ) (line : DownstreamPort) (class : Class) (o : Option Taken) → IsPort g.platform line → ((t : Taken) → o ≡ Some t → TakenAway w kept g (up (id_below line)) t)
     → option_and_then (passed w (record { number = i; node = (downstream_place g.platform line).node; config = downstream_config g.platform line }) class) o ≡ Some w' → Deed g.platform w w'
-downstream_if up_routes w w' kept g i line class None listed out is = absurd cc
-downstream_if up_routes w w' kept g i line class (Some t) listed out is = passed_downstream up_routes w w' kept g i line listed t (out t refl) class is
+downstream_if w w' kept g i line class None listed out is = absurd cc
+downstream_if w w' kept g i line class (Some t) listed out is = passed_downstream w w' kept g i line listed t (out t refl) class is
 
 -- ---- the port of an ID
 
-passed_standing : (up_routes : RoutesUp) (w w' : World) (kept : IsConsistent w) (g : IsGuardedFabric w) (class : Class) (i : ℕ) (place : PortPlace) → Standing g.platform place (port_number w i).config → passed_at w class i place ≡ Some w' → Deed g.platform w w'
-passed_standing up_routes w w' kept g class i place (Standing.Upstream switch listed at configured) is =
+passed_standing : (w w' : World) (kept : IsConsistent w) (g : IsGuardedFabric w) (class : Class) (i : ℕ) (place : PortPlace) → Standing g.platform place (port_number w i).config → passed_at w class i place ≡ Some w' → Deed g.platform w w'
+passed_standing w w' kept g class i place (Standing.Upstream switch listed at configured) is =
     let input = (upstream_place g.platform switch).input in
     let within = (found (λ (x : Switch). x.id == switch.id) g.platform.switches switch listed).0 in
     let brought = ap (λ (x : Tree). sender_of x.links (down switch.id)) g.of_it.tree ∙ sym (upstream_input g.platform g.guarded.laws switch within) in
     passed_upstream w w' kept g i switch class (taken_at w.channels class input) listed (λ t e. taken_away w kept g (down switch.id) class input t brought e)
     (at_place w w' class i place (upstream_place g.platform switch) (upstream_config g.platform switch) at configured is)
-passed_standing up_routes w w' kept g class i place (Standing.Downstream line listed at configured) is =
+passed_standing w w' kept g class i place (Standing.Downstream line listed at configured) is =
     let input = (downstream_place g.platform line).input in
     let brought = ap (λ (x : Tree). sender_of x.links (up (id_below line))) g.of_it.tree ∙ sym (downstream_input g.platform g.guarded.laws line) in
-    downstream_if up_routes w w' kept g i line class (taken_at w.channels class input) listed (λ t e. taken_away w kept g (up (id_below line)) class input t brought e)
+    downstream_if w w' kept g i line class (taken_at w.channels class input) listed (λ t e. taken_away w kept g (up (id_below line)) class input t brought e)
     (at_place w w' class i place (downstream_place g.platform line) (downstream_config g.platform line) at configured is)
 
-passed_number_if : (up_routes : RoutesUp) (w w' : World) (port : ℕ) (class : Class) (o : Option ℕ) → IsConsistent w → (g : IsGuardedFabric w) → index_of w.tree.places port ≡ o → passed_number w class o ≡ Some w' → Deed g.platform w w'
-passed_number_if up_routes w w' port class None kept g e is = absurd cc
-passed_number_if up_routes w w' port class (Some i) kept g e is =
+passed_number_if : (w w' : World) (port : ℕ) (class : Class) (o : Option ℕ) → IsConsistent w → (g : IsGuardedFabric w) → index_of w.tree.places port ≡ o → passed_number w class o ≡ Some w' → Deed g.platform w w'
+passed_number_if w w' port class None kept g e is = absurd cc
+passed_number_if w w' port class (Some i) kept g e is =
     let less = (position-Some (λ (place : PortPlace). place.id == port) w.tree.places i no_place e).0 in
     let many = kept.built.many in
-    passed_standing up_routes w w' kept g class i (slice_index_or w.tree.places i no_place) (standing g.platform w port i g.of_it (omega (arith, less, many)) e) is
+    passed_standing w w' kept g class i (slice_index_or w.tree.places i no_place) (standing g.platform w port i g.of_it (omega (arith, less, many)) e) is
 
-pub deed_pass : RoutesUp → (w w' : World) (port : ℕ) (class : Class) → IsConsistent w → (g : IsGuardedFabric w) → pass w port class ≡ Some w' → Deed g.platform w w'
-deed_pass up_routes w w' port class kept g is = passed_number_if up_routes w w' port class (index_of w.tree.places port) kept g refl (sym (passes_as_turned w g port class) ∙ is)
+pub deed_pass : (w w' : World) (port : ℕ) (class : Class) → IsConsistent w → (g : IsGuardedFabric w) → pass w port class ≡ Some w' → Deed g.platform w w'
+deed_pass w w' port class kept g is = passed_number_if w w' port class (index_of w.tree.places port) kept g refl (sym (passes_as_turned w g port class) ∙ is)

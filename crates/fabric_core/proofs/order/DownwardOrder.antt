@@ -1,6 +1,6 @@
 -- Two kinds of packets from a domain's host to one function stay in turn on the way down through every deed, and the
 -- second isn't taken out of flight before the first.
-use Rattle.std.proofs.Common.{◌≡◌, ℕ, Bool, true, false, List, ◌∷◌, ◌++◌, refl, sym, ap, ◌∙◌, subst, ⊎_elim}
+use Rattle.std.proofs.Common.{◌≡◌, inl, inr, ℕ, Bool, true, false, List, ◌∷◌, ◌++◌, refl, sym, ap, ◌∙◌, subst, ⊎_elim}
 use Rattle.std.specs.Prelude.{All}
 use Rattle.std.proofs.lemmas.Bool.{false≢true}
 use Rattle.fab_types.specs.declared.class.Class.TheVariants.{Posted}
@@ -13,12 +13,13 @@ use Rattle.fab_types.specs.declared.place.Place.TheVariants.{Ingress}
 use Rattle.fab_types.specs.declared.place.Way.TheVariants.{Up, Down}
 use Rattle.frame_log.specs.Descriptor.{Descriptor}
 use Rattle.platform.specs.Platform.{Platform}
+use Rattle.platform.specs.Tree.{id_below}
 use Rattle.domain.specs.declared.entry.Entry.{Entry}
 use Rattle.domain.specs.Orders.{IsTo}
 use Rattle.lane.specs.Lanes.{class_of}
 use Rattle.guarded_routes.specs.Guarded.{IsFunctionOf, is_below}
 use Rattle.guarded_routes.specs.Links.{IsWay}
-use Rattle.guarded_routes.specs.Sound.{IsMeantFor}
+use Rattle.guarded_routes.specs.Sound.{IsAsked, IsMeantFor}
 use Rattle.fabric_core.specs.Soundness.{IsGuardedFabric}
 use Rattle.fabric_core.specs.Trails.{In, InOrderOnWay, down, from_host, standing_at, up}
 use Rattle.fabric_core.specs.World.{World}
@@ -38,7 +39,11 @@ pub record AreDown (function : ℕ) (f : Standings) (p q : Descriptor → Bool) 
 -- whom a falling packet is meant for
 pub meant_for : (platform : Platform) (domain function other : ℕ) (parties : Parties) (h : Header) → IsMeantFor platform domain other parties h → IsTo function parties → other ≡ function
 meant_for platform domain function other parties header.Malformed meant to = absurd meant
-meant_for platform domain function other parties (header.Memory requester address_type address) meant to = subst (IsTo function) meant.0 to
+meant_for platform domain function other parties (header.Memory requester address_type address) meant to = asked_for meant.0
+  where
+    asked_for : IsAsked platform domain other requester address_type address parties → other ≡ function
+    asked_for (IsAsked.ByHost is) = subst (IsTo function) is to
+    asked_for (IsAsked.Directly sender own is cleared direct) = absurd (subst (IsTo function) is to)
 meant_for platform domain function other parties (header.OtherRequest requester) meant to = absurd meant
 meant_for platform domain function other parties (header.Completion target relaxed_ordering) meant to = subst (IsTo function) meant.1 to
 
@@ -58,11 +63,12 @@ module _ (w : World) (g : IsGuardedFabric w) (domain function : ℕ) (links : Li
   leaps_along _ _ y (Leaps.Enters a) at to = host_enters g.platform g.guarded domain function links own way a at
   leaps_along _ _ y (Leaps.Sent a) at to = host_sent g.platform g.guarded domain function links own way a at
   leaps_along _ _ y (Leaps.Received a) at to = host_received g.platform g.guarded domain function links own way a at
-  leaps_along _ _ y (Leaps.Rises lower above is) at to = absurd (on_way_down (up lower) at refl)
+  leaps_along _ _ y (Leaps.Rises line above listed is none) at to = absurd (on_way_down (up (id_below line)) at refl)
   leaps_along _ _ y (Leaps.Falls lower above is r) at to =
       let same = meant_for g.platform y.domain function r.function y.head.parties y.head.header r.meant to in
       host_falls g.platform g.guarded domain function links own way lower above is (ap (is_below g.platform lower) (sym same) ∙ r.below) at
   leaps_along _ _ y (Leaps.Crosses lower direction relaxed) at to = absurd (on_way_down (up lower) at refl)
+  leaps_along _ _ y (Leaps.Turns line sender peer requester address address_type listed held parties same cleared here direct) at to = absurd (on_way_down (up (id_below line)) at refl)
   leaps_along _ _ y (Leaps.Returns reply) at to = absurd (on_way_down _ at refl)
 
   none_passed : (source : Place) (y : Descriptor) (older newer : List Descriptor) → f source ≡ older ++ y ∷ newer → MayPass y older → All (IsNo p) older
@@ -115,5 +121,6 @@ module _ (w : World) (g : IsGuardedFabric w) (domain function : ℕ) (links : Li
       where
         by : (d : Direction) (entry : Entry) (target : Place) → Finishes g.platform y d entry target → direction ≡ d → ⊥
         by _ _ _ (Finishes.Stopped line report listed parties course sound) e = upward (ap (λ (d : Direction). d.way) e)
-        by _ _ _ (Finishes.CarriedByHost sender parties) e = upward (ap (λ (d : Direction). d.way) e)
-        by _ _ _ (Finishes.CarriedByFunction h parties) e = at_function (e ∙ ap down (subst (IsTo function) parties is_to))
+        by _ _ _ (Finishes.CarriedByHost own) e = upward (ap (λ (d : Direction). d.way) e)
+        by _ _ _ (Finishes.CarriedByFunction h (inl to)) e = at_function (e ∙ ap down (subst (IsTo function) to is_to))
+        by _ _ _ (Finishes.CarriedByFunction h (inr r)) e = absurd (subst (IsTo function) r.parties is_to)

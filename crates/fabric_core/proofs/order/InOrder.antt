@@ -1,7 +1,6 @@
 -- A fabric of any layout stays one through every event, and in a guarded one the order law holds.
 use Rattle.std.proofs.Common.{◌≡◌, true, get_or, Some, sym, ◌∙◌}
 use Rattle.std.proofs.lemmas.Option.{slice_get-get_or}
-use Rattle.guarded_routes.proofs.Agreement.{RoutesUp}
 use Rattle.fabric_core.specs.declared.event.Event.{Event}
 use Rattle.fabric_core.specs.Events.{effect}
 use Rattle.fabric_core.specs.Invariant.{IsFabric}
@@ -18,11 +17,11 @@ in_order w fabric guarded = λ place d less.
     let x = get_or w.agents.domains place d in
     (fabric.ordered guarded place x (slice_get-get_or w.agents.domains place d less)).order
 
-pub fabric_after : RoutesUp → (w w' : World) (event : Event) → IsFabric w → effect w event ≡ Some w' → IsFabric w'
-fabric_after routes w w' event fabric moved = record {
+pub fabric_after : (w w' : World) (event : Event) → IsFabric w → effect w event ≡ Some w' → IsFabric w'
+fabric_after w w' event fabric moved = record {
   kept = kept_after w w' event fabric.kept moved;
-  guarded = λ controls. guarded_after routes w w' event fabric.kept (fabric.guarded (was controls)) moved;
-  ordered = λ controls. way_order_after routes w w' event fabric (was controls) moved (guarded_after routes w w' event fabric.kept (fabric.guarded (was controls)) moved);
+  guarded = λ controls. guarded_after w w' event fabric.kept (fabric.guarded (was controls)) moved;
+  ordered = λ controls. way_order_after w w' event fabric (was controls) moved (guarded_after w w' event fabric.kept (fabric.guarded (was controls)) moved);
 }
   where
     was : is_guarded w' ≡ true → is_guarded w ≡ true

@@ -1,5 +1,5 @@
 -- In a guarded fabric a packet that a domain makes stands behind each posted one whose way begins at the same outbox.
-use Rattle.std.proofs.Common.{◌≡◌, ℕ, ◌<◌, ◌≤◌, true, false, List, length, Option, Some, refl, sym, ap, ◌∙◌, subst, arith}
+use Rattle.std.proofs.Common.{◌≡◌, ℕ, ◌<◌, ◌≤◌, true, false, List, ◌++◌, length, Option, Some, refl, sym, ap, ◌∙◌, subst, arith}
 use Rattle.std.specs.Prelude.{All, slice_get}
 use Rattle.std.proofs.lemmas.List.Elements.{All-weaker}
 use Rattle.std.proofs.lemmas.Option.{same_Some}
@@ -15,7 +15,7 @@ use Rattle.domain_parts.specs.State.{item_at}
 use Rattle.fabric_core.specs.Invariant.{IsFabric}
 use Rattle.fabric_core.specs.Orders.{GoesBy, KeepsToWay, OrderOf}
 use Rattle.fabric_core.specs.Places.{IsFlown, flown, is_numbered}
-use Rattle.fabric_core.specs.Trails.{InOrderOnWay, never, places_down, places_up, standing_at}
+use Rattle.fabric_core.specs.Trails.{InOrderOnWay, down, never, places_down, places_on, places_up, standing_at}
 use Rattle.fabric_core.specs.World.{World, is_guarded}
 use Rattle.fabric_core.proofs.order.Behind.{joins_behind, starts_there}
 use Rattle.fabric_core.proofs.invariant.Flying.{within}
@@ -24,7 +24,7 @@ use Rattle.fabric_core.proofs.order.KeptOrder.{all_standing, is_domain}
 use Rattle.fabric_core.proofs.places.OnePlace.{one_place}
 use Rattle.fabric_core.proofs.order.OrderedSteps.{flown_here}
 use Rattle.fabric_core.proofs.order.AtPlaces.{Joining, Leaving, Standings}
-use Rattle.fabric_core.proofs.order.Tracks.{not_down, not_up}
+use Rattle.fabric_core.proofs.order.Tracks.{not_across, not_down, not_up}
 
 source_is : (a b : Origin) → ◌≡◌ {A = Option Origin} (Some a) (Some b) → a ≡ b
 source_is a b e = same_Some a b e
@@ -49,9 +49,12 @@ module _ (w : World) (fabric : IsFabric w) (guarded : is_guarded w ≡ true) (pl
   behind : (f' : Standings) (first : Sent) (o : Origin) (n m : ℕ) (places : List Place) (z : Descriptor) → GoesBy (fabric.guarded guarded).platform d.share.domain first places → first.source ≡ Some o
       → (f : Standings) → ((r : Place) → All (IsNo (is_numbered d.share.domain m)) (f r)) → Joining f f' (Outbox o) z → is_numbered d.share.domain n z ≡ false
       → InOrderOnWay f places (is_numbered d.share.domain n) never → InOrderOnWay f' places (is_numbered d.share.domain n) (is_numbered d.share.domain m)
-  behind f' first o n m _ z (GoesBy.Up function links from own way) source f none j is_no t =
+  behind f' first o n m _ z (GoesBy.Up function links from straight own way) source f none j is_no t =
       let same : o ≡ origin.Function function = same_Some o (origin.Function function) (sym source ∙ from) in
       joins_behind (is_numbered d.share.domain n) (is_numbered d.share.domain m) f f' (Outbox (origin.Function function)) z (subst (λ (x : Origin). Joining f f' (Outbox x) z) same j) is_no none (places_up links) (not_up (origin.Function function) links) t
+  behind f' first o n m _ z (GoesBy.Across function peer line links from some own listed held lets path) source f none j is_no t =
+      let same : o ≡ origin.Function function = same_Some o (origin.Function function) (sym source ∙ from) in
+      joins_behind (is_numbered d.share.domain n) (is_numbered d.share.domain m) f f' (Outbox (origin.Function function)) z (subst (λ (x : Origin). Joining f f' (Outbox x) z) same j) is_no none (places_on (down peer) ++ places_up links) (not_across function peer links) t
   behind f' first o n m _ z (GoesBy.Down function links from to own way) source f none j is_no t =
       let same : o ≡ origin.Host d.share.domain = same_Some o (origin.Host d.share.domain) (sym source ∙ from) in
       joins_behind (is_numbered d.share.domain n) (is_numbered d.share.domain m) f f' (Outbox (origin.Host d.share.domain)) z (subst (λ (x : Origin). Joining f f' (Outbox x) z) same j) is_no none (places_down links) (not_down (origin.Host d.share.domain) links) t
@@ -71,9 +74,12 @@ module _ (w : World) (fabric : IsFabric w) (guarded : is_guarded w ≡ true) (pl
   -- a packet of a new number that joins an outbox stands on the way that begins there
   pub starts : (f' : Standings) (packet : Sent) (o : Origin) (n : ℕ) (places : List Place) (z : Descriptor) → GoesBy (fabric.guarded guarded).platform d.share.domain packet places → packet.source ≡ Some o
       → (f : Standings) → ((r : Place) → All (IsNo (is_numbered d.share.domain n)) (f r)) → Joining f f' (Outbox o) z → is_numbered d.share.domain n z ≡ true → InOrderOnWay f' places (is_numbered d.share.domain n) never
-  starts f' packet o n _ z (GoesBy.Up function links from own way) source f none j is =
+  starts f' packet o n _ z (GoesBy.Up function links from straight own way) source f none j is =
       let same : o ≡ origin.Function function = same_Some o (origin.Function function) (sym source ∙ from) in
       starts_there (is_numbered d.share.domain n) f f' (Outbox (origin.Function function)) z (subst (λ (x : Origin). Joining f f' (Outbox x) z) same j) is none (places_up links) (not_up (origin.Function function) links)
+  starts f' packet o n _ z (GoesBy.Across function peer line links from some own listed held lets path) source f none j is =
+      let same : o ≡ origin.Function function = same_Some o (origin.Function function) (sym source ∙ from) in
+      starts_there (is_numbered d.share.domain n) f f' (Outbox (origin.Function function)) z (subst (λ (x : Origin). Joining f f' (Outbox x) z) same j) is none (places_on (down peer) ++ places_up links) (not_across function peer links)
   starts f' packet o n _ z (GoesBy.Down function links from to own way) source f none j is =
       let same : o ≡ origin.Host d.share.domain = same_Some o (origin.Host d.share.domain) (sym source ∙ from) in
       starts_there (is_numbered d.share.domain n) f f' (Outbox (origin.Host d.share.domain)) z (subst (λ (x : Origin). Joining f f' (Outbox x) z) same j) is none (places_down links) (not_down (origin.Host d.share.domain) links)

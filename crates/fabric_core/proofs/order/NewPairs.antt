@@ -16,7 +16,6 @@ use Rattle.domain.specs.declared.entry.Entry.{Entry}
 use Rattle.domain.specs.declared.entry.Entry.TheVariants.{Carry, Deliver, Refuse}
 use Rattle.domain.proofs.OneOutbox.{one_outbox}
 use Rattle.domains.specs.Domains.{Made, made_at, place_of}
-use Rattle.guarded_routes.proofs.Agreement.{RoutesUp}
 use Rattle.fabric_core.specs.declared.event.Event.{Event}
 use Rattle.fabric_core.specs.Events.{effect}
 use Rattle.fabric_core.specs.Invariant.{IsFabric}
@@ -26,6 +25,7 @@ use Rattle.fabric_core.specs.Soundness.{IsGuardedFabric}
 use Rattle.fabric_core.specs.Trails.{standing_at}
 use Rattle.fabric_core.specs.World.{World, is_guarded}
 use Rattle.fabric_core.proofs.order.AloneSteps.{not_flying}
+use Rattle.fabric_core.proofs.order.Carriers.{function_carries, host_carries}
 use Rattle.fabric_core.proofs.order.DeedOf.{deed_of}
 use Rattle.fabric_core.proofs.order.Deeds.{Deed, Finishes, JoiningIf, Starts}
 use Rattle.fabric_core.proofs.invariant.Flying.{within}
@@ -74,7 +74,8 @@ module _ (w w' : World) (fabric : IsFabric w) (guarded : is_guarded w ≡ true) 
   -- ---- an end
 
   goes_source : (q : List Place) → GoesBy (fabric.guarded guarded).platform d.share.domain pair.first q → (o : Origin) × (pair.first.source ≡ Some o)
-  goes_source _ (GoesBy.Up function links from own way) = (origin.Function function, from)
+  goes_source _ (GoesBy.Up function links from straight own way) = (origin.Function function, from)
+  goes_source _ (GoesBy.Across function peer line links from some own listed held lets path) = (origin.Function function, from)
   goes_source _ (GoesBy.Down function links from to own way) = (origin.Host d.share.domain, from)
 
   module _ (frame : Descriptor) (f : IsFlown w.agents.domains frame) (made : Made) (between : Standings) (direction : Direction) (l : Leaving (standing_at w) between (Ingress direction) frame) where
@@ -85,7 +86,7 @@ module _ (w w' : World) (fabric : IsFabric w) (guarded : is_guarded w ≡ true) 
         by false is = is
         by true is = absurd (not_flying w' g' place d' at' d.journal entry n journal (ends ∙ eq-eqb frame.number n (is_domain d.share.domain n frame is).1) later)
 
-    answers : (from : Origin) → made_at w.agents.domains (Carry frame.number) (place_of w.agents.domains frame.domain) ≡ Some made → carrier d.share frame.head.parties ≡ Some from → JoiningIf between (standing_at w') (Outbox from) made.sent
+    answers : (from : Origin) → made_at w.agents.domains (Carry frame.number) (place_of w.agents.domains frame.domain) ≡ Some made → carrier d.share f.emission.bytes f.emission.parties ≡ Some from → JoiningIf between (standing_at w') (Outbox from) made.sent
         → IsNew (Carry frame.number) (place_of w.agents.domains frame.domain) made → Turn
     answers from is sender j x =
         answer_behind w fabric guarded place d at w' pair.first from n m places (frame_of d m pair.second) between direction frame second_new goes (sym (first_from (Carry frame.number) (place_of w.agents.domains frame.domain) made x) ∙ (carried_parties w w' fabric guarded place d d' at at' frame f x.here ∙ sender)) l
@@ -94,10 +95,10 @@ module _ (w w' : World) (fabric : IsFabric w) (guarded : is_guarded w ≡ true) 
   ends : (frame : Descriptor) → IsFlown w.agents.domains frame → (made : Made) (between : Standings) (direction : Direction) (entry : Entry) (target : Place) → Finishes (fabric.guarded guarded).platform frame direction entry target
       → Leaving (standing_at w) between (Ingress direction) frame → made_at w.agents.domains entry (place_of w.agents.domains frame.domain) ≡ Some made → JoiningIf between (standing_at w') target made.sent → IsNew entry (place_of w.agents.domains frame.domain) made → Turn
   ends frame f made between _ _ _ (Finishes.Stopped line report listed parties course sound) l is j x = let o = goes_source places goes in absurd (none_some o.0 (first_from (Refuse frame.number) (place_of w.agents.domains frame.domain) made x ∙ o.1))
-  ends frame f made between _ _ _ (Finishes.CarriedByHost function parties) l is j x =
+  ends frame f made between _ _ _ (Finishes.CarriedByHost own) l is j x =
       let home : frame.domain ≡ d.share.domain = is_home w.agents.domains frame.domain place d at x.here in
-      answers frame f made between _ l (origin.Host frame.domain) is (ap (carrier d.share) parties ∙ ap (λ (k : ℕ). Some (origin.Host k)) (sym home)) j x
-  ends frame f made between _ _ _ (Finishes.CarriedByFunction function parties) l is j x = answers frame f made between _ l (origin.Function function) is (ap (carrier d.share) parties) j x
+      answers frame f made between _ l (origin.Host frame.domain) is (host_carries w (fabric.guarded guarded) place d at frame f own ∙ ap (λ (k : ℕ). Some (origin.Host k)) (sym home)) j x
+  ends frame f made between _ _ _ (Finishes.CarriedByFunction function request) l is j x = answers frame f made between _ l (origin.Function function) is (function_carries w (fabric.guarded guarded) place d at frame f function request) j x
 
   -- ---- any deed
 
@@ -112,12 +113,12 @@ module _ (w w' : World) (fabric : IsFabric w) (guarded : is_guarded w ≡ true) 
       let x = sent_by (Deliver frame.number) (place_of w.agents.domains frame.domain) made is (next w fabric.kept place d at w' d' at' (Deliver frame.number) (place_of w.agents.domains frame.domain) made is domains) in
       absurd (none_some o.0 (first_from (Deliver frame.number) (place_of w.agents.domains frame.domain) made x ∙ o.1))
 
-pub new_turn : (routes : RoutesUp) (w w' : World) (event : Event) (fabric : IsFabric w) (guarded : is_guarded w ≡ true) → effect w event ≡ Some w' → (place : ℕ) (d d' : DomainView) → slice_get w.agents.domains place ≡ Some d → slice_get w'.agents.domains place ≡ Some d' → (n m : ℕ) (pair : AreOrdered d' n m)
+pub new_turn : (w w' : World) (event : Event) (fabric : IsFabric w) (guarded : is_guarded w ≡ true) → effect w event ≡ Some w' → (place : ℕ) (d d' : DomainView) → slice_get w.agents.domains place ≡ Some d → slice_get w'.agents.domains place ≡ Some d' → (n m : ℕ) (pair : AreOrdered d' n m)
     → length (sent d.share d.journal) ≤ m → IsSome (item_at d.state.flight n) → IsSome (item_at d'.state.flight n) → (places : List Place) → GoesBy (fabric.guarded guarded).platform d.share.domain pair.first places → KeepsToWay w d places n → OrderOf w' d places n m
-new_turn routes w w' event fabric guarded moved place d d' at at' n m pair long some later places goes t = by (item_at d.state.flight n) refl some
+new_turn w w' event fabric guarded moved place d d' at at' n m pair long some later places goes t = by (item_at d.state.flight n) refl some
   where
     by : (o : Option Emission) → item_at d.state.flight n ≡ o → IsSome o → OrderOf w' d places n m
     by None flies some = absurd cc
     by (Some e) flies some =
         let g = fabric.guarded guarded in
-        turn_of w w' fabric guarded (guarded_after routes w w' event fabric.kept g moved) place d d' at at' n m pair long e flies later places goes t (deed_of routes w w' event fabric.kept g moved)
+        turn_of w w' fabric guarded (guarded_after w w' event fabric.kept g moved) place d d' at at' n m pair long e flies later places goes t (deed_of w w' event fabric.kept g moved)

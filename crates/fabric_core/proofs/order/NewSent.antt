@@ -53,11 +53,11 @@ module _ (w w' : World) (fabric : IsFabric w) (guarded : is_guarded w ≡ true) 
   starts_at _ _ _ (Starts.Accesses domain access) here = ap (λ (k : ℕ). Some (origin.Host k)) (sym (is_home w.agents.domains domain place d at here))
 
   -- who carries a packet
-  pub carried_parties : (frame : Descriptor) (f : IsFlown w.agents.domains frame) → place_of w.agents.domains frame.domain ≡ Some place → source d.share d.state (Carry frame.number) ≡ carrier d.share frame.head.parties
+  pub carried_parties : (frame : Descriptor) (f : IsFlown w.agents.domains frame) → place_of w.agents.domains frame.domain ≡ Some place → source d.share d.state (Carry frame.number) ≡ carrier d.share f.emission.bytes f.emission.parties
   carried_parties frame f here =
       let home : frame.domain ≡ d.share.domain = is_home w.agents.domains frame.domain place d at here in
       let flying : item_at d.state.flight frame.number ≡ Some f.emission = sym (flown_here w fabric.kept place d at frame.number) ∙ (ap (λ (k : ℕ). flown w.agents.domains k frame.number) (sym home) ∙ f.in_flight) in
-      ap (source_of_carried d.share) flying ∙ ap (λ (y : Descriptor). carrier d.share y.head.parties) (sym f.shown)
+      ap (source_of_carried d.share) flying
 
   -- ---- one more
 

@@ -1,5 +1,5 @@
 -- In a guarded fabric a new packet that has a way stands on it from the event on that makes it.
-use Rattle.std.proofs.Common.{◌≡◌, ℕ, ◌≤◌, true, List, [], length, Option, Some, None, refl, sym, ap, ◌∙◌, subst}
+use Rattle.std.proofs.Common.{◌≡◌, inl, inr, ℕ, ◌≤◌, true, List, [], length, Option, Some, None, refl, sym, ap, ◌∙◌, subst}
 use Rattle.std.specs.Prelude.{All, slice_get}
 use Rattle.std.proofs.lemmas.Option.{same_Some}
 use Rattle.fab_types.specs.declared.place.Direction.{Direction}
@@ -7,26 +7,30 @@ use Rattle.fab_types.specs.declared.origin.Origin.{Origin}
 use Rattle.fab_types.specs.declared.origin.Origin.TheVariants as origin
 use Rattle.fab_types.specs.declared.place.Place.{Place}
 use Rattle.fab_types.specs.declared.place.Place.TheVariants.{Ingress, Outbox}
-use Rattle.fab_types.specs.declared.head.Parties.TheVariants.{Downward}
 use Rattle.frame_log.specs.Descriptor.{Descriptor}
 use Rattle.domain.specs.Domains.{DomainView}
-use Rattle.domain.specs.Orders.{IsTo}
+use Rattle.domain.specs.Orders.{IsTo, direct_from}
 use Rattle.domain.specs.Sent.{Sent, carrier, sent}
 use Rattle.domain.specs.declared.entry.Entry.{Entry}
 use Rattle.domain.specs.declared.entry.Entry.TheVariants.{Carry, Deliver}
 use Rattle.domains.specs.Domains.{Made, domain_at, place_of, place_of_function}
+use Rattle.guarded_routes.specs.Ends.{IsRequestTo}
 use Rattle.guarded_routes.specs.Guarded.{IsFunctionOf}
-use Rattle.guarded_routes.specs.Sound.{Falling, IsSound}
-use Rattle.guarded_routes.proofs.Links.{way_of}
+use Rattle.guarded_routes.specs.Sound.{Falling, IsSound, let_by}
+use Rattle.guarded_routes.proofs.Links.{path_to, way_of}
+use Rattle.guarded_routes.proofs.Passing.{peer_own}
+use Rattle.guarded_routes.proofs.Peers.{some_line}
 use Rattle.fabric_core.specs.Receipts.{to_function}
 use Rattle.fabric_core.specs.Events.{link_of}
 use Rattle.fabric_core.specs.Invariant.{IsFabric}
 use Rattle.fabric_core.specs.Orders.{GoesBy, HasWay, StandsOnWay}
 use Rattle.fabric_core.specs.Places.{IsFlown, is_numbered}
 use Rattle.fabric_core.specs.Soundness.{IsGuardedFabric}
-use Rattle.fabric_core.specs.Trails.{from_function, from_host, standing_at}
+use Rattle.fabric_core.specs.Trails.{across, from_function, from_host, standing_at}
 use Rattle.fabric_core.specs.World.{World, is_guarded}
 use Rattle.fabric_core.proofs.order.AtPlaces.{Joining, Leaving, Standings}
+use Rattle.fabric_core.proofs.order.Carriers.{function_carries, host_carries}
+use Rattle.fabric_core.proofs.order.KeptHeads.{direct_head}
 use Rattle.fabric_core.proofs.order.Deeds.{Deed, Finishes, JoiningIf, Starts}
 use Rattle.fabric_core.proofs.order.DownwardOrder.{meant_for}
 use Rattle.fabric_core.proofs.soundness.GuardedArrival.{function_home}
@@ -79,13 +83,19 @@ module _ (w w' : World) (fabric : IsFabric w) (guarded : is_guarded w ≡ true) 
   starter_own _ _ _ (Starts.Accesses domain access) here function e = absurd cc
 
   -- the function that answers what it took
-  answerer_own : (frame : Descriptor) (between : Standings) (f : ℕ) → Leaving (standing_at w) between (Ingress (to_function f)) frame → frame.head.parties ≡ Downward f → frame.domain ≡ d.share.domain → IsOwn f
-  answerer_own frame between f l parties home =
+  answerer_own : (frame : Descriptor) (between : Standings) (f : ℕ) → Leaving (standing_at w) between (Ingress (to_function f)) frame → IsRequestTo (fabric.guarded guarded).platform frame f → frame.domain ≡ d.share.domain → IsOwn f
+  answerer_own frame between f l request home =
       let g = fabric.guarded guarded in
       let r : Falling g.platform f frame =
       all_found (IsSound g.platform (to_function f)) l.older l.newer frame (subst (All (IsSound g.platform (to_function f))) l.was (all_at w g (to_function f) (Ingress (to_function f)) (On.AtIngress refl))) in
-      let is : r.function ≡ f = meant_for g.platform frame.domain f r.function frame.head.parties frame.head.header r.meant (subst (IsTo f) (sym parties) refl) in
-      subst (λ (k : ℕ). IsFunctionOf g.platform k f) home (subst (IsFunctionOf g.platform frame.domain) is r.own)
+      subst (λ (k : ℕ). IsFunctionOf g.platform k f) home (by r request)
+    where
+      by : (r : Falling (fabric.guarded guarded).platform f frame) → IsRequestTo (fabric.guarded guarded).platform frame f → IsFunctionOf (fabric.guarded guarded).platform frame.domain f
+      by r (inl to) =
+          let g = fabric.guarded guarded in
+          let is : r.function ≡ f = meant_for g.platform frame.domain f r.function frame.head.parties frame.head.header r.meant (subst (IsTo f) (sym to) refl) in
+          subst (IsFunctionOf g.platform frame.domain) is r.own
+      by r (inr q) = peer_own (fabric.guarded guarded).platform (fabric.guarded guarded).guarded frame.domain q.sender f q.address q.own q.direct
 
   -- ---- it joins an outbox
 
@@ -98,10 +108,20 @@ module _ (w w' : World) (fabric : IsFabric w) (guarded : is_guarded w ≡ true) 
 
       by : HasWay d.share.domain packet → Stands
       by (HasWay.FromFunction function from) =
-          let g = fabric.guarded guarded in
-          let mine = own function (same_Some o (origin.Function function) (sym source ∙ from)) in
-          let way = way_of g.platform g.guarded d.share.domain function mine in
-          on_way (from_function function way.0) (GoesBy.Up function way.0 from mine way.1)
+          from_one function from (own function (same_Some o (origin.Function function) (sym source ∙ from))) (direct_from (fabric.guarded guarded).platform.ports function packet.emission) refl
+        where
+          -- up, or directly to another function
+          from_one : (function : ℕ) → packet.source ≡ Some (origin.Function function) → IsOwn function → (to : Option ℕ) → direct_from (fabric.guarded guarded).platform.ports function packet.emission ≡ to → Stands
+          from_one function from mine None straight =
+              let g = fabric.guarded guarded in
+              let way = way_of g.platform g.guarded d.share.domain function mine in
+              on_way (from_function function way.0) (GoesBy.Up function way.0 from straight mine way.1)
+          from_one function from mine (Some peer) some =
+              let g = fabric.guarded guarded in
+              let h = direct_head g.platform g.guarded function packet.emission peer some in
+              let line = some_line g.platform g.guarded.laws function h.address peer h.direct in
+              let path = path_to g.platform g.guarded d.share.domain function mine line.0 line.1 line.2 in
+              on_way (across peer function path.0) (GoesBy.Across function peer line.0 path.0 from some mine line.1 line.2 (ap (let_by g.platform line.0) h.same ∙ line.3) path.1)
       by (HasWay.ToFunction function from to) =
           let g = fabric.guarded guarded in
           let is : o ≡ origin.Host d.share.domain = same_Some o (origin.Host d.share.domain) (sym source ∙ from) in
@@ -118,7 +138,7 @@ module _ (w w' : World) (fabric : IsFabric w) (guarded : is_guarded w ≡ true) 
 
   -- ---- an end
 
-  answers : (frame : Descriptor) → IsFlown w.agents.domains frame → (made : Made) (between : Standings) (direction : Direction) (from : Origin) → Leaving (standing_at w) between (Ingress direction) frame → carrier d.share frame.head.parties ≡ Some from
+  answers : (frame : Descriptor) (f : IsFlown w.agents.domains frame) (made : Made) (between : Standings) (direction : Direction) (from : Origin) → Leaving (standing_at w) between (Ingress direction) frame → carrier d.share f.emission.bytes f.emission.parties ≡ Some from
       → JoiningIf between (standing_at w') (Outbox from) made.sent → New d d' place n packet (Carry frame.number) (place_of w.agents.domains frame.domain) made → ((function : ℕ) → from ≡ origin.Function function → IsOwn function) → Stands
   answers frame f made between direction from l sender j x own =
       stands between from (λ r. all_left (standing_at w) between (Ingress direction) frame l (IsNo (is_numbered d.share.domain n)) r (none_yet r)) (subst (JoiningIf between (standing_at w') (Outbox from)) x.sent j)
@@ -132,12 +152,12 @@ module _ (w w' : World) (fabric : IsFabric w) (guarded : is_guarded w ≡ true) 
   ends : (frame : Descriptor) → IsFlown w.agents.domains frame → (made : Made) (between : Standings) (direction : Direction) (entry : Entry) (target : Place) → Finishes (fabric.guarded guarded).platform frame direction entry target
       → Leaving (standing_at w) between (Ingress direction) frame → JoiningIf between (standing_at w') target made.sent → New d d' place n packet entry (place_of w.agents.domains frame.domain) made → Stands
   ends frame f made between _ _ _ (Finishes.Stopped line report is_port parties course sound) l j x = absurd (no_way (sym x.from) has)
-  ends frame f made between direction _ _ (Finishes.CarriedByHost function parties) l j x =
+  ends frame f made between direction _ _ (Finishes.CarriedByHost own) l j x =
       let home : frame.domain ≡ d.share.domain = is_home w.agents.domains frame.domain place d at x.here in
-      answers frame f made between direction (origin.Host frame.domain) l (ap (carrier d.share) parties ∙ ap (λ (k : ℕ). Some (origin.Host k)) (sym home)) j x (λ other e. absurd cc)
-  ends frame f made between _ _ _ (Finishes.CarriedByFunction function parties) l j x =
+      answers frame f made between direction (origin.Host frame.domain) l (host_carries w (fabric.guarded guarded) place d at frame f own ∙ ap (λ (k : ℕ). Some (origin.Host k)) (sym home)) j x (λ other e. absurd cc)
+  ends frame f made between _ _ _ (Finishes.CarriedByFunction function request) l j x =
       let home : frame.domain ≡ d.share.domain = is_home w.agents.domains frame.domain place d at x.here in
-      answers frame f made between (to_function function) (origin.Function function) l (ap (carrier d.share) parties) j x (λ other e. of_function IsOwn function other e (answerer_own frame between function l parties home))
+      answers frame f made between (to_function function) (origin.Function function) l (function_carries w (fabric.guarded guarded) place d at frame f function request) j x (λ other e. of_function IsOwn function other e (answerer_own frame between function l request home))
 
   -- ---- any deed
 

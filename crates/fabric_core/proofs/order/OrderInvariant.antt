@@ -15,7 +15,6 @@ use Rattle.request_handling.specs.Emissions.{Emission}
 use Rattle.domain_parts.specs.State.{item_at}
 use Rattle.domain.proofs.OneOutbox.{first_posted}
 use Rattle.domain.proofs.Sending.{are_sent}
-use Rattle.guarded_routes.proofs.Agreement.{RoutesUp}
 use Rattle.fabric_core.specs.declared.event.Event.{Event}
 use Rattle.fabric_core.specs.Events.{effect}
 use Rattle.fabric_core.specs.Invariant.{IsFabric}
@@ -39,7 +38,7 @@ first_way : (ports : List DownstreamPort) (domain : ℕ) (first second : Sent) �
 first_way ports domain first second (UpFromFunction pair) = HasWay.FromFunction pair.function pair.first_source
 first_way ports domain first second (DownFromHost pair) = HasWay.ToFunction pair.function pair.first_source pair.first_to
 
-module _ (routes : RoutesUp) (w w' : World) (event : Event) (fabric : IsFabric w) (guarded : is_guarded w ≡ true) (moved : effect w event ≡ Some w') (g' : IsGuardedFabric w') (place : ℕ) (d d' : DomainView) (at : slice_get w.agents.domains place ≡ Some d) (at' : slice_get w'.agents.domains place ≡ Some d')
+module _ (w w' : World) (event : Event) (fabric : IsFabric w) (guarded : is_guarded w ≡ true) (moved : effect w event ≡ Some w') (g' : IsGuardedFabric w') (place : ℕ) (d d' : DomainView) (at : slice_get w.agents.domains place ≡ Some d) (at' : slice_get w'.agents.domains place ≡ Some d')
     (stepped : Stepped d d') where
   g : IsGuardedFabric w
   g = fabric.guarded guarded
@@ -96,9 +95,9 @@ module _ (routes : RoutesUp) (w w' : World) (event : Event) (fabric : IsFabric w
         let less = ltb-true n (length (sent d.share d.journal)) e in
         let s = stood less in
         stands_now n packet s.places s.goes
-        (way_kept routes w w' event fabric guarded moved place d d' at at' n packet (listed_before d d' old stepped n packet less listed) posted (flies_then n less flies) s.places s.goes s.keeps flies)
+        (way_kept w w' event fabric guarded moved place d d' at at' n packet (listed_before d d' old stepped n packet less listed) posted (flies_then n less flies) s.places s.goes s.keeps flies)
     on_way false e =
-        let s = new_way w w' fabric guarded g' platforms place d d' at at' n packet listed (ltb-false n (length (sent d.share d.journal)) e) (way_then packet has) (deed_of routes w w' event fabric.kept (fabric.guarded guarded) moved) in
+        let s = new_way w w' fabric guarded g' platforms place d d' at at' n packet listed (ltb-false n (length (sent d.share d.journal)) e) (way_then packet has) (deed_of w w' event fabric.kept (fabric.guarded guarded) moved) in
         stands_now n packet s.places s.goes (subst (λ (x : Share). InOrderOnWay (standing_at w') s.places (is_numbered x.domain n) never) (sym share) s.keeps)
 
     ways : StandsOnWay g'.platform w' d' n packet
@@ -139,7 +138,7 @@ module _ (routes : RoutesUp) (w w' : World) (event : Event) (fabric : IsFabric w
     unfolding pair_then
     stay less some places goes =
         let p = pair_then less in
-        ordered_step routes w w' event fabric guarded moved place d d' at at' n m p some places goes (turns.turns n m p some places goes) (turns.order n m p)
+        ordered_step w w' event fabric guarded moved place d d' at at' n m p some places goes (turns.turns n m p some places goes) (turns.order n m p)
 
     turned : (b : Bool) → nat_lt m (length (sent d.share d.journal)) ≡ b → IsSome (item_at d'.state.flight n) → (places : List Place) → GoesBy g'.platform d'.share.domain pair.first places → OrderOf w' d' places n m
     turned true e some places goes =
@@ -151,7 +150,7 @@ module _ (routes : RoutesUp) (w w' : World) (event : Event) (fabric : IsFabric w
         let s = stood n pair.first pair.first_at posted has some (first_older long) in
         let here = one_places (fabric.guarded guarded).platform (fabric.guarded guarded).guarded d.share.domain pair.first s.places places s.goes before in
         turn_now places n m
-        (new_turn routes w w' event fabric guarded moved place d d' at at' n m pair long (flies_then n (first_older long) some) some places before (subst (λ (q : List Place). KeepsToWay w d q n) here s.keeps))
+        (new_turn w w' event fabric guarded moved place d d' at at' n m pair long (flies_then n (first_older long) some) some places before (subst (λ (q : List Place). KeepsToWay w d q n) here s.keeps))
 
     kept_order : m < length (sent d.share d.journal) → (o : Option Emission) → item_at d.state.flight n ≡ o → is_in_order n m d'.journal ≡ true
     kept_order less None flies =
@@ -174,8 +173,8 @@ module _ (routes : RoutesUp) (w w' : World) (event : Event) (fabric : IsFabric w
     order = λ n m pair. ordered n m pair (nat_lt m (length (sent d.share d.journal))) refl;
   }
 
-pub way_order_after : (routes : RoutesUp) (w w' : World) (event : Event) (fabric : IsFabric w) → is_guarded w ≡ true → effect w event ≡ Some w' → (g' : IsGuardedFabric w') → KeepWayOrder g'.platform w'
-way_order_after routes w w' event fabric guarded moved g' place d' at' =
+pub way_order_after : (w w' : World) (event : Event) (fabric : IsFabric w) → is_guarded w ≡ true → effect w event ≡ Some w' → (g' : IsGuardedFabric w') → KeepWayOrder g'.platform w'
+way_order_after w w' event fabric guarded moved g' place d' at' =
     let g = fabric.guarded guarded in
-    let b = before g.platform w w' (deed_of routes w w' event fabric.kept g moved) place d' at' in
-    in_turn routes w w' event fabric guarded moved g' place b.d d' b.at at' b.stepped
+    let b = before g.platform w w' (deed_of w w' event fabric.kept g moved) place d' at' in
+    in_turn w w' event fabric guarded moved g' place b.d d' b.at at' b.stepped

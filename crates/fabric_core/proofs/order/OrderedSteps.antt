@@ -16,16 +16,16 @@ use Rattle.platform.specs.Share.{Share}
 use Rattle.bridge.specs.Bridges.{Routes}
 use Rattle.domain.specs.Consumed.{consumes, is_in_order, times_consumed, times_waiting}
 use Rattle.domain.specs.Domains.{DomainView}
-use Rattle.domain.specs.Orders.{DownFromHost, IsTo, KeepOrder, UpFromFunction}
-use Rattle.domain.specs.Sent.{Sent, sent}
+use Rattle.domain.specs.Orders.{DownFromHost, IsTo, KeepOrder, UpFromFunction, direct_from}
+use Rattle.domain.specs.Sent.{IsBySource, Sent, sent}
+use Rattle.request_handling.specs.Heads.{head_of}
 use Rattle.request_handling.specs.Emissions.{Emission}
 use Rattle.domain_parts.specs.State.{item_at}
 use Rattle.domain.specs.declared.entry.Entry.{Entry}
 use Rattle.domain.proofs.Consuming.{consumed_once}
 use Rattle.domain.proofs.ConsumedInOrder.{in_order_after}
-use Rattle.domain.proofs.Sending.{are_sent}
+use Rattle.domain.proofs.Sending.{are_sent, sender_of_sent}
 use Rattle.domains.specs.Domains.{Made, after, domain_at, made_at, place_of}
-use Rattle.guarded_routes.proofs.Agreement.{RoutesUp}
 use Rattle.fabric_core.specs.declared.event.Event.{Event}
 use Rattle.fabric_core.specs.Events.{effect}
 use Rattle.fabric_core.specs.Invariant.{IsFabric, IsConsistent}
@@ -39,7 +39,8 @@ use Rattle.fabric_core.proofs.order.DeedOf.{deed_of}
 use Rattle.fabric_core.proofs.order.DownwardOrder.{AreDown, down_delivers, down_ends, down_goes}
 use Rattle.fabric_core.proofs.invariant.Flying.{one_if, within}
 use Rattle.fabric_core.proofs.soundness.Guarded.{guarded_after}
-use Rattle.fabric_core.proofs.order.KeptOrder.{are_down, are_up, is_domain}
+use Rattle.fabric_core.proofs.order.KeptOrder.{are_across, are_down, are_up, is_domain}
+use Rattle.fabric_core.proofs.order.AcrossOrder.{AreAcross, across_delivers, across_ends, across_goes, let_peer}
 use Rattle.fabric_core.proofs.places.OnePlace.{one_place}
 use Rattle.fabric_core.proofs.invariant.Settling.{either_there, is_home, made_from, replaced}
 use Rattle.fabric_core.proofs.soundness.SoundDomains.{sent_is}
@@ -136,6 +137,9 @@ one_function a b (Answer answerer None) x y = absurd x
 one_function a b (Answer answerer (Some (origin.Function f))) x y = sym x ∙ y
 one_function a b (Answer answerer (Some (origin.Host h))) x y = absurd x
 
+pub one_function_of : (a b : ℕ) → ◌≡◌ {A = Option Origin} (Some (origin.Function a)) (Some (origin.Function b)) → a ≡ b
+one_function_of a b e = cc
+
 pub some_waits : (o : Option Emission) → IsSome o → times_waiting o ≡ 1
 some_waits None some = absurd cc
 some_waits (Some e) some = refl
@@ -146,7 +150,7 @@ at_most_one false = omega arith
 
 -- ---- the two packets
 
-module _ (routes : RoutesUp) (w w' : World) (fabric : IsFabric w) (guarded : is_guarded w ≡ true) (place : ℕ) (d d' : DomainView) (at : slice_get w.agents.domains place ≡ Some d) (at' : slice_get w'.agents.domains place ≡ Some d') (g' : IsGuardedFabric w') (n m : ℕ)
+module _ (w w' : World) (fabric : IsFabric w) (guarded : is_guarded w ≡ true) (place : ℕ) (d d' : DomainView) (at : slice_get w.agents.domains place ≡ Some d) (at' : slice_get w'.agents.domains place ≡ Some d') (g' : IsGuardedFabric w') (n m : ℕ)
     (pair : AreOrdered d n m) (e : Emission) (flies : item_at d.state.flight n ≡ Some e) where
   g : IsGuardedFabric w
   g = fabric.guarded guarded
@@ -173,6 +177,12 @@ module _ (routes : RoutesUp) (w w' : World) (fabric : IsFabric w) (guarded : is_
   second_is : (y : Emission) → flown w.agents.domains d.share.domain m ≡ Some y → y ≡ pair.second.emission
   second_is y there = emission_is m pair.second y pair.second_at (sym (flown_here w fabric.kept place d at m) ∙ there)
 
+  first_by : IsBySource pair.first
+  first_by = sender_of_sent d.share d.journal d.state old.replayed n pair.first pair.first_at
+
+  second_by : IsBySource pair.second
+  second_by = sender_of_sent d.share d.journal d.state old.replayed m pair.second pair.second_at
+
   shown : All (IsFlown w.agents.domains) (frames_of w)
   shown = (one_place w fabric guarded).shown
 
@@ -191,19 +201,33 @@ module _ (routes : RoutesUp) (w w' : World) (fabric : IsFabric w) (guarded : is_
   keep = subst (λ (ports : List DownstreamPort). KeepOrder ports d.share.domain pair.first pair.second) ports_are pair.keep
 
   keeps : (places : List Place) → GoesBy (fabric.guarded guarded).platform d.share.domain pair.first places → KeepOrder (fabric.guarded guarded).platform.ports d.share.domain pair.first pair.second → KeepsOn places
-  keeps _ (GoesBy.Up function links source own way) (UpFromFunction k) =
+  keeps _ (GoesBy.Up function links source none own way) (UpFromFunction k) =
       let number = d.share.domain in
-      let are = are_up routes w (fabric.guarded guarded) shown number n m pair.first pair.second first_is second_is k in record {
+      let same = one_function_of k.function function (sym k.first_source ∙ source) in
+      let are = are_up w (fabric.guarded guarded) shown number n m pair.first pair.second first_is second_is first_by second_by k (ap (λ (f : ℕ). direct_from (fabric.guarded guarded).platform.ports f pair.first.emission) same ∙ none) in record {
         goes = λ f' source target y leaps mv t. up_goes w (fabric.guarded guarded) number function links own way (is_numbered number n) (is_numbered number m) are f' source target y leaps mv t;
         ends = λ f' direction y l t is_p is_q entry target finishes. up_ends w (fabric.guarded guarded) number function links own way (is_numbered number n) (is_numbered number m) are f' direction y l t is_p is_q entry target finishes;
         delivers = λ f' direction y l t is_p is_q last. up_delivers w (fabric.guarded guarded) number function links own way (is_numbered number n) (is_numbered number m) are f' direction y l t is_p is_q last;
         fresh = fresh_two;
       }
-  keeps _ (GoesBy.Up function links source own way) (DownFromHost k) = absurd (other_source function d.share.domain (sym source ∙ k.first_source))
+  keeps _ (GoesBy.Up function links source none own way) (DownFromHost k) = absurd (other_source function d.share.domain (sym source ∙ k.first_source))
+  keeps _ (GoesBy.Across function peer line links source some own listed held lets path) (UpFromFunction k) =
+      let g = fabric.guarded guarded in
+      let number = d.share.domain in
+      let same = one_function_of k.function function (sym k.first_source ∙ source) in
+      let beyond = let_peer g.platform g.guarded line listed peer (head_of pair.first.emission).header lets in
+      let are_k = are_across w g shown number n m pair.first pair.second first_is second_is first_by second_by k peer (ap (λ (f : ℕ). direct_from g.platform.ports f pair.first.emission) same ∙ some) in
+      let are : AreAcross g.platform function peer (standing_at w) (is_numbered number n) (is_numbered number m) = subst (λ (f : ℕ). AreAcross g.platform f peer (standing_at w) (is_numbered number n) (is_numbered number m)) same are_k in record {
+        goes = λ f' source target y leaps mv t. across_goes w g number function peer line links own listed held path beyond.0 beyond.1 (is_numbered number n) (is_numbered number m) are f' source target y leaps mv t;
+        ends = λ f' direction y l t is_p is_q entry target finishes. across_ends w g number function peer line links own listed held path beyond.0 beyond.1 (is_numbered number n) (is_numbered number m) are f' direction y l t is_p is_q entry target finishes;
+        delivers = λ f' direction y l t is_p is_q last. across_delivers w g number function peer line links own listed held path beyond.0 beyond.1 (is_numbered number n) (is_numbered number m) are f' direction y l t is_p is_q last;
+        fresh = fresh_two;
+      }
+  keeps _ (GoesBy.Across function peer line links source some own listed held lets path) (DownFromHost k) = absurd (other_source function d.share.domain (sym source ∙ k.first_source))
   keeps _ (GoesBy.Down function links source to own way) (UpFromFunction k) = absurd (other_source k.function d.share.domain (sym k.first_source ∙ source))
   keeps _ (GoesBy.Down function links source to own way) (DownFromHost k) =
       let number = d.share.domain in
-      let are = are_down routes w (fabric.guarded guarded) shown number n m pair.first pair.second first_is second_is k in
+      let are = are_down w (fabric.guarded guarded) shown number n m pair.first pair.second first_is second_is first_by second_by k in
       let same : k.function ≡ function = one_function k.function function pair.first.emission.parties k.first_to to in
       let are_to : AreDown function (standing_at w) (is_numbered number n) (is_numbered number m) = subst (λ (h : ℕ). AreDown h (standing_at w) (is_numbered number n) (is_numbered number m)) same are in record {
         goes = λ f' source target y leaps mv t. down_goes w (fabric.guarded guarded) number function links own way (is_numbered number n) (is_numbered number m) are_to f' source target y leaps mv t;
@@ -269,16 +293,16 @@ module _ (routes : RoutesUp) (w w' : World) (fabric : IsFabric w) (guarded : is_
       (next_here w fabric.kept place d at w' d' at' k.entry (place_of w.agents.domains frame.domain) k.m k.is k.domains
       (ap (place_of w.agents.domains) (is_domain d.share.domain n frame is_p).0 ∙ fabric.kept.settled.numbered place d at))
 
-pub ordered_step : (routes : RoutesUp) (w w' : World) (event : Event) (fabric : IsFabric w) (guarded : is_guarded w ≡ true) → effect w event ≡ Some w' → (place : ℕ) (d d' : DomainView) → slice_get w.agents.domains place ≡ Some d → slice_get w'.agents.domains place ≡ Some d' → (n m : ℕ) (pair : AreOrdered d n m)
+pub ordered_step : (w w' : World) (event : Event) (fabric : IsFabric w) (guarded : is_guarded w ≡ true) → effect w event ≡ Some w' → (place : ℕ) (d d' : DomainView) → slice_get w.agents.domains place ≡ Some d → slice_get w'.agents.domains place ≡ Some d' → (n m : ℕ) (pair : AreOrdered d n m)
     → IsSome (item_at d.state.flight n) → (places : List Place) → GoesBy (fabric.guarded guarded).platform d.share.domain pair.first places → OrderOf w d places n m → is_in_order n m d.journal ≡ true → StayOrdered w' d' places n m
-ordered_step routes w w' event fabric guarded moved place d d' at at' n m pair some places goes turn order = by (item_at d.state.flight n) refl some
+ordered_step w w' event fabric guarded moved place d d' at at' n m pair some places goes turn order = by (item_at d.state.flight n) refl some
   where
     by : (o : Option Emission) → item_at d.state.flight n ≡ o → IsSome o → StayOrdered w' d' places n m
     by None flies some = absurd cc
     by (Some e) flies some =
         let g = fabric.guarded guarded in
-        let g' = guarded_after routes w w' event fabric.kept g moved in
-        stays routes w w' fabric guarded place d d' at at' g' n m pair e flies places order
+        let g' = guarded_after w w' event fabric.kept g moved in
+        stays w w' fabric guarded place d d' at at' g' n m pair e flies places order
         (after_deed w w' g places (is_numbered d.share.domain n) (is_numbered d.share.domain m)
-        (keeps routes w w' fabric guarded place d d' at at' g' n m pair e flies places goes (keep routes w w' fabric guarded place d d' at at' g' n m pair e flies))
-        (deed_of routes w w' event fabric.kept g moved) turn)
+        (keeps w w' fabric guarded place d d' at at' g' n m pair e flies places goes (keep w w' fabric guarded place d d' at at' g' n m pair e flies))
+        (deed_of w w' event fabric.kept g moved) turn)

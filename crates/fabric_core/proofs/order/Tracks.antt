@@ -1,14 +1,15 @@
 -- The places of a function's way follow each other as packets go: each stands once, and what leaves one for the next on the
 -- way goes to the place before it.
-use Rattle.std.proofs.Common.{◌≡◌, ◌≢◌, ◌⊎◌, inl, inr, ℕ, ◌<◌, ◌==◌, true, List, [], ◌∷◌, ◌++◌, All, Some, None, refl, sym, ap, ◌∙◌, subst, arith, append_assoc, ⊎_elim}
+use Rattle.std.proofs.Common.{◌≡◌, ◌≢◌, ◌⊎◌, inl, inr, ℕ, ◌<◌, ◌≤◌, ◌==◌, true, List, [], ◌∷◌, ◌++◌, All, Some, None, refl, sym, ap, ◌∙◌, subst, arith, append_assoc, ⊎_elim}
 use Rattle.std.specs.Prelude.{⊤}
-use Rattle.std.proofs.lemmas.List.Elements.{All-cons, All-head, All-nil, All-tail}
+use Rattle.std.proofs.lemmas.List.Elements.{All-head, All-tail}
 use Rattle.fab_types.specs.Id.{bus_of}
 use Rattle.fab_types.specs.declared.place.Direction.{Direction}
 use Rattle.fab_types.specs.declared.origin.Origin.{Origin}
 use Rattle.fab_types.specs.declared.origin.Origin.TheVariants as origin
 use Rattle.fab_types.specs.declared.place.Place.{Place}
 use Rattle.fab_types.specs.declared.place.Place.TheVariants.{Outbox, Egress, Wire, Ingress}
+use Rattle.fab_types.specs.declared.place.Way.{Way}
 use Rattle.fab_types.specs.declared.place.Way.TheVariants.{Up, Down}
 use Rattle.platform.specs.Platform.{Platform}
 use Rattle.platform.specs.Owners.{is_function}
@@ -17,14 +18,14 @@ use Rattle.topology.proofs.Members.{found, some_passes}
 use Rattle.std.proofs.lemmas.Bool.{eq-eqb}
 use Rattle.platform.specs.Tree.{internal_bus}
 use Rattle.guarded_routes.specs.Guarded.{IsFunctionOf, IsGuarded, is_below, top_id}
-use Rattle.guarded_routes.specs.Links.{IsWay, link_above}
+use Rattle.guarded_routes.specs.Links.{IsPath, IsWay, link_above}
 use Rattle.guarded_routes.proofs.Finds.{some_is}
-use Rattle.guarded_routes.proofs.Links.{joined, none_above}
+use Rattle.guarded_routes.proofs.Links.{all_before, joined, none_above, none_after_last}
 use Rattle.guarded_routes.proofs.LinksBelow.{one_below_switch, way_holds}
 use Rattle.guarded_routes.proofs.Nodes.{apart}
 use Rattle.fabric_core.specs.Receipts.{from_host as host_link}
 use Rattle.fabric_core.specs.Events.{link_of}
-use Rattle.fabric_core.specs.Trails.{In, down, from_function, from_host, places_down, places_on, places_up, up}
+use Rattle.fabric_core.specs.Trails.{In, across, down, from_function, from_host, places_down, places_on, places_up, up}
 use Rattle.fabric_core.proofs.order.Trails.{Adjoin, AreDistinct, IsNot, adjoin_back, adjoin_front, not_append}
 
 -- ---- lists of places
@@ -221,23 +222,22 @@ down_from_outbox : (o : Origin) (links : List ℕ) → AreApart (places_down lin
 down_from_outbox o [] = tt
 down_from_outbox o (l ∷ ls) = apart_append (places_on (down l)) (places_down ls) (Outbox o ∷ []) (on_outbox (down l) o) (down_from_outbox o ls)
 
-all_before : (platform : Platform) (bus lower : ℕ) (links : List ℕ) → IsWay platform lower links → bus_of lower < bus → All (IsBefore bus) links
-all_before platform bus _ _ IsWay.AtTop less = All-cons (IsBefore bus) top_id [] less (All-nil (IsBefore bus))
-all_before platform bus _ _ (IsWay.Above lower above links e falls way) less = All-cons (IsBefore bus) lower links less (all_before platform bus above links way (omega (arith, falls, less)))
-
-up_distinct : (platform : Platform) (lower : ℕ) (links : List ℕ) → IsWay platform lower links → AreDistinct (places_up links)
-up_distinct platform _ _ IsWay.AtTop = on_distinct (up top_id)
-up_distinct platform _ _ (IsWay.Above lower above links e falls way) =
-    distinct_append (places_up links) (places_on (up lower)) (up_distinct platform above links way) (on_distinct (up lower)) (up_apart lower links (all_before platform (bus_of lower) above links way falls))
+up_distinct : (platform : Platform) (last lower : ℕ) (links : List ℕ) → IsPath platform last lower links → AreDistinct (places_up links)
+up_distinct platform last _ _ IsPath.AtLast = on_distinct (up last)
+up_distinct platform last _ _ (IsPath.Above lower above links e falls way) =
+    distinct_append (places_up links) (places_on (up lower)) (up_distinct platform last above links way) (on_distinct (up lower)) (up_apart lower links (all_before platform last (bus_of lower) above links way falls))
 
 down_distinct : (platform : Platform) (lower : ℕ) (links : List ℕ) → IsWay platform lower links → AreDistinct (places_down links)
-down_distinct platform _ _ IsWay.AtTop = on_distinct (down top_id)
-down_distinct platform _ _ (IsWay.Above lower above links e falls way) =
-    distinct_append (places_on (down lower)) (places_down links) (on_distinct (down lower)) (down_distinct platform above links way) (down_apart lower links (all_before platform (bus_of lower) above links way falls))
+down_distinct platform _ _ IsPath.AtLast = on_distinct (down top_id)
+down_distinct platform _ _ (IsPath.Above lower above links e falls way) =
+    distinct_append (places_on (down lower)) (places_down links) (on_distinct (down lower)) (down_distinct platform above links way) (down_apart lower links (all_before platform top_id (bus_of lower) above links way falls))
+
+path_distinct : (platform : Platform) (last function : ℕ) (links : List ℕ) → IsPath platform last function links → AreDistinct (from_function function links)
+path_distinct platform last function links way =
+    let o = origin.Function function in distinct_append (places_up links) (Outbox o ∷ []) (up_distinct platform last function links way) (tt, tt) (up_from_outbox o links)
 
 pub function_distinct : (platform : Platform) (function : ℕ) (links : List ℕ) → IsWay platform function links → AreDistinct (from_function function links)
-function_distinct platform function links way =
-    let o = origin.Function function in distinct_append (places_up links) (Outbox o ∷ []) (up_distinct platform function links way) (tt, tt) (up_from_outbox o links)
+function_distinct platform function links way = path_distinct platform top_id function links way
 
 pub host_distinct : (platform : Platform) (domain function : ℕ) (links : List ℕ) → IsWay platform function links → AreDistinct (from_host domain links)
 host_distinct platform domain function links way =
@@ -249,19 +249,17 @@ host_distinct platform domain function links way =
 data Begins (lower : ℕ) (links : List ℕ) : Type 0 where
   With : (rest : List ℕ) → links ≡ lower ∷ rest → Begins lower links
 
-begins : (platform : Platform) (lower : ℕ) (links : List ℕ) → IsWay platform lower links → Begins lower links
-begins platform _ _ IsWay.AtTop = Begins.With [] refl
-begins platform _ _ (IsWay.Above lower above links e falls way) = Begins.With links refl
+begins : (platform : Platform) (last lower : ℕ) (links : List ℕ) → IsPath platform last lower links → Begins lower links
+begins platform last _ _ IsPath.AtLast = Begins.With [] refl
+begins platform last _ _ (IsPath.Above lower above links e falls way) = Begins.With links refl
 
 module _ (platform : Platform) (g : IsGuarded platform) where
-  -- what rises goes to the link above
-  rises : (lower above first : ℕ) (links : List ℕ) → link_above platform lower ≡ Some above → IsWay platform first links → In (Ingress (up lower)) (places_up links) → Adjoin (Egress (up above)) (Ingress (up lower)) (places_up links)
-  rises lower above _ _ is IsWay.AtTop at =
-      let same = ap (λ (d : Direction). d.lower) (ingress_on (up lower) (up top_id) at) in
-      let none : link_above platform lower ≡ None = ap (link_above platform) same ∙ none_above platform g in absurd cc
-  rises lower above _ _ is (IsWay.Above l a links e falls way) at =
-      ⊎_elim (λ x. adjoin_back (Egress (up above)) (Ingress (up lower)) (places_up links) (places_on (up l)) (rises lower above a links is way x))
-      (λ x. begin (begins platform a links way) (ap (λ (d : Direction). d.lower) (ingress_on (up lower) (up l) x)))
+  -- what rises goes to the link above, but from the last
+  rises : (last lower above first : ℕ) (links : List ℕ) → link_above platform lower ≡ Some above → lower ≢ last → IsPath platform last first links → In (Ingress (up lower)) (places_up links) → Adjoin (Egress (up above)) (Ingress (up lower)) (places_up links)
+  rises last lower above _ _ is not IsPath.AtLast at = absurd (not (ap (λ (d : Direction). d.lower) (ingress_on (up lower) (up last) at)))
+  rises last lower above _ _ is not (IsPath.Above l a links e falls way) at =
+      ⊎_elim (λ x. adjoin_back (Egress (up above)) (Ingress (up lower)) (places_up links) (places_on (up l)) (rises last lower above a links is not way x))
+      (λ x. begin (begins platform last a links way) (ap (λ (d : Direction). d.lower) (ingress_on (up lower) (up l) x)))
       (in_append (Ingress (up lower)) (places_up links) (places_on (up l)) at)
     where
       here : (rest : List ℕ) → links ≡ a ∷ rest → lower ≡ l → Adjoin (Egress (up above)) (Ingress (up lower)) (places_up links ++ places_on (up l))
@@ -275,8 +273,11 @@ module _ (platform : Platform) (g : IsGuarded platform) where
       begin : Begins a links → lower ≡ l → Adjoin (Egress (up above)) (Ingress (up lower)) (places_up links ++ places_on (up l))
       begin (Begins.With rest starts) same = here rest starts same
 
-  enters_up : (o : Origin) (first : ℕ) (links : List ℕ) → IsWay platform first links → Adjoin (Egress (up first)) (Outbox o) (places_up links ++ Outbox o ∷ [])
-  enters_up o first links way = by (begins platform first links way)
+  not_top : (lower above : ℕ) → link_above platform lower ≡ Some above → lower ≢ top_id
+  not_top lower above is same = let none : link_above platform lower ≡ None = ap (link_above platform) same ∙ none_above platform g in absurd cc
+
+  enters_up : (o : Origin) (last first : ℕ) (links : List ℕ) → IsPath platform last first links → Adjoin (Egress (up first)) (Outbox o) (places_up links ++ Outbox o ∷ [])
+  enters_up o last first links way = by (begins platform last first links way)
     where
       by : Begins first links → Adjoin (Egress (up first)) (Outbox o) (places_up links ++ Outbox o ∷ [])
       by (Begins.With rest is) =
@@ -284,8 +285,8 @@ module _ (platform : Platform) (g : IsGuarded platform) where
           (adjoin_joined (Ingress (up first)) (Wire (up first)) (Egress (up first)) (Outbox o) (places_up rest) [])
 
   enters_down : (o : Origin) (first : ℕ) (links : List ℕ) → IsWay platform first links → Adjoin (Egress host_link) (Outbox o) (places_down links ++ Outbox o ∷ [])
-  enters_down o _ _ IsWay.AtTop = adjoin_joined (Ingress host_link) (Wire host_link) (Egress host_link) (Outbox o) [] []
-  enters_down o _ _ (IsWay.Above l a links e falls way) =
+  enters_down o _ _ IsPath.AtLast = adjoin_joined (Ingress host_link) (Wire host_link) (Egress host_link) (Outbox o) [] []
+  enters_down o _ _ (IsPath.Above l a links e falls way) =
       subst (Adjoin (Egress host_link) (Outbox o)) (sym (append_assoc (places_on (down l)) (places_down links) (Outbox o ∷ [])))
       (adjoin_front (Egress host_link) (Outbox o) (places_on (down l)) (places_down links ++ Outbox o ∷ []) (enters_down o a links way))
 
@@ -298,8 +299,8 @@ module _ (platform : Platform) (g : IsGuarded platform) where
     Fallen places = Adjoin (Egress (down lower)) (Ingress (down above)) places
 
     falls_in : (first : ℕ) (links : List ℕ) → IsWay platform first links → All HasBelow links → In (Ingress (down above)) (places_down links) → (above ≡ first) ⊎ Fallen (places_down links)
-    falls_in _ _ IsWay.AtTop all at = inl (ap (λ (d : Direction). d.lower) (ingress_on (down above) (down top_id) at))
-    falls_in _ _ (IsWay.Above l a links e falls way) all at =
+    falls_in _ _ IsPath.AtLast all at = inl (ap (λ (d : Direction). d.lower) (ingress_on (down above) (down top_id) at))
+    falls_in _ _ (IsPath.Above l a links e falls way) all at =
         ⊎_elim (λ x. inl (ap (λ (d : Direction). d.lower) (ingress_on (down above) (down l) x))) (λ x. next (falls_in a links way (All-tail HasBelow l links all) x))
         (in_append (Ingress (down above)) (places_on (down l)) (places_down links) at)
       where
@@ -312,26 +313,26 @@ module _ (platform : Platform) (g : IsGuarded platform) where
             (adjoin_joined (Ingress (down l)) (Wire (down l)) (Egress (down l)) (Ingress (down a)) [] (Wire (down a) ∷ Egress (down a) ∷ places_down rest))))
 
         next : (above ≡ a) ⊎ Fallen (places_down links) → (above ≡ l) ⊎ Fallen (places_on (down l) ++ places_down links)
-        next (inl same) = inr (begin (begins platform a links way) same)
+        next (inl same) = inr (begin (begins platform top_id a links way) same)
         next (inr x) = inr (adjoin_front (Egress (down lower)) (Ingress (down above)) (places_on (down l)) (places_down links) x)
 
   -- the link above another is that of a switch
-  above_switch : (lower above : ℕ) → link_above platform lower ≡ Some above → is_function platform.functions above ≡ true → ⊥
+  pub above_switch : (lower above : ℕ) → link_above platform lower ≡ Some above → is_function platform.functions above ≡ true → ⊥
   above_switch lower above e listed =
       let j = joined platform g lower above e in
       let within = found (λ (s : Switch). internal_bus s == bus_of j.port.id) platform.switches j.over.switch j.over.on in
       apart platform g above listed (some_passes (λ (s : Switch). s.id == above) platform.switches j.over.switch within.0 (eq-eqb j.over.switch.id above j.is))
 
-  -- a way of links begins at the host
-  first_up : (first : ℕ) (links : List ℕ) → IsWay platform first links → (rest : List Place) × (places_up links ≡ Ingress (up top_id) ∷ rest)
-  first_up _ _ IsWay.AtTop = (Wire (up top_id) ∷ Egress (up top_id) ∷ [], refl)
-  first_up _ _ (IsWay.Above l a links e falls way) = let t = first_up a links way in (t.0 ++ places_on (up l), ap (λ (xs : List Place). xs ++ places_on (up l)) t.1)
+  -- the places of a path begin at its last link
+  first_up : (last first : ℕ) (links : List ℕ) → IsPath platform last first links → (rest : List Place) × (places_up links ≡ Ingress (up last) ∷ rest)
+  first_up last _ _ IsPath.AtLast = (Wire (up last) ∷ Egress (up last) ∷ [], refl)
+  first_up last _ _ (IsPath.Above l a links e falls way) = let t = first_up last a links way in (t.0 ++ places_on (up l), ap (λ (xs : List Place). xs ++ places_on (up l)) t.1)
 
   -- and has no function but the first
-  function_on_way : (lower : ℕ) → is_function platform.functions lower ≡ true → (first : ℕ) (links : List ℕ) → IsWay platform first links → In (Ingress (up lower)) (places_up links) → lower ≡ first
-  function_on_way lower listed _ _ IsWay.AtTop at = ap (λ (d : Direction). d.lower) (ingress_on (up lower) (up top_id) at)
-  function_on_way lower listed _ _ (IsWay.Above l a links e falls way) at =
-      ⊎_elim (λ x. absurd (above_switch l a e (ap (is_function platform.functions) (sym (function_on_way lower listed a links way x)) ∙ listed)))
+  function_on_way : (lower : ℕ) → is_function platform.functions lower ≡ true → (last first : ℕ) (links : List ℕ) → IsPath platform last first links → In (Ingress (up lower)) (places_up links) → lower ≡ first
+  function_on_way lower listed last _ _ IsPath.AtLast at = ap (λ (d : Direction). d.lower) (ingress_on (up lower) (up last) at)
+  function_on_way lower listed last _ _ (IsPath.Above l a links e falls way) at =
+      ⊎_elim (λ x. absurd (above_switch l a e (ap (is_function platform.functions) (sym (function_on_way lower listed last a links way x)) ∙ listed)))
       (λ x. ap (λ (d : Direction). d.lower) (ingress_on (up lower) (up l) x)) (in_append (Ingress (up lower)) (places_up links) (places_on (up l)) at)
 
   -- ---- on the whole way
@@ -347,7 +348,7 @@ module _ (platform : Platform) (g : IsGuarded platform) where
     function_received a at = adjoin_back (Ingress a) (Wire a) (places_up links) (Outbox out_of ∷ []) (received_up a links (up_in out_of (Wire a) links (λ e. cc) at))
 
     pub function_rises : (lower above : ℕ) → link_above platform lower ≡ Some above → In (Ingress (up lower)) (from_function function links) → Adjoin (Egress (up above)) (Ingress (up lower)) (from_function function links)
-    function_rises lower above is at = adjoin_back (Egress (up above)) (Ingress (up lower)) (places_up links) (Outbox out_of ∷ []) (rises lower above function links is way (up_in out_of (Ingress (up lower)) links (λ e. cc) at))
+    function_rises lower above is at = adjoin_back (Egress (up above)) (Ingress (up lower)) (places_up links) (Outbox out_of ∷ []) (rises top_id lower above function links is (not_top lower above is) way (up_in out_of (Ingress (up lower)) links (λ e. cc) at))
 
     function_outbox : (a : Origin) → In (Outbox a) (from_function function links) → a ≡ out_of
     function_outbox a at = by (in_append (Outbox a) (places_up links) (Outbox out_of ∷ []) at)
@@ -357,7 +358,7 @@ module _ (platform : Platform) (g : IsGuarded platform) where
         by (inr x) = outbox_is a out_of x
 
     pub function_enters : (a : Origin) → In (Outbox a) (from_function function links) → Adjoin (Egress (link_of a)) (Outbox a) (from_function function links)
-    function_enters a at = subst (λ (o : Origin). Adjoin (Egress (link_of o)) (Outbox o) (from_function function links)) (sym (function_outbox a at)) (enters_up out_of function links way)
+    function_enters a at = subst (λ (o : Origin). Adjoin (Egress (link_of o)) (Outbox o) (from_function function links)) (sym (function_outbox a at)) (enters_up out_of top_id function links way)
 
     pub function_ingress : (a : Direction) → In (Ingress a) (from_function function links) → a.way ≡ Up
     function_ingress a at = ingress_up a links (up_in out_of (Ingress a) links (λ e. cc) at)
@@ -396,21 +397,21 @@ module _ (platform : Platform) (g : IsGuarded platform) where
     -- ---- the first place, and the functions on the way
 
     pub function_first : (rest : List Place) × (from_function function links ≡ Ingress (up top_id) ∷ rest)
-    function_first = let t = first_up function links way in (t.0 ++ Outbox out_of ∷ [], ap (λ (xs : List Place). xs ++ Outbox out_of ∷ []) t.1)
+    function_first = let t = first_up top_id function links way in (t.0 ++ Outbox out_of ∷ [], ap (λ (xs : List Place). xs ++ Outbox out_of ∷ []) t.1)
 
     pub host_first : (rest : List Place) × (from_host domain links ≡ Ingress (down function) ∷ rest)
-    host_first = by (begins platform function links way)
+    host_first = by (begins platform top_id function links way)
       where
         by : Begins function links → (rest : List Place) × (from_host domain links ≡ Ingress (down function) ∷ rest)
         by (Begins.With rest is) = (Wire (down function) ∷ Egress (down function) ∷ (places_down rest ++ Outbox host ∷ []), ap (λ (ls : List ℕ). places_down ls ++ Outbox host ∷ []) is)
 
     pub only_function : (lower : ℕ) → is_function platform.functions lower ≡ true → In (Ingress (up lower)) (from_function function links) → lower ≡ function
-    only_function lower listed at = function_on_way lower listed function links way (up_in out_of (Ingress (up lower)) links (λ e. cc) at)
+    only_function lower listed at = function_on_way lower listed top_id function links way (up_in out_of (Ingress (up lower)) links (λ e. cc) at)
 
     -- the way but its first link has no function
     pub further_link : (l above : ℕ) (rest : List ℕ) → link_above platform function ≡ Some above → IsWay platform above rest → In (Ingress (up l)) (places_up rest) → l ≢ function
     further_link l above rest e further at same =
-        let here = function_on_way l (ap (is_function platform.functions) same ∙ own.listed) above rest further at in
+        let here = function_on_way l (ap (is_function platform.functions) same ∙ own.listed) top_id above rest further at in
         above_switch function above e (ap (is_function platform.functions) (sym here ∙ same) ∙ own.listed)
 
 -- a place on the way up is one of a link's
@@ -447,3 +448,95 @@ not_up o (l ∷ ls) = not_append (Outbox o) (places_up ls) (places_on (up l)) (n
 pub not_down : (o : Origin) (links : List ℕ) → IsNot (Outbox o) (places_down links)
 not_down o [] = tt
 not_down o (l ∷ ls) = not_append (Outbox o) (places_on (down l)) (places_down ls) (not_on o (down l)) (not_down o ls)
+
+-- ---- up to the port that lets a packet through, and on to the function below its peer
+
+way_at : Place → Way
+way_at (Outbox o) = Up
+way_at (Egress d) = d.way
+way_at (Wire d) = d.way
+way_at (Ingress d) = d.way
+
+ways_apart : (one other : Direction) → one.way ≢ other.way → AreApart (places_on one) (places_on other)
+unfolding way_at
+ways_apart one other ne =
+    let no : (x y : Place) → way_at x ≡ one.way → way_at y ≡ other.way → x ≢ y = λ x y a b e. ne (sym a ∙ (ap way_at e ∙ b)) in
+    let row : (x : Place) → way_at x ≡ one.way → IsNot x (places_on other) = λ x a. (no x (Ingress other) a refl, (no x (Wire other) a refl, (no x (Egress other) a refl, tt))) in
+    (row (Ingress one) refl, (row (Wire one) refl, (row (Egress one) refl, tt)))
+
+down_is_not_up : ◌≡◌ Down Up → ⊥
+down_is_not_up e = cc
+
+down_from_up : (peer : ℕ) (links : List ℕ) → AreApart (places_on (down peer)) (places_up links)
+down_from_up peer [] = (tt, (tt, (tt, tt)))
+down_from_up peer (l ∷ ls) = apart_from (places_on (down peer)) (places_up ls) (places_on (up l)) (down_from_up peer ls) (ways_apart (down peer) (up l) down_is_not_up)
+
+-- what is of all links is of each that has a place among them
+held_up : (P : ℕ → Type 0) (l : ℕ) (links : List ℕ) → All P links → In (Ingress (up l)) (places_up links) → P l
+held_up P l [] all at = absurd at
+held_up P l (x ∷ xs) all at =
+    ⊎_elim (λ there. held_up P l xs (All-tail P x xs all) there) (λ here. subst P (sym (ap (λ (d : Direction). d.lower) (ingress_on (up l) (up x) here))) (All-head P x xs all))
+    (in_append (Ingress (up l)) (places_up xs) (places_on (up x)) at)
+
+module _ (platform : Platform) (g : IsGuarded platform) (domain function peer last : ℕ) (links : List ℕ) (own : IsFunctionOf platform domain function) (path : IsPath platform last function links) where
+  abbrev box : Origin
+  box = origin.Function function
+
+  abbrev behind : List Place
+  behind = from_function function links
+
+  pub across_distinct : AreDistinct (across peer function links)
+  across_distinct =
+      distinct_append (places_on (down peer)) behind (on_distinct (down peer)) (path_distinct platform last function links path)
+      (apart_from (places_on (down peer)) (places_up links) (Outbox box ∷ []) (down_from_up peer links) (on_outbox (down peer) box))
+
+  -- behind the function's own link
+  adjoins_behind : (target source : Place) → Adjoin target source (places_up links) → Adjoin target source (across peer function links)
+  adjoins_behind target source at = adjoin_front target source (places_on (down peer)) behind (adjoin_back target source (places_up links) (Outbox box ∷ []) at)
+
+  pub across_sent : (a : Direction) → In (Egress a) (across peer function links) → Adjoin (Wire a) (Egress a) (across peer function links)
+  across_sent a at =
+      ⊎_elim (λ x. adjoin_back (Wire a) (Egress a) (places_on (down peer)) behind (sent_on a (down peer) x)) (λ x. adjoins_behind (Wire a) (Egress a) (sent_up a links (up_in box (Egress a) links (λ e. cc) x)))
+      (in_append (Egress a) (places_on (down peer)) behind at)
+
+  pub across_received : (a : Direction) → In (Wire a) (across peer function links) → Adjoin (Ingress a) (Wire a) (across peer function links)
+  across_received a at =
+      ⊎_elim (λ x. adjoin_back (Ingress a) (Wire a) (places_on (down peer)) behind (received_on a (down peer) x)) (λ x. adjoins_behind (Ingress a) (Wire a) (received_up a links (up_in box (Wire a) links (λ e. cc) x)))
+      (in_append (Wire a) (places_on (down peer)) behind at)
+
+  across_outbox : (a : Origin) → In (Outbox a) (across peer function links) → a ≡ origin.Function function
+  across_outbox a at =
+      ⊎_elim (λ x. absurd (outbox_on a (down peer) x)) (λ x. ⊎_elim (λ y. absurd (up_outbox a links y)) (λ y. outbox_is a box y) (in_append (Outbox a) (places_up links) (Outbox box ∷ []) x))
+      (in_append (Outbox a) (places_on (down peer)) behind at)
+
+  pub across_enters : (a : Origin) → In (Outbox a) (across peer function links) → Adjoin (Egress (link_of a)) (Outbox a) (across peer function links)
+  across_enters a at =
+      subst (λ (o : Origin). Adjoin (Egress (link_of o)) (Outbox o) (across peer function links)) (sym (across_outbox a at))
+      (adjoin_front (Egress (up function)) (Outbox box) (places_on (down peer)) behind (enters_up platform g box last function links path))
+
+  -- what comes up stands on one of the links
+  across_up : (l : ℕ) → In (Ingress (up l)) (across peer function links) → In (Ingress (up l)) (places_up links)
+  across_up l at =
+      ⊎_elim (λ x. absurd (down_is_not_up (sym (ap (λ (d : Direction). d.way) (ingress_on (up l) (down peer) x))))) (λ x. up_in box (Ingress (up l)) links (λ e. cc) x) (in_append (Ingress (up l)) (places_on (down peer)) behind at)
+
+  pub across_above : (l : ℕ) → In (Ingress (up l)) (across peer function links) → bus_of last ≤ bus_of l
+  across_above l at = held_up (λ (link : ℕ). bus_of last ≤ bus_of link) l links (none_after_last platform last function links path) (across_up l at)
+
+  pub across_rises : (lower above : ℕ) → link_above platform lower ≡ Some above → lower ≢ last → In (Ingress (up lower)) (across peer function links) → Adjoin (Egress (up above)) (Ingress (up lower)) (across peer function links)
+  across_rises lower above is not at = adjoins_behind (Egress (up above)) (Ingress (up lower)) (rises platform g last lower above function links is not path (across_up lower at))
+
+  pub across_turns : Adjoin (Egress (down peer)) (Ingress (up last)) (across peer function links)
+  across_turns =
+      let t = first_up platform g last function links path in
+      subst (Adjoin (Egress (down peer)) (Ingress (up last))) (sym (ap (λ (xs : List Place). places_on (down peer) ++ (xs ++ Outbox box ∷ [])) t.1))
+      (Adjoin.Later (Ingress (down peer)) (Wire (down peer) ∷ Egress (down peer) ∷ Ingress (up last) ∷ (t.0 ++ Outbox box ∷ []))
+      (Adjoin.Later (Wire (down peer)) (Egress (down peer) ∷ Ingress (up last) ∷ (t.0 ++ Outbox box ∷ [])) (Adjoin.Here (t.0 ++ Outbox box ∷ []))))
+
+  -- what comes down stands on the link of the other function, which leads no further
+  pub across_down : (a : ℕ) → In (Ingress (down a)) (across peer function links) → a ≡ peer
+  across_down a at =
+      ⊎_elim (λ x. ap (λ (d : Direction). d.lower) (ingress_on (down a) (down peer) x)) (λ x. absurd (down_is_not_up (ingress_up (down a) links (up_in box (Ingress (down a)) links (λ e. cc) x))))
+      (in_append (Ingress (down a)) (places_on (down peer)) behind at)
+
+pub not_across : (function peer : ℕ) (links : List ℕ) → IsNot (Outbox (origin.Function function)) (places_on (down peer) ++ places_up links)
+not_across function peer links = let o = origin.Function function in not_append (Outbox o) (places_on (down peer)) (places_up links) (not_on o (down peer)) (not_up o links)

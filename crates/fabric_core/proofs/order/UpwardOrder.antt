@@ -8,6 +8,7 @@ use Rattle.std.proofs.lemmas.Grind.{flat_map-append}
 use Rattle.std.proofs.lemmas.List.Elements.{All-append, All-nil, All-tail, All-weaker}
 use Rattle.fab_types.specs.declared.class.Class.TheVariants.{Posted}
 use Rattle.fab_types.specs.declared.head.Answerer.TheVariants as by
+use Rattle.fab_types.specs.declared.head.AddressType.{AddressType}
 use Rattle.fab_types.specs.declared.head.Header.{Header}
 use Rattle.fab_types.specs.declared.head.Header.TheVariants as header
 use Rattle.fab_types.specs.declared.head.Parties.TheVariants.{Answer, Upward}
@@ -20,6 +21,7 @@ use Rattle.fab_types.specs.declared.violation.Violation.{Violation}
 use Rattle.frame_log.specs.Descriptor.{Descriptor}
 use Rattle.bridge.specs.Bridges.{of_platform}
 use Rattle.platform.specs.declared.parts.DownstreamPort.{DownstreamPort}
+use Rattle.platform.specs.Egress.{direct_to}
 use Rattle.platform.specs.Owners.{is_function}
 use Rattle.platform.specs.Platform.{Platform}
 use Rattle.platform.specs.Tree.{id_below}
@@ -33,7 +35,7 @@ use Rattle.topology.specs.Links.{sender_of}
 use Rattle.topology.specs.declared.nodes.LinkEnd.{LinkEnd}
 use Rattle.interconnect.specs.Moves.{channel_at}
 use Rattle.guarded_routes.specs.Guarded.{IsFunctionOf, top_id}
-use Rattle.guarded_routes.specs.Links.{IsWay, link_above}
+use Rattle.guarded_routes.specs.Links.{IsPath, IsWay, link_above}
 use Rattle.guarded_routes.specs.Sound.{IsCleared, IsSound, is_reply}
 use Rattle.guarded_routes.specs.Ways.{IsRelaxed}
 use Rattle.guarded_routes.proofs.Trees.{IsPort}
@@ -115,10 +117,18 @@ pub record IsFirst (frame : Descriptor) : Type 0 where
   pub posted : class_of frame ≡ Posted
   pub request : is_reply frame.head.header ≡ false
 
--- wherever they stand: the first kind is posted, the second not relaxed, and it isn't stopped at a port that the first may pass
+-- no port lets it through to another function
+abbrev pub IsStraight : Platform → Descriptor → Type 0
+IsStraight platform frame = (sender peer requester address : ℕ) (address_type : AddressType) → frame.head.parties ≡ Upward sender → frame.head.header ≡ header.Memory requester address_type address → IsCleared platform sender (header.Memory requester address_type address)
+    → direct_to platform.ports sender address ≡ Some peer → ⊥
+
+-- wherever they stand: the first kind is posted, the second not relaxed, and it isn't stopped at a port that the first may
+-- pass; and neither goes directly to another function
 pub record AreUp (platform : Platform) (f : Standings) (p q : Descriptor → Bool) : Type 0 where
   pub firsts : (r : Place) → All (λ (x : Descriptor). p x ≡ true → IsFirst x) (f r)
   pub seconds : (r : Place) → All (λ (x : Descriptor). q x ≡ true → IsUnrelaxed x.head.header) (f r)
+  pub firsts_straight : (r : Place) → All (λ (x : Descriptor). p x ≡ true → IsStraight platform x) (f r)
+  pub seconds_straight : (r : Place) → All (λ (x : Descriptor). q x ≡ true → IsStraight platform x) (f r)
   pub further : ((r : Place) → All (λ (x : Descriptor). q x ≡ true → is_reply x.head.header ≡ true) (f r))
       ⊎ (((r : Place) → All (λ (x : Descriptor). q x ≡ true → (line : DownstreamPort) (report : Option Violation) → IsPort platform line → IsFunctionOf platform x.domain (id_below line) → is_reply x.head.header ≡ false → x.head.parties ≡ Upward (id_below line) → course_of (of_platform platform) (downstream_config platform line) x.head ≡ Stop report → ⊥) (f r))
       ⊎ ((r : Place) → All (λ (x : Descriptor). p x ≡ true → (function : ℕ) → x.head.parties ≡ Upward function → IsCleared platform function x.head.header → ⊥) (f r)))
@@ -132,14 +142,15 @@ module _ (w : World) (g : IsGuardedFabric w) (domain function : ℕ) (links : Li
 
   -- ---- on
 
-  leaps_along : (source target : Place) (y : Descriptor) → Leaps g.platform y source target → In source places → (IsRelaxed y.head.header → ⊥) → (source ≡ Ingress (up top_id) → is_reply y.head.header ≡ true → ⊥) → Adjoin target source places
-  leaps_along _ _ y (Leaps.Enters a) at straight stays = function_enters g.platform g.guarded domain function links own way a at
-  leaps_along _ _ y (Leaps.Sent a) at straight stays = function_sent g.platform g.guarded domain function links own way a at
-  leaps_along _ _ y (Leaps.Received a) at straight stays = function_received g.platform g.guarded domain function links own way a at
-  leaps_along _ _ y (Leaps.Rises lower above is) at straight stays = function_rises g.platform g.guarded domain function links own way lower above is at
-  leaps_along _ _ y (Leaps.Falls lower above is falling) at straight stays = let way_is = function_ingress g.platform g.guarded domain function links own way (down above) at in absurd cc
-  leaps_along _ _ y (Leaps.Crosses lower direction relaxed) at straight stays = absurd (straight relaxed)
-  leaps_along _ _ y (Leaps.Returns reply) at straight stays = absurd (stays refl reply)
+  leaps_along : (source target : Place) (y : Descriptor) → Leaps g.platform y source target → In source places → (IsRelaxed y.head.header → ⊥) → IsStraight g.platform y → (source ≡ Ingress (up top_id) → is_reply y.head.header ≡ true → ⊥) → Adjoin target source places
+  leaps_along _ _ y (Leaps.Enters a) at unrelaxed straight stays = function_enters g.platform g.guarded domain function links own way a at
+  leaps_along _ _ y (Leaps.Sent a) at unrelaxed straight stays = function_sent g.platform g.guarded domain function links own way a at
+  leaps_along _ _ y (Leaps.Received a) at unrelaxed straight stays = function_received g.platform g.guarded domain function links own way a at
+  leaps_along _ _ y (Leaps.Rises line above listed is none) at unrelaxed straight stays = function_rises g.platform g.guarded domain function links own way (id_below line) above is at
+  leaps_along _ _ y (Leaps.Falls lower above is falling) at unrelaxed straight stays = let way_is = function_ingress g.platform g.guarded domain function links own way (down above) at in absurd cc
+  leaps_along _ _ y (Leaps.Crosses lower direction relaxed) at unrelaxed straight stays = absurd (unrelaxed relaxed)
+  leaps_along _ _ y (Leaps.Turns line sender peer requester address address_type listed held parties same cleared here direct) at unrelaxed straight stays = absurd (straight sender peer requester address address_type parties same cleared direct)
+  leaps_along _ _ y (Leaps.Returns reply) at unrelaxed straight stays = absurd (stays refl reply)
 
   posted_at : (r : Place) → All (λ (x : Descriptor). p x ≡ true → class_of x ≡ Posted) (f r)
   posted_at r = All-weaker (λ (x : Descriptor). p x ≡ true → IsFirst x) (λ (x : Descriptor). p x ≡ true → class_of x ≡ Posted) (λ x h is. (h is).posted) (f r) (are.firsts r)
@@ -152,20 +163,20 @@ module _ (w : World) (g : IsGuardedFabric w) (domain function : ℕ) (links : Li
   pub up_goes : (f' : Standings) (source target : Place) (y : Descriptor) → Leaps g.platform y source target → Moving f f' source target y → InOrderOnWay f places p q → InOrderOnWay f' places p q
   up_goes f' source target y leaps mv t = by (p y) (q y) refl refl
     where
-      along : In source places → (IsRelaxed y.head.header → ⊥) → (source ≡ Ingress (up top_id) → is_reply y.head.header ≡ true → ⊥) → InOrderOnWay f' places p q
-      along at straight stays =
-          order_along p q f f' places source target y mv (function_distinct g.platform function links way) (leaps_along source target y leaps at straight stays)
+      along : In source places → (IsRelaxed y.head.header → ⊥) → IsStraight g.platform y → (source ≡ Ingress (up top_id) → is_reply y.head.header ≡ true → ⊥) → InOrderOnWay f' places p q
+      along at unrelaxed straight stays =
+          order_along p q f f' places source target y mv (function_distinct g.platform function links way) (leaps_along source target y leaps at unrelaxed straight stays)
           (λ is. none_passed source y mv.older mv.newer mv.moved.was mv.passed) t
 
       by : (first second : Bool) → p y ≡ first → q y ≡ second → InOrderOnWay f' places p q
       by true second is_p is_q =
           let first = moved_stood f f' source target y mv (λ (x : Descriptor). p x ≡ true → IsFirst x) (are.firsts source) is_p in
-          ⊎_elim (λ at. along at (λ relaxed. false≢true (sym first.request ∙ relaxed_reply y.head.header relaxed)) (λ top reply. false≢true (sym first.request ∙ reply)))
+          ⊎_elim (λ at. along at (λ relaxed. false≢true (sym first.request ∙ relaxed_reply y.head.header relaxed)) (moved_stood f f' source target y mv (λ (x : Descriptor). p x ≡ true → IsStraight g.platform x) (are.firsts_straight source) is_p) (λ top reply. false≢true (sym first.request ∙ reply)))
           (λ none_here. absurd (false≢true (sym (moved_stood f f' source target y mv (IsNo p) none_here) ∙ is_p))) (t.first_on source)
       by false true is_p is_q =
           let second = moved_stood f f' source target y mv (λ (x : Descriptor). q x ≡ true → IsUnrelaxed x.head.header) (are.seconds source) is_q in
           let first = function_first g.platform g.guarded domain function links own way in
-          ⊎_elim (λ at. along at (λ relaxed. not_relaxed y.head.header relaxed second)
+          ⊎_elim (λ at. along at (λ relaxed. not_relaxed y.head.header relaxed second) (moved_stood f f' source target y mv (λ (x : Descriptor). q x ≡ true → IsStraight g.platform x) (are.seconds_straight source) is_q)
           (λ top reply. not_taken p q f places first.0 source y mv.older mv.newer mv.moved.was (first.1 ∙ ap (λ (x : Place). x ∷ first.0) (sym top)) (none_passed source y mv.older mv.newer mv.moved.was mv.passed) is_p is_q t.ahead))
           (λ none_here. absurd (false≢true (sym (moved_stood f f' source target y mv (IsNo q) none_here) ∙ is_q))) (t.second_on source)
       by false false is_p is_q = order_moved p q f f' places source target y mv is_p is_q t
@@ -192,8 +203,8 @@ module _ (w : World) (g : IsGuardedFabric w) (domain function : ℕ) (links : Li
     others : first ≡ function → (link : ℕ) → In (Ingress (up link)) (places_up rest) → link ≢ function
 
   front : (first : ℕ) (all : List ℕ) → IsWay g.platform first all → Front first all
-  front _ _ IsWay.AtTop = record { rest = []; is = refl; others = λ same link at. absurd at }
-  front _ _ (IsWay.Above lower above rest e falls further) = record {
+  front _ _ IsPath.AtLast = record { rest = []; is = refl; others = λ same link at. absurd at }
+  front _ _ (IsPath.Above lower above rest e falls further) = record {
     rest = rest;
     is = refl;
     others = λ same link at. further_link g.platform g.guarded domain function links own way link above rest (sym (ap (link_above g.platform) same) ∙ e) further at;
@@ -271,5 +282,5 @@ module _ (w : World) (g : IsGuardedFabric w) (domain function : ℕ) (links : Li
       where
         by : (d : Direction) (entry : Entry) (target : Place) → Finishes g.platform y d entry target → direction ≡ d → ⊥
         by _ _ _ (Finishes.Stopped line report listed parties course sound) e = stopped line report listed e parties course sound
-        by _ _ _ (Finishes.CarriedByHost sender parties) e = at_top e
+        by _ _ _ (Finishes.CarriedByHost own) e = at_top e
         by _ _ _ (Finishes.CarriedByFunction h parties) e = on_way_up (ap (λ (d : Direction). d.way) e)

@@ -20,7 +20,6 @@ use Rattle.interconnect.specs.Moves.{channel_at}
 use Rattle.interconnect.specs.Starts.{nodes_of, start_of}
 use Rattle.interconnect.specs.Views.{channels_of}
 use Rattle.guarded_routes.specs.Guarded.{IsGuarded}
-use Rattle.guarded_routes.proofs.Agreement.{RoutesUp}
 use Rattle.fabric_core.specs.declared.event.Event.{Event}
 use Rattle.fabric_core.specs.Events.{StepsTo}
 use Rattle.fabric_core.specs.Invariant.{IsFabric}
@@ -75,7 +74,7 @@ after_is w w' event Idle step = sym step.2
 after_is w w' event (Refused fault) step = sym step.1
 after_is w w' event NoMemory step = sym step.2
 
-module _ (up : RoutesUp) (d : ℕ) (is_told : Violation → Bool) where
+module _ (d : ℕ) (is_told : Violation → Bool) where
   abbrev Result : List Event → List Outcome → World → World → Type 0
   Result events outcomes first second = HaveMoved events outcomes × Accords d is_told first second
 
@@ -87,14 +86,14 @@ module _ (up : RoutesUp) (d : ℕ) (is_told : Violation → Bool) where
       → Holds (event ∷ events) v first
   one_left w v w' first event outcome events a step left later [] second run memory = absurd run
   one_left w v w' first event outcome events a step left later (outcome' ∷ outcomes') second run memory =
-      let now = kept up d is_told w v a event outcome outcome' w' run.0 step run.1 (All-head HasMemory outcome' outcomes' memory) left in
+      let now = kept d is_told w v a event outcome outcome' w' run.0 step run.1 (All-head HasMemory outcome' outcomes' memory) left in
       let rest = later run.0 now.1 outcomes' second run.2 (All-tail HasMemory outcome' outcomes' memory) in
       ((now.0, rest.0), rest.1)
 
   either : (w v w' first : World) (event : Event) (outcome : Outcome) (events : List Event) (left : Bool) → is_left d w event outcome ≡ left → Accords d is_told w v → StepsTo w event outcome w' → ((v' : World) → Accords d is_told w' v' → Holds events v' first)
       → Holds (cond left (event ∷ events) events) v first
   either w v w' first event outcome events true e a step later = one_left w v w' first event outcome events a step e later
-  either w v w' first event outcome events false e a step later = later v (skipped up d is_told w v a event outcome w' step e)
+  either w v w' first event outcome events false e a step later = later v (skipped d is_told w v a event outcome w' step e)
 
   none_left : (w v first : World) → Accords d is_told w v → first ≡ w → Holds [] v first
   none_left w v first a run [] second run' memory = (tt, subst (λ (x : World). Accords d is_told x second) (sym run) (subst (Accords d is_told w) (sym run') a))
@@ -116,14 +115,14 @@ module _ (up : RoutesUp) (d : ℕ) (is_told : Violation → Bool) where
   one_more : (w v w' : World) (event : Event) (outcome : Outcome) (events : List Event) → Accords d is_told w v → StepsTo w event outcome w' → is_left d w event outcome ≡ true → ((v' : World) → Accords d is_told w' v' → CanRun v' events)
       → CanRun v (event ∷ events)
   one_more w v w' event outcome events a step left later =
-      let now = goes up d is_told w v a event outcome w' step left in
-      let rest = later now.1 (kept up d is_told w v a event outcome now.0 w' now.1 step now.2 now.3 left).1 in
+      let now = goes d is_told w v a event outcome w' step left in
+      let rest = later now.1 (kept d is_told w v a event outcome now.0 w' now.1 step now.2 now.3 left).1 in
       (now.0 ∷ rest.0, rest.1, (now.1, now.2, rest.2), All-cons HasMemory now.0 rest.0 now.3 rest.3)
 
   one_or_none : (w v w' : World) (event : Event) (outcome : Outcome) (events : List Event) (left : Bool) → is_left d w event outcome ≡ left → Accords d is_told w v → StepsTo w event outcome w' → ((v' : World) → Accords d is_told w' v' → CanRun v' events)
       → CanRun v (cond left (event ∷ events) events)
   one_or_none w v w' event outcome events true e a step later = one_more w v w' event outcome events a step e later
-  one_or_none w v w' event outcome events false e a step later = later v (skipped up d is_told w v a event outcome w' step e)
+  one_or_none w v w' event outcome events false e a step later = later v (skipped d is_told w v a event outcome w' step e)
 
   can_run : (w v : World) (events : List Event) (outcomes : List Outcome) (first : World) → Accords d is_told w v → Run w events outcomes first → CanRun v (events_left d w events outcomes)
   can_run w v [] [] first a run = ([], v, refl, All-nil HasMemory)
@@ -193,13 +192,13 @@ start_accords platform guarded d =
     let fabric = start_fabric platform guarded in
     record { mirrors = start_mirrors d platform; roomy = start_roomy d platform; told = λ x. refl; fabric = fabric; guarded = guarded.controls; other = fabric }
 
-pub taken_out : RoutesUp → (platform : Platform) → IsGuarded platform → (events : List Event) (outcomes : List Outcome) (first : World) → Run (world_of platform) events outcomes first → (d : ℕ) → CannotTell d (world_of platform) events outcomes first
-taken_out up platform guarded events outcomes first run d outcomes' second run' memory =
+pub taken_out : (platform : Platform) → IsGuarded platform → (events : List Event) (outcomes : List Outcome) (first : World) → Run (world_of platform) events outcomes first → (d : ℕ) → CannotTell d (world_of platform) events outcomes first
+taken_out platform guarded events outcomes first run d outcomes' second run' memory =
     let w = world_of platform in
-    let result = runs_left up d (is_by w d) w w events outcomes first (start_accords platform guarded d) run outcomes' second run' memory in
+    let result = runs_left d (is_by w d) w w events outcomes first (start_accords platform guarded d) run outcomes' second run' memory in
     (result.0, same_of d (is_by w d) first second result.1)
 
-pub can_be_left : RoutesUp → (platform : Platform) → IsGuarded platform → (events : List Event) (outcomes : List Outcome) (first : World) → Run (world_of platform) events outcomes first → (d : ℕ) → CanBeLeft d (world_of platform) events outcomes
-can_be_left up platform guarded events outcomes first run d =
+pub can_be_left : (platform : Platform) → IsGuarded platform → (events : List Event) (outcomes : List Outcome) (first : World) → Run (world_of platform) events outcomes first → (d : ℕ) → CanBeLeft d (world_of platform) events outcomes
+can_be_left platform guarded events outcomes first run d =
     let w = world_of platform in
-    can_run up d (is_by w d) w w events outcomes first (start_accords platform guarded d) run
+    can_run d (is_by w d) w w events outcomes first (start_accords platform guarded d) run

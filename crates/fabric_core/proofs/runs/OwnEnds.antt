@@ -117,7 +117,7 @@ module _ (d : ℕ) (is_told : Violation → Bool) (w : World) (channels : List (
 
         arrived_too : (function : ℕ) → Mirrors d is_told (arrived_by w function t (receipt_at_function w function t.frame)) (arrived_by other function too (receipt_at_function other function t.frame))
         arrived_too function =
-            subst (λ (b : Bool). Mirrors d is_told (arrived_by w function t (receipt_at_function w function t.frame)) (arrived_by other function too (cond b (receipt_by_function t.frame.head.parties t.frame.head.header) Nobody)))
+            subst (λ (b : Bool). Mirrors d is_told (arrived_by w function t (receipt_at_function w function t.frame)) (arrived_by other function too (cond b (receipt_by_function w.routes.ports function t.frame.head.parties t.frame.head.header) Nobody)))
             (sym (function_of_same w.agents.domains agents.domains m.agents.domains.shares function t.frame.domain)) (arrived_with function (receipt_at_function w function t.frame))
 
   module _ (roomy : IsRoomy w) (g : IsGuardedFabric w) (g' : IsGuardedFabric other) (numbers : AreNumbered w.agents.domains) where

@@ -1,10 +1,11 @@
 -- What a port reports is of a function of the packet's home, in a guarded fabric.
 use Rattle.std.proofs.Common.{◌≡◌, ℕ, ◌==◌, Bool, true, false, cond, List, get_or, Option, Some, None, inl, inr, refl, sym, ap, ◌∙◌, subst, arith}
-use Rattle.std.specs.Prelude.{⊤, option_map}
+use Rattle.std.specs.Prelude.{⊤, Result, Ok, Err, option_map}
 use Rattle.std.specs.Option.{option_and_then}
 use Rattle.std.proofs.lemmas.List.Quantifiers.{position-Some}
 use Rattle.std.proofs.lemmas.Option.{same_Some}
 use Rattle.fab_types.specs.declared.class.Class.{Class}
+use Rattle.fab_types.specs.declared.head.AddressType.{AddressType}
 use Rattle.fab_types.specs.declared.head.Answerer.{Answerer}
 use Rattle.fab_types.specs.declared.head.Answerer.TheVariants as by
 use Rattle.fab_types.specs.declared.head.Head.{Head}
@@ -33,7 +34,7 @@ use Rattle.acs.specs.declared.vetting.Verdict.TheVariants as verdict
 use Rattle.acs.specs.Redirection.{redirected}
 use Rattle.acs.specs.Vetting.{requester_of, verdict_of}
 use Rattle.port.specs.Configs.{Config, lane_to}
-use Rattle.port.specs.Courses.{course_at, course_of, down_by, down_lane, report_of, reported_by, returned_from, routed, stopped_answer, stopped_from, tested, up_by}
+use Rattle.port.specs.Courses.{course_at, course_of, down_by, down_lane, led, report_of, reported_by, returned_from, routed, stopped_answer, stopped_from, tested, up_by}
 use Rattle.port.specs.declared.config.Exit.{Exit}
 use Rattle.port.specs.declared.course.Forwarding.{Forwarding}
 use Rattle.port.specs.declared.course.Forwarding.TheVariants.{To, Stop, NoCase}
@@ -47,7 +48,7 @@ use Rattle.topology.proofs.Brought.{downstream_input, upstream_input}
 use Rattle.topology.proofs.Members.{found}
 use Rattle.interconnect.specs.Passes.{index_of, no_place}
 use Rattle.guarded_routes.specs.Guarded.{IsFunctionOf}
-use Rattle.guarded_routes.specs.Sound.{IsMeantFor, IsSound, IsSoundOn}
+use Rattle.guarded_routes.specs.Sound.{IsAsked, IsMeantFor, IsSound, IsSoundOn}
 use Rattle.fabric_core.specs.declared.event.Event.{Event}
 use Rattle.fabric_core.specs.declared.event.Event.TheVariants.{Arrive, Credit, Enter, Mmio, Pass, Root, Send, Submit, Take, Tick}
 use Rattle.fabric_core.specs.Receipts.{Taken, taken_at}
@@ -107,9 +108,14 @@ up_named config line head (route.Port other) = output_named head.parties (lane_t
 up_named config line head route.OwnEgress = returned_named line head head.parties
 up_named config line head route.Nobody = tt
 
+led_named : (config : Config) (line : DownstreamPort) (head : Head) (r : Result Route Verdict) → NamesSender head.parties (led config line head r)
+led_named config line head (Ok way) = up_named config line head way
+led_named config line head (Err verdict.Pass) = stopped_named line head None head.parties
+led_named config line head (Err (verdict.Violation check)) = stopped_named line head (Some check) head.parties
+
 routed_named : (tree : Routes) (config : Config) (line : DownstreamPort) (head : Head) (o : Option Target) → NamesSender head.parties (routed tree config line head o)
 routed_named tree config line head None = stopped_named line head None head.parties
-routed_named tree config line head (Some target) = up_named config line head (redirected line (route_of tree.switches tree.ports config.id head.header) head.header)
+routed_named tree config line head (Some target) = led_named config line head (redirected line (route_of tree.switches tree.ports config.id head.header) head.header)
 
 tested_named : (tree : Routes) (config : Config) (line : DownstreamPort) (head : Head) (v : Verdict) → NamesSender head.parties (tested tree config line head v)
 tested_named tree config line head (verdict.Violation check) = stopped_named line head (Some check) head.parties
@@ -131,16 +137,20 @@ names_sender tree config head v e = subst (NamesSender head.parties) e (course_n
 -- ---- and that is a function of its home
 
 module _ (platform : Platform) (frame : Descriptor) (sender : ℕ) (from : frame.head.parties ≡ Upward sender) where
-  not_meant : (function : ℕ) (h : Header) → IsMeantFor platform frame.domain function frame.head.parties h → ⊥
-  not_meant function header.Malformed meant = meant
-  not_meant function (header.Memory requester address_type address) meant = let other = meant.0 in absurd cc
-  not_meant function (header.OtherRequest requester) meant = meant
-  not_meant function (header.Completion target relaxed_ordering) meant = let other = meant.1 in absurd cc
+  asked_own : (function requester address : ℕ) (address_type : AddressType) → IsAsked platform frame.domain function requester address_type address frame.head.parties → IsFunctionOf platform frame.domain sender
+  asked_own function requester address address_type (IsAsked.ByHost parties) = absurd cc
+  asked_own function requester address address_type (IsAsked.Directly other own parties cleared goes) = let same : other ≡ sender = cc in subst (IsFunctionOf platform frame.domain) same own
+
+  meant_own : (function : ℕ) (h : Header) → IsMeantFor platform frame.domain function frame.head.parties h → IsFunctionOf platform frame.domain sender
+  meant_own function header.Malformed meant = absurd meant
+  meant_own function (header.Memory requester address_type address) meant = asked_own function requester address address_type meant.0
+  meant_own function (header.OtherRequest requester) meant = absurd meant
+  meant_own function (header.Completion target relaxed_ordering) meant = let other = meant.1 in absurd cc
 
   own_by : (lower : ℕ) (way : Way) → IsSoundOn platform lower way frame → IsFunctionOf platform frame.domain sender
   own_by lower Up (inl r) = let parties = r.parties in let same : r.function ≡ sender = cc in subst (IsFunctionOf platform frame.domain) same r.own
   own_by lower Up (inr r) = let parties = r.parties in absurd cc
-  own_by lower Down r = absurd (not_meant r.function frame.head.header r.meant)
+  own_by lower Down r = meant_own r.function frame.head.header r.meant
 
   pub sender_own : (direction : Direction) → IsSound platform direction frame → IsFunctionOf platform frame.domain sender
   sender_own direction sound = own_by direction.lower direction.way sound

@@ -1,7 +1,6 @@
 -- Every event keeps a guarded fabric.
 use Rattle.std.proofs.Common.{◌≡◌, Some}
 use Rattle.link.specs.Channels.{deliver, send, update_fc}
-use Rattle.guarded_routes.proofs.Agreement.{RoutesUp}
 use Rattle.fabric_core.specs.declared.event.Event.{Event}
 use Rattle.fabric_core.specs.declared.event.Event.TheVariants.{Arrive, Credit, Enter, Mmio, Pass, Root, Send, Submit, Take, Tick}
 use Rattle.fabric_core.specs.Events.{effect}
@@ -15,14 +14,14 @@ use Rattle.fabric_core.proofs.soundness.GuardedTurns.{guarded_pass}
 use Rattle.fabric_core.proofs.soundness.Guarding.{guarded_enter, guarded_step}
 use Rattle.fabric_core.proofs.invariant.Moving.{receive_moves, send_moves, tell_moves}
 
-pub guarded_after : RoutesUp → (w w' : World) (event : Event) → IsConsistent w → IsGuardedFabric w → effect w event ≡ Some w' → IsGuardedFabric w'
-guarded_after up w w' (Submit function bytes) kept g is = guarded_submit w w' function bytes g is
-guarded_after up w w' (Tick function) kept g is = guarded_tick w w' function g is
-guarded_after up w w' (Mmio domain access) kept g is = guarded_access w w' domain access g is
-guarded_after up w w' (Enter origin class) kept g is = guarded_enter w w' origin class g is
-guarded_after up w w' (Pass port class) kept g is = guarded_pass up w w' port class kept g is
-guarded_after up w w' (Send direction class) kept g is = guarded_step w w' direction (send class) g (send_moves class) is
-guarded_after up w w' (Take direction) kept g is = guarded_step w w' direction deliver g receive_moves is
-guarded_after up w w' (Credit direction) kept g is = guarded_step w w' direction update_fc g tell_moves is
-guarded_after up w w' (Root class) kept g is = guarded_root w w' class kept g is
-guarded_after up w w' (Arrive function class) kept g is = guarded_arrive w w' function class kept g is
+pub guarded_after : (w w' : World) (event : Event) → IsConsistent w → IsGuardedFabric w → effect w event ≡ Some w' → IsGuardedFabric w'
+guarded_after w w' (Submit function bytes) kept g is = guarded_submit w w' function bytes g is
+guarded_after w w' (Tick function) kept g is = guarded_tick w w' function g is
+guarded_after w w' (Mmio domain access) kept g is = guarded_access w w' domain access g is
+guarded_after w w' (Enter origin class) kept g is = guarded_enter w w' origin class g is
+guarded_after w w' (Pass port class) kept g is = guarded_pass w w' port class kept g is
+guarded_after w w' (Send direction class) kept g is = guarded_step w w' direction (send class) g (send_moves class) is
+guarded_after w w' (Take direction) kept g is = guarded_step w w' direction deliver g receive_moves is
+guarded_after w w' (Credit direction) kept g is = guarded_step w w' direction update_fc g tell_moves is
+guarded_after w w' (Root class) kept g is = guarded_root w w' class kept g is
+guarded_after w w' (Arrive function class) kept g is = guarded_arrive w w' function class kept g is

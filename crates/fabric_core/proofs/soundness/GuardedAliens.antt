@@ -10,7 +10,6 @@ use Rattle.fab_types.specs.declared.place.Place.TheVariants.{Ingress}
 use Rattle.frame_log.specs.Descriptor.{Descriptor}
 use Rattle.platform.specs.Share.{is_guarded, is_guarded_port}
 use Rattle.domain.specs.declared.entry.Entry.TheVariants.{Alien}
-use Rattle.domain.specs.Aliens.{alien}
 use Rattle.domain.specs.Domains.{DomainView}
 use Rattle.request_handling.specs.Emissions.{Emission}
 use Rattle.agents.specs.Agents.{AgentsView, emitted_if}

@@ -1,12 +1,15 @@
 -- A guarded fabric where a function takes a packet.
-use Rattle.std.proofs.Common.{◌≡◌, ℕ, Bool, true, false, cond, [], inr, Option, Some, None, get_or, refl, sym, ap, ◌∙◌, subst, eq-eqb}
+use Rattle.std.proofs.Common.{◌≡◌, ℕ, Bool, true, false, cond, [], inl, inr, Option, Some, None, get_or, refl, sym, ap, ◌∙◌, subst, eq-eqb}
 use Rattle.std.specs.Prelude.{is_some, slice_get}
 use Rattle.std.proofs.lemmas.List.Quantifiers.{position-Some}
 use Rattle.std.proofs.lemmas.Option.{same_Some, slice_get-get_or}
+use Rattle.fab_types.specs.declared.head.AddressType.{AddressType}
+use Rattle.fab_types.specs.declared.head.AddressType.TheVariants.{Untranslated}
 use Rattle.fab_types.specs.declared.head.Header.{Header}
 use Rattle.fab_types.specs.declared.head.Header.TheVariants as header
-use Rattle.fab_types.specs.declared.head.Parties.{Parties}
 use Rattle.fab_types.specs.declared.origin.Origin.TheVariants.{Function}
+use Rattle.bridge.specs.Bridges.{Routes}
+use Rattle.platform.specs.Egress.{direct_to, is_peer}
 use Rattle.platform.specs.Owners.{is_function, is_own_function}
 use Rattle.platform.specs.Share.{Share}
 use Rattle.domain.specs.declared.entry.Entry.TheVariants.{Carry}
@@ -17,13 +20,14 @@ use Rattle.agents.specs.Agents.{AgentsView, carried_by_function, emitted_if, is_
 use Rattle.lane.specs.Lanes.{Class}
 use Rattle.domains.specs.Domains.{domain_at, made, place_of_function}
 use Rattle.topology.specs.Links.{sender_of}
+use Rattle.guarded_routes.specs.Ends.{IsRequestTo}
 use Rattle.guarded_routes.specs.Guarded.{IsFunctionOf}
 use Rattle.guarded_routes.specs.Sound.{IsMeantFor, is_reply}
 use Rattle.guarded_routes.proofs.Hosts.{delivers}
 use Rattle.guarded_routes.proofs.Reaching.{own_of}
 use Rattle.guarded_routes.proofs.Replies.{carried_up}
 use Rattle.guarded_routes.proofs.Taking.{accesses, home_at, meant_at, reply_at, request_at}
-use Rattle.fabric_core.specs.Receipts.{Receipt, Taken, arrive, arrived, arrived_by, ended, receipt_at_function, receipt_by_function, own_by_function, taken, to_function}
+use Rattle.fabric_core.specs.Receipts.{Receipt, Taken, arrive, arrived, arrived_by, ended, memory_at_function, receipt_at_function, receipt_by_function, own_by_function, taken, to_function}
 use Rattle.fabric_core.specs.Invariant.{IsConsistent}
 use Rattle.fabric_core.specs.Soundness.{IsGuardedFabric}
 use Rattle.fabric_core.specs.World.{World}
@@ -93,17 +97,30 @@ module _ (w : World) (g : IsGuardedFabric w) (function : ℕ) (home : FunctionHo
   pub meant : (h : Header) → t.frame.head.header ≡ h → IsMeantFor g.platform t.frame.domain function t.frame.head.parties h
   meant h same = subst (IsMeantFor g.platform t.frame.domain function t.frame.head.parties) same (meant_at g.platform g.guarded function t.frame listed k.sound)
 
-  arrived_as : (h : Header) → t.frame.head.header ≡ h → IsGuardedFabric (left_by (receipt_by_function t.frame.head.parties h))
+  same_address : (one other address address' : ℕ) (address_type address_type' : AddressType) → header.Memory one address_type address ≡ header.Memory other address_type' address' → address ≡ address'
+  same_address one other address address' address_type address_type' e = cc
+
+  -- a memory request is carried, of the host or of another function
+  pub is_carried : (requester address : ℕ) (address_type : AddressType) → t.frame.head.header ≡ header.Memory requester address_type address → IsRequestTo g.platform t.frame function
+      → receipt_by_function w.routes.ports function t.frame.head.parties (header.Memory requester address_type address) ≡ Receipt.Carry
+  is_carried requester address address_type same (inl to) = ap (memory_at_function w.routes.ports function address) to
+  is_carried requester address address_type same (inr q) =
+      let there : address ≡ q.address = same_address requester q.requester address q.address address_type Untranslated (sym same ∙ q.plain) in
+      let direct : direct_to w.routes.ports q.sender address ≡ Some function = ap (λ (r : Routes). direct_to r.ports q.sender address) g.of_it.routes ∙ (ap (direct_to g.platform.ports q.sender) there ∙ q.direct) in
+      ap (memory_at_function w.routes.ports function address) q.parties
+      ∙ (ap (λ (o : Option ℕ). cond (is_peer function o) Receipt.Carry Receipt.Nobody) direct ∙ ap (λ (b : Bool). cond b Receipt.Carry Receipt.Nobody) (eq-eqb function function refl))
+
+  arrived_as : (h : Header) → t.frame.head.header ≡ h → IsGuardedFabric (left_by (receipt_by_function w.routes.ports function t.frame.head.parties h))
   arrived_as header.Malformed same = absurd (meant header.Malformed same)
   arrived_as (header.Memory requester address_type address) same =
       let request = ap is_reply same in
-      subst (λ (p : Parties). IsGuardedFabric (left_by (receipt_by_function p (header.Memory requester address_type address)))) (sym (request_at g.platform g.guarded function t.frame listed k.sound request)) (carries request)
+      subst (λ (r : Receipt). IsGuardedFabric (left_by r)) (sym (is_carried requester address address_type same (request_at g.platform g.guarded function t.frame listed k.sound request))) (carries request)
   arrived_as (header.OtherRequest requester) same = absurd (meant (header.OtherRequest requester) same)
   arrived_as (header.Completion target relaxed_ordering) same = delivered_here (ap is_reply same)
 
   arrived_own : IsGuardedFabric (left_by (receipt_at_function w function t.frame))
   arrived_own =
-      subst (λ (b : Bool). IsGuardedFabric (left_by (cond b (receipt_by_function t.frame.head.parties t.frame.head.header) Receipt.Nobody))) (sym of_domain) (arrived_as t.frame.head.header refl)
+      subst (λ (b : Bool). IsGuardedFabric (left_by (cond b (receipt_by_function w.routes.ports function t.frame.head.parties t.frame.head.header) Receipt.Nobody))) (sym of_domain) (arrived_as t.frame.head.header refl)
 
   pub guarded_arrived : IsGuardedFabric (arrived_by w function t (receipt_at_function w function t.frame))
   guarded_arrived = subst (λ (o : Option AgentsView). IsGuardedFabric (ended w t o)) (sym (home_at_function w g function t.frame (receipt_at_function w function t.frame))) arrived_own

@@ -36,7 +36,6 @@ use Rattle.interconnect.specs.Moves.{put_at}
 use Rattle.interconnect.specs.Passes.{index_of, no_place}
 use Rattle.guarded_routes.specs.Sound.{IsSound}
 use Rattle.guarded_routes.specs.Ways.{GoesOn, Passes, PassesDown, down_from}
-use Rattle.guarded_routes.proofs.Agreement.{RoutesUp}
 use Rattle.guarded_routes.proofs.Falling.{passes_down}
 use Rattle.guarded_routes.proofs.Passing.{passes}
 use Rattle.guarded_routes.proofs.Replies.{answers_below}
@@ -106,7 +105,7 @@ passed_upstream w w' g i switch class (Some t) listed out is =
 
 -- ---- from below
 
-module _ (up : RoutesUp) (w w' : World) (g : IsGuardedFabric w) (i : ℕ) (line : DownstreamPort) (listed : IsPort g.platform line) (t : Taken) (k : SoundlyTaken w g (record { lower = id_below line; way = Up }) t) where
+module _ (w w' : World) (g : IsGuardedFabric w) (i : ℕ) (line : DownstreamPort) (listed : IsPort g.platform line) (t : Taken) (k : SoundlyTaken w g (record { lower = id_below line; way = Up }) t) where
   abbrev site : Site
   site = record { number = i; node = (downstream_place g.platform line).node; config = downstream_config g.platform line }
 
@@ -124,7 +123,7 @@ module _ (up : RoutesUp) (w w' : World) (g : IsGuardedFabric w) (i : ℕ) (line 
   refused : (report : Option Violation) (o : Option Made) → course_of (of_platform g.platform) (downstream_config g.platform line) t.frame.head ≡ Stop report → t.frame.head.parties ≡ Upward (id_below line)
       → made w.agents.domains t.frame.domain (Refuse t.frame.number) ≡ o → IsGuardedFabric (refused_by w site report t o)
   refused report None course parties e =
-      absurd (legal_at_home w g t.frame (Refuse t.frame.number) k.flown (λ d old share flies. refuses g.platform g.guarded up line t.frame d.state report listed k.sound course flies) e)
+      absurd (legal_at_home w g t.frame (Refuse t.frame.number) k.flown (λ d old share flies. refuses g.platform g.guarded line t.frame d.state report listed k.sound course flies) e)
   refused report (Some m) course parties e =
       guarded_end w g t.frame (Refuse t.frame.number) m k.flown tt e (answered_at t.channels (output_end site site.config.own) m.sent) w.agents.outboxes (w.violations ++ option_to_list report) (λ d c h. refuse_ends d.share d.state t.frame.number c h)
       (answered_sound m.sent (answer_sound w g t.frame (Refuse t.frame.number) m k.flown tt e (down_from line)
@@ -146,13 +145,13 @@ module _ (up : RoutesUp) (w w' : World) (g : IsGuardedFabric w) (i : ℕ) (line 
 
   pub passed_downstream : (class : Class) → passed w site class t ≡ Some w' → IsGuardedFabric w'
   passed_downstream class is =
-      passed_as class (course_of (of_platform g.platform) (downstream_config g.platform line) t.frame.head) refl (passes g.platform g.guarded up line listed t.frame k.sound)
+      passed_as class (course_of (of_platform g.platform) (downstream_config g.platform line) t.frame.head) refl (passes g.platform g.guarded line listed t.frame k.sound)
       (ap (λ (r : Routes). passed_by w site class t (course_of r (downstream_config g.platform line) t.frame.head)) (sym g.of_it.routes) ∙ is)
 
-downstream_if : (up : RoutesUp) (w w' : World) (g : IsGuardedFabric w) (i : ℕ) (line : DownstreamPort) (class : Class) (o : Option Taken) → IsPort g.platform line → ((t : Taken) → o ≡ Some t → SoundlyTaken w g (record { lower = id_below line; way = Up }) t)
+downstream_if : (w w' : World) (g : IsGuardedFabric w) (i : ℕ) (line : DownstreamPort) (class : Class) (o : Option Taken) → IsPort g.platform line → ((t : Taken) → o ≡ Some t → SoundlyTaken w g (record { lower = id_below line; way = Up }) t)
     → option_and_then (passed w (record { number = i; node = (downstream_place g.platform line).node; config = downstream_config g.platform line }) class) o ≡ Some w' → IsGuardedFabric w'
-downstream_if up w w' g i line class None listed out is = absurd cc
-downstream_if up w w' g i line class (Some t) listed out is = passed_downstream up w w' g i line listed t (out t refl) class is
+downstream_if w w' g i line class None listed out is = absurd cc
+downstream_if w w' g i line class (Some t) listed out is = passed_downstream w w' g i line listed t (out t refl) class is
 
 -- ---- the port of an ID
 
@@ -163,25 +162,25 @@ at_place w w' class i place same_place config at configured is =
     ap (λ (c : Config). option_and_then (passed w (record { number = i; node = same_place.node; config = c }) class) (taken_at w.channels class same_place.input)) (sym configured)
     ∙ (ap (λ (x : PortPlace). passed_at w class i x) (sym at) ∙ is)
 
-passed_standing : (up : RoutesUp) (w w' : World) (kept : IsConsistent w) (g : IsGuardedFabric w) (class : Class) (i : ℕ) (place : PortPlace) → Standing g.platform place (port_number w i).config → passed_at w class i place ≡ Some w' → IsGuardedFabric w'
-passed_standing up w w' kept g class i place (Standing.Upstream switch listed at configured) is =
+passed_standing : (w w' : World) (kept : IsConsistent w) (g : IsGuardedFabric w) (class : Class) (i : ℕ) (place : PortPlace) → Standing g.platform place (port_number w i).config → passed_at w class i place ≡ Some w' → IsGuardedFabric w'
+passed_standing w w' kept g class i place (Standing.Upstream switch listed at configured) is =
     let input = (upstream_place g.platform switch).input in
     let within = (found (λ (x : Switch). x.id == switch.id) g.platform.switches switch listed).0 in
     let brought = ap (λ (x : Tree). sender_of x.links (record { lower = switch.id; way = Down })) g.of_it.tree ∙ sym (upstream_input g.platform g.guarded.laws switch within) in
     passed_upstream w w' g i switch class (taken_at w.channels class input) listed (λ t e. soundly_taken w kept g (record { lower = switch.id; way = Down }) class input t brought e)
     (at_place w w' class i place (upstream_place g.platform switch) (upstream_config g.platform switch) at configured is)
-passed_standing up w w' kept g class i place (Standing.Downstream line listed at configured) is =
+passed_standing w w' kept g class i place (Standing.Downstream line listed at configured) is =
     let input = (downstream_place g.platform line).input in
     let brought = ap (λ (x : Tree). sender_of x.links (record { lower = id_below line; way = Up })) g.of_it.tree ∙ sym (downstream_input g.platform g.guarded.laws line) in
-    downstream_if up w w' g i line class (taken_at w.channels class input) listed (λ t e. soundly_taken w kept g (record { lower = id_below line; way = Up }) class input t brought e)
+    downstream_if w w' g i line class (taken_at w.channels class input) listed (λ t e. soundly_taken w kept g (record { lower = id_below line; way = Up }) class input t brought e)
     (at_place w w' class i place (downstream_place g.platform line) (downstream_config g.platform line) at configured is)
 
-passed_number_if : (up : RoutesUp) (w w' : World) (port : ℕ) (class : Class) (o : Option ℕ) → IsConsistent w → IsGuardedFabric w → index_of w.tree.places port ≡ o → passed_number w class o ≡ Some w' → IsGuardedFabric w'
-passed_number_if up w w' port class None kept g e is = absurd cc
-passed_number_if up w w' port class (Some i) kept g e is =
+passed_number_if : (w w' : World) (port : ℕ) (class : Class) (o : Option ℕ) → IsConsistent w → IsGuardedFabric w → index_of w.tree.places port ≡ o → passed_number w class o ≡ Some w' → IsGuardedFabric w'
+passed_number_if w w' port class None kept g e is = absurd cc
+passed_number_if w w' port class (Some i) kept g e is =
     let less = (position-Some (λ (place : PortPlace). place.id == port) w.tree.places i no_place e).0 in
     let many = kept.built.many in
-    passed_standing up w w' kept g class i (slice_index_or w.tree.places i no_place) (standing g.platform w port i g.of_it (omega (arith, less, many)) e) is
+    passed_standing w w' kept g class i (slice_index_or w.tree.places i no_place) (standing g.platform w port i g.of_it (omega (arith, less, many)) e) is
 
-pub guarded_pass : RoutesUp → (w w' : World) (port : ℕ) (class : Class) → IsConsistent w → IsGuardedFabric w → pass w port class ≡ Some w' → IsGuardedFabric w'
-guarded_pass up w w' port class kept g is = passed_number_if up w w' port class (index_of w.tree.places port) kept g refl (sym (passes_as_turned w g port class) ∙ is)
+pub guarded_pass : (w w' : World) (port : ℕ) (class : Class) → IsConsistent w → IsGuardedFabric w → pass w port class ≡ Some w' → IsGuardedFabric w'
+guarded_pass w w' port class kept g is = passed_number_if w w' port class (index_of w.tree.places port) kept g refl (sym (passes_as_turned w g port class) ∙ is)

@@ -1,5 +1,5 @@
 -- What the machine of a domain makes is well made, and its pages keep their size.
-use Rattle.std.proofs.Common.{◌≡◌, ℕ, zero, suc, ◌+◌, ◌/◌, ◌%◌, ◌≤◌, ◌||◌, Bool, true, false, not, cond, nat_le, nat_lt, List, [], ◌∷◌, length, Option, Some, None, refl, sym, ap, ◌∙◌, subst, arith}
+use Rattle.std.proofs.Common.{◌≡◌, ℕ, zero, suc, ◌+◌, ◌/◌, ◌%◌, ◌≤◌, ◌&&◌, ◌||◌, Bool, true, false, not, cond, nat_le, nat_lt, List, [], ◌∷◌, length, Option, Some, None, refl, sym, ap, ◌∙◌, subst, arith}
 use Rattle.std.specs.Prelude.{All, is_none, option_map}
 use Rattle.std.proofs.lemmas.Bool.{ltb-false}
 use Rattle.std.proofs.lemmas.List.Elements.{All-head, All-tail}
@@ -28,6 +28,7 @@ use Rattle.platform.specs.declared.parts.Access.TheVariants.{Read, Write}
 use Rattle.platform.specs.declared.parts.MapTarget.{MapTarget}
 use Rattle.platform.specs.declared.parts.MapTarget.TheVariants.{Frame, Peer}
 use Rattle.platform.specs.declared.parts.DownstreamPort.{DownstreamPort}
+use Rattle.platform.specs.Egress.{direct_to}
 use Rattle.platform.specs.Owners.{first_port, is_own_function}
 use Rattle.platform.specs.Platform.{Platform}
 use Rattle.layout.specs.Reach.{reach}
@@ -45,15 +46,16 @@ use Rattle.fab_types.specs.declared.host_access.HostAccess.{HostAccess}
 use Rattle.domain.specs.declared.entry.Entry.{Entry}
 use Rattle.domain.specs.declared.entry.Entry.TheVariants.{Alien, Carry, Deliver, Mmio, Refuse, Submit, Tick}
 use Rattle.request_handling.specs.declared.fate.Fate.{Fate}
-use Rattle.request_handling.specs.declared.fate.Fate.TheVariants.{Vanish, Refused, ToHost}
+use Rattle.request_handling.specs.declared.fate.Fate.TheVariants.{Vanish, Refused, ToHost, Direct}
 use Rattle.request_handling.specs.declared.handling.Handling.{Handling}
-use Rattle.request_handling.specs.Answers.{address_of, answered_by, bar_of, forwarded, function_answer, host_data, host_operand, host_refusal, page_at, port_answer, shown}
-use Rattle.request_handling.specs.Carries.{access_of, add_if, answer_refusal, carriage_by, carriage_of, discarded, forward, frame_for, is_carried, port_id, read_from, refusal_by, refusal_of, refused_by_host, serve, serve_add, serve_read, write_to}
+use Rattle.request_handling.specs.Answers.{address_of, answered_by, bar_of, forwarded, function_answer, function_refusal, host_data, host_operand, host_refusal, page_at, port_answer, shown}
+use Rattle.request_handling.specs.AtFunctions.{access_of, discarded, is_access, lies_in, or_discarded, request_at_function, unserved}
+use Rattle.request_handling.specs.Carries.{add_if, answer_refusal, carriage_by, carriage_of, forward, frame_for, is_carried, port_id, read_from, refusal_by, refusal_of, refused_by_host, serve, serve_add, serve_read, write_to}
 use Rattle.domain.specs.Deliveries.{arrival_of, arrived, delivery_of, is_awaited, recorded, unexpected}
 use Rattle.domain_parts.specs.Closings.{completed, use_of}
 use Rattle.domain.specs.Domains.{DomainView}
 use Rattle.domain_parts.specs.Ends.{conclude, replied, with_access}
-use Rattle.request_handling.specs.Fates.{fate, fate_below, fate_unless, stopped}
+use Rattle.request_handling.specs.Fates.{fate, fate_below, fate_unless, goes_to, stopped}
 use Rattle.domain_parts.specs.HostAccesses.{host_emission, is_in_page, mmio_fault, mmio_unless, mmio_with, size_of, tag_for}
 use Rattle.domain.specs.Machine.{carry, change, deliver, refuse}
 use Rattle.request_handling.specs.Emissions.{Emission}
@@ -63,6 +65,7 @@ use Rattle.domain.specs.Ticks.{sent_by, tick_fault, tick_unless, ticked, ticks}
 use Rattle.request_handling.specs.WellMade.{IsWellMade}
 use Rattle.request_handling.proofs.Discarding.{answer_discarded}
 use Rattle.request_handling.proofs.WellMadeLemmas.{is_an_access, left_memory, write_access, write_memory}
+use Rattle.domain.proofs.FunctionFits.{both-first}
 use Rattle.guarded_routes.specs.Guarded.{IsFunctionOf, IsGuarded}
 use Rattle.guarded_routes.proofs.Begins.{low_at}
 use Rattle.guarded_routes.proofs.Homes.{peer_of}
@@ -166,6 +169,7 @@ module _ (platform : Platform) (g : IsGuarded platform) (domain : ℕ) where
         well = made_so (port_answer port f status (packet_of bytes)) (refusal_made by.Port (Some (Function f)) port status (packet_of bytes));
       })
   fine_refused_by s n port f bytes ToHost c long e = absurd cc
+  fine_refused_by s n port f bytes (Direct peer) c long e = absurd cc
 
   fine_discarded : (s : Alone) (n : ℕ) (bytes : List ℕ) (o : Option Handling) (c : Change) → AreLong s → ((a : Handling) → o ≡ Some a → a ≡ discarded) → option_map (conclude s n bytes) o ≡ Some c → IsFine c
   fine_discarded s n bytes None c long is e = absurd cc
@@ -250,28 +254,32 @@ module _ (platform : Platform) (g : IsGuarded platform) (domain : ℕ) where
   no_host status NonPosted e = cc
   no_host status Completion e = cc
 
-  by_tests : (fails memory back : Bool) (x : Class) (one other : Status) → cond fails (stopped one x) (cond (not memory || back) (stopped other x) ToHost) ≡ ToHost → memory ≡ true
-  by_tests true memory back x one other e = absurd (no_host one x e)
-  by_tests false true back x one other e = refl
-  by_tests false false back x one other e = absurd (no_host other x e)
+  by_tests : (fails memory back blocked : Bool) (x : Class) (one other : Status) (direct : Option ℕ) → cond fails (stopped one x) (cond (not memory || back) (stopped other x) (cond blocked (stopped one x) (goes_to direct))) ≡ ToHost → memory ≡ true
+  by_tests true memory back blocked x one other direct e = absurd (no_host one x e)
+  by_tests false true back blocked x one other direct e = refl
+  by_tests false false back blocked x one other direct e = absurd (no_host other x e)
 
-  goes_to_host : (m : Option Malformed) (line : DownstreamPort) (bytes : List ℕ) → malformed bytes ≡ m → fate_unless m line bytes ≡ ToHost → (malformed bytes ≡ None) × (has_address (packet_of bytes).kind ≡ true)
-  goes_to_host None line bytes is e = (is, by_tests _ (has_address (packet_of bytes).kind) _ (class_of_kind (packet_of bytes).kind) _ _ e)
-  goes_to_host (Some cause) line bytes is e = absurd cc
+  goes_to_host : (m : Option Malformed) (f : ℕ) (line : DownstreamPort) (bytes : List ℕ) → malformed bytes ≡ m → fate_unless m share.ports f line bytes ≡ ToHost → (malformed bytes ≡ None) × (has_address (packet_of bytes).kind ≡ true)
+  goes_to_host None f line bytes is e = (is, by_tests _ (has_address (packet_of bytes).kind) _ _ (class_of_kind (packet_of bytes).kind) _ _ (direct_to share.ports f (address_of (packet_of bytes))) e)
+  goes_to_host (Some cause) f line bytes is e = absurd cc
 
-  goes_below : (line : Option DownstreamPort) (bytes : List ℕ) → fate_below line bytes ≡ ToHost → (malformed bytes ≡ None) × (has_address (packet_of bytes).kind ≡ true)
-  goes_below None bytes e = absurd cc
-  goes_below (Some line) bytes e = goes_to_host (malformed bytes) line bytes refl e
+  goes_below : (f : ℕ) (line : Option DownstreamPort) (bytes : List ℕ) → fate_below share.ports f line bytes ≡ ToHost → (malformed bytes ≡ None) × (has_address (packet_of bytes).kind ≡ true)
+  goes_below f None bytes e = absurd cc
+  goes_below f (Some line) bytes e = goes_to_host (malformed bytes) f line bytes refl e
+
+  -- only well-formed bytes go directly to a function
+  well_formed : (m : Option Malformed) (f : ℕ) (line : DownstreamPort) (bytes : List ℕ) (peer : ℕ) → malformed bytes ≡ m → fate_unless m share.ports f line bytes ≡ Direct peer → malformed bytes ≡ None
+  well_formed None f line bytes peer is e = is
+  well_formed (Some cause) f line bytes peer is e = absurd cc
+
+  direct_below : (f : ℕ) (line : Option DownstreamPort) (bytes : List ℕ) (peer : ℕ) → fate_below share.ports f line bytes ≡ Direct peer → malformed bytes ≡ None
+  direct_below f None bytes peer e = absurd cc
+  direct_below f (Some line) bytes peer e = well_formed (malformed bytes) f line bytes peer refl e
 
   fine_carried_if : (s : Alone) (n : ℕ) (bytes : List ℕ) (own : Bool) (c : Change) → AreLong s → (malformed bytes ≡ None) × (has_address (packet_of bytes).kind ≡ true)
       → option_map (conclude s n bytes) (cond own (serve share s.frames (packet_of bytes)) None) ≡ Some c → IsFine c
   fine_carried_if s n bytes true c long h e = fine_served s n bytes long h.0 h.1 (is_write (packet_of bytes).kind) c refl e
   fine_carried_if s n bytes false c long h e = absurd cc
-
-  fine_carried_by : (s : Alone) (n f : ℕ) (bytes : List ℕ) (x : Fate) (c : Change) → AreLong s → fate share.ports f bytes ≡ x → option_map (conclude s n bytes) (carriage_by share s.frames bytes x) ≡ Some c → IsFine c
-  fine_carried_by s n f bytes Vanish c long is e = absurd cc
-  fine_carried_by s n f bytes (Refused status) c long is e = absurd cc
-  fine_carried_by s n f bytes ToHost c long is e = fine_carried_if s n bytes (is_carried share (packet_of bytes)) c long (goes_below (first_port share.ports f) bytes is) e
 
   -- ---- at a function
 
@@ -283,17 +291,52 @@ module _ (platform : Platform) (g : IsGuarded platform) (domain : ℕ) where
       let few = read_few t.kind (dw_count t.length) is access in
       made_so _ (data_made (by.Function h) (reach share t.requester) h t (read_data page t) few (read_long bytes page well few long))
 
-  fine_accessed : (s : Alone) (n h : ℕ) (bytes : List ℕ) (c : Change) → AreLong s → IsWellMade (Downward h) bytes → option_map (conclude s n bytes) (access_of share s.registers h (packet_of bytes)) ≡ Some c → IsFine c
-  fine_accessed s n h bytes c long well e =
+  fine_accessed : (s : Alone) (n h : ℕ) (bytes : List ℕ) (c : Change) → AreLong s → malformed bytes ≡ None → IsAccess (packet_of bytes) → option_map (conclude s n bytes) (access_of share s.registers h (packet_of bytes)) ≡ Some c → IsFine c
+  fine_accessed s n h bytes c long well access e =
       let t = packet_of bytes in
       mapped_twice (conclude s n bytes) _ (page_of s.registers h) c IsFine e
       (λ page found.
       fine_replied (with_access (without s n) h t) (function_answer share h page t) (record { frames = long.frames; registers = all_changed s.registers h (λ page. accessed page t) (keeps_access t) long.registers })
-      (made_answer h bytes page (is_write t.kind) well.0 well.1 (page_long s.registers h page long.registers found) refl))
+      (made_answer h bytes page (is_write t.kind) well access (page_long s.registers h page long.registers found) refl))
+
+  -- what came directly to a function
+
+  fine_or_discarded : (s : Alone) (n : ℕ) (bytes : List ℕ) (o : Option Handling) (c : Change) → AreLong s → ((c : Change) → option_map (conclude s n bytes) o ≡ Some c → IsFine c) → option_map (conclude s n bytes) (Some (or_discarded o)) ≡ Some c → IsFine c
+  fine_or_discarded s n bytes None c long each e = is_fine _ c e (record { frames = long.frames; registers = long.registers; well = made_nothing })
+  fine_or_discarded s n bytes (Some a) c long each e = each c e
+
+  fine_unserved : (s : Alone) (n : ℕ) (bytes : List ℕ) (class : Class) (reply : Emission) (c : Change) → AreLong s → IsWellMade reply.parties reply.bytes → option_map (conclude s n bytes) (Some (unserved class reply)) ≡ Some c → IsFine c
+  fine_unserved s n bytes Posted reply c long well e = is_fine _ c e (record { frames = long.frames; registers = long.registers; well = made_nothing })
+  fine_unserved s n bytes NonPosted reply c long well e = is_fine _ c e (record { frames = long.frames; registers = long.registers; well = made_so reply well })
+  fine_unserved s n bytes Completion reply c long well e = is_fine _ c e (record { frames = long.frames; registers = long.registers; well = made_nothing })
+
+  fine_there : (s : Alone) (n h : ℕ) (bytes : List ℕ) (test : Bool) (c : Change) → AreLong s → malformed bytes ≡ None → (test ≡ true → IsAccess (packet_of bytes))
+      → option_map (conclude s n bytes) (Some (cond test (or_discarded (access_of share s.registers h (packet_of bytes))) (unserved (class_of_kind (packet_of bytes).kind) (function_refusal share h (packet_of bytes))))) ≡ Some c → IsFine c
+  fine_there s n h bytes true c long well access e =
+      fine_or_discarded s n bytes (access_of share s.registers h (packet_of bytes)) c long (λ c e. fine_accessed s n h bytes c long well (access refl) e) e
+  fine_there s n h bytes false c long well access e =
+      let t = packet_of bytes in
+      fine_unserved s n bytes (class_of_kind t.kind) (function_refusal share h t) c long (refusal_made (by.Function h) (reach share t.requester) h UR t) e
+
+  fine_direct : (s : Alone) (n h : ℕ) (bytes : List ℕ) (own : Bool) (c : Change) → AreLong s → malformed bytes ≡ None
+      → option_map (conclude s n bytes) (cond own (Some (request_at_function share s.registers h (packet_of bytes))) None) ≡ Some c → IsFine c
+  fine_direct s n h bytes true c long well e =
+      let t = packet_of bytes in
+      let lies = lies_in (bar_of share.functions h) (address_of t) in
+      fine_there s n h bytes (is_access t && lies) c long well (λ is. is_an_access t (both-first (is_access t) lies is)) e
+  fine_direct s n h bytes false c long well e = absurd cc
+
+  -- ---- what a function sent
+
+  fine_carried_by : (s : Alone) (n f : ℕ) (bytes : List ℕ) (x : Fate) (c : Change) → AreLong s → fate share.ports f bytes ≡ x → option_map (conclude s n bytes) (carriage_by share s.frames s.registers bytes x) ≡ Some c → IsFine c
+  fine_carried_by s n f bytes Vanish c long is e = absurd cc
+  fine_carried_by s n f bytes (Refused status) c long is e = absurd cc
+  fine_carried_by s n f bytes ToHost c long is e = fine_carried_if s n bytes (is_carried share (packet_of bytes)) c long (goes_below f (first_port share.ports f) bytes is) e
+  fine_carried_by s n f bytes (Direct peer) c long is e = fine_direct s n peer bytes (is_carried share (packet_of bytes)) c long (direct_below f (first_port share.ports f) bytes peer is) e
 
   fine_carried : (s : Alone) (n : ℕ) (bytes : List ℕ) (parties : Parties) (c : Change) → AreLong s → IsWellMade parties bytes → option_map (conclude s n bytes) (carriage_of share s.frames s.registers bytes parties) ≡ Some c → IsFine c
   fine_carried s n bytes (Upward f) c long well e = fine_carried_by s n f bytes (fate share.ports f bytes) c long refl e
-  fine_carried s n bytes (Downward h) c long well e = fine_accessed s n h bytes c long well e
+  fine_carried s n bytes (Downward h) c long well e = fine_accessed s n h bytes c long well.0 well.1 e
   fine_carried s n bytes (Answer answerer addressee) c long well e = absurd cc
 
   fine_carry : (s : Alone) (n : ℕ) (item : Option Emission) (c : Change) → AreLong s → IsWellMadeIfAny item → carry share s n item ≡ Some c → IsFine c

@@ -2,13 +2,13 @@
 
 ghost use Rattle.std.specs.Prelude.{◌≡◌, ◌≤◌, ◌<◌, IfNone, false};
 ghost use Rattle.fab_types.specs.Id.{bus_of};
-ghost use Rattle.layout.specs.Rules.{has_bad_fields, is_past_port_limits, buses_meet, windows_meet, last_bus, buses_are_outside, window_is_outside, owner_differs, port_fault_below, port_fault_on, port_fault};
+ghost use Rattle.layout.specs.Rules.{has_bad_fields, has_vectors, last_controls, is_past_port_limits, buses_meet, windows_meet, last_bus, buses_are_outside, window_is_outside, owner_differs, port_fault_below, port_fault_on, port_fault};
 
 use crate::layout::Layout;
 use crate::rules::links::is_within;
 use fab_types::LayoutCause;
 use layout_line::PortText;
-use platform::{DownstreamPort, Switch, is_on_bus, port_above, port_at, switch_on};
+use platform::{DownstreamPort, LayoutVersion, Switch, is_on_bus, port_above, port_at, switch_on};
 
 #[tactic(auto, unfolding(crate::specs::Rules::has_bad_fields))]
 fn has_bad_fields(ports: &[DownstreamPort], port: &PortText) -> bool
@@ -53,6 +53,24 @@ fn windows_meet(ports: &[DownstreamPort], port: &PortText) -> bool
     })
 }
 
+#[tactic(auto, unfolding(crate::specs::Rules::has_vectors))]
+fn has_vectors(ports: &[DownstreamPort], bus: u8) -> bool
+    ensures { result ≡ has_vectors ports.now bus }
+{
+    let bus = u16::from(bus);
+    ports.iter().any(|other| is_on_bus(bus, other) && other.egress_vector.is_some())
+}
+
+fn last_controls(version: LayoutVersion) -> u8
+    ensures value { result ≡ last_controls version }
+    ensures known { result < 64 }
+{
+    match version {
+        LayoutVersion::One => 0x1f,
+        LayoutVersion::Two => 0x3f,
+    }
+}
+
 fn last_bus(above: &Option<DownstreamPort>) -> u8
     ensures { result ≡ last_bus above.now }
 {
@@ -88,14 +106,15 @@ fn owner_differs(above: &Option<DownstreamPort>, port: &PortText) -> bool
 
 #[tactic(auto, unfolding(crate::specs::Rules::port_fault_below))]
 fn port_fault_below(
+    version: LayoutVersion,
     ports: &[DownstreamPort],
     above: Option<DownstreamPort>,
     port: &PortText,
 ) -> Option<LayoutCause>
-    ensures value { result ≡ port_fault_below ports.now above port.now }
-    ensures ranges { IfNone result ((1 ≤ port.now.owner) × (port.now.owner ≤ 31) × (port.now.controls < 32)) }
+    ensures value { result ≡ port_fault_below version ports.now above port.now }
+    ensures ranges { IfNone result ((1 ≤ port.now.owner) × (port.now.owner ≤ 31) × (port.now.controls < 64)) }
 {
-    if has_bad_fields(ports, port) {
+    if has_bad_fields(ports, port) || has_vectors(ports, port.id.bus()) {
         return Some(LayoutCause::Line);
     }
     if is_past_port_limits(ports, port) {
@@ -116,7 +135,7 @@ fn port_fault_below(
     if owner_differs(&above, port) {
         return Some(LayoutCause::OwnerMixed);
     }
-    if 31 < port.controls {
+    if last_controls(version) < port.controls {
         return Some(LayoutCause::AcsUnknown);
     }
     None
@@ -124,12 +143,17 @@ fn port_fault_below(
 
 fn port_fault_on(layout: &Layout, port: &PortText, switch: Option<Switch>) -> Option<LayoutCause>
     ensures value { result ≡ port_fault_on layout.now port.now switch }
-    ensures ranges { IfNone result ((1 ≤ port.now.owner) × (port.now.owner ≤ 31) × (port.now.controls < 32)) }
+    ensures ranges { IfNone result ((1 ≤ port.now.owner) × (port.now.owner ≤ 31) × (port.now.controls < 64)) }
 {
     let Some(switch) = switch else {
         return Some(LayoutCause::Line);
     };
-    port_fault_below(layout.ports(), port_above(layout.ports(), &switch), port)
+    port_fault_below(
+        layout.version(),
+        layout.ports(),
+        port_above(layout.ports(), &switch),
+        port,
+    )
 }
 
 impl Layout {
@@ -137,7 +161,7 @@ impl Layout {
     #[tactic(auto, unfolding(crate::specs::Rules::port_fault))]
     pub(crate) fn port_fault(&self, port: &PortText) -> Option<LayoutCause>
         ensures value { result ≡ port_fault self.now port.now }
-        ensures ranges { IfNone result ((1 ≤ port.now.owner) × (port.now.owner ≤ 31) × (port.now.controls < 32)) }
+        ensures ranges { IfNone result ((1 ≤ port.now.owner) × (port.now.owner ≤ 31) × (port.now.controls < 64)) }
     {
         port_fault_on(self, port, switch_on(self.switches(), port.id.bus()))
     }

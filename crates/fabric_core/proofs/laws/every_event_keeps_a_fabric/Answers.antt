@@ -2,4 +2,4 @@ use Rattle.fabric_core.proofs.order.InOrder.{fabric_after}
 use Rattle.fabric_core.proofs.laws.every_event_keeps_a_fabric.Goals as goal
 
 pub returns : goal.returns
-returns c = fabric_after c.guarded_requests_go_up.ensures.routed
+returns c = fabric_after

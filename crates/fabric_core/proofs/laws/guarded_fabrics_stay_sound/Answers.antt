@@ -2,4 +2,4 @@ use Rattle.fabric_core.proofs.soundness.Guarded as law
 use Rattle.fabric_core.proofs.laws.guarded_fabrics_stay_sound.Goals as goal
 
 pub returns : goal.returns
-returns c = law.guarded_after c.guarded_requests_go_up.ensures.routed
+returns c = law.guarded_after

@@ -2,4 +2,4 @@ use Rattle.fabric_core.proofs.runs.LeftRuns.{taken_out}
 use Rattle.fabric_core.proofs.laws.other_domains_can_be_taken_out.Goals as goal
 
 pub returns : goal.returns
-returns c = taken_out c.guarded_requests_go_up.ensures.routed
+returns c = taken_out

@@ -2,4 +2,4 @@ use Rattle.fabric_core.proofs.order.OrderedSteps.{ordered_step}
 use Rattle.fabric_core.proofs.laws.packets_keep_their_order.Goals as goal
 
 pub returns : goal.returns
-returns c = ordered_step c.guarded_requests_go_up.ensures.routed
+returns c = ordered_step

@@ -2,4 +2,4 @@ use Rattle.fabric_core.proofs.order.AloneSteps.{way_kept}
 use Rattle.fabric_core.proofs.laws.posted_packets_keep_to_their_way.Goals as goal
 
 pub returns : goal.returns
-returns c = way_kept c.guarded_requests_go_up.ensures.routed
+returns c = way_kept

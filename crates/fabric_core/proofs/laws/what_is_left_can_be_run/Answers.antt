@@ -2,4 +2,4 @@ use Rattle.fabric_core.proofs.runs.LeftRuns.{can_be_left}
 use Rattle.fabric_core.proofs.laws.what_is_left_can_be_run.Goals as goal
 
 pub returns : goal.returns
-returns c = can_be_left c.guarded_requests_go_up.ensures.routed
+returns c = can_be_left

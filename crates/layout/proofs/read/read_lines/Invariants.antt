@@ -6,7 +6,7 @@ use Rattle.layout.proofs.read.read_lines.Given as goal
 
 abbrev pub invariant-loop-parts : goal.invariant-loop-parts
 invariant-loop-parts l = record {
-  left : read_from no_lines 2 (pieces l.fn.text) ≡ read_from l.layout l.line (pieces l.rest);
+  left : read_from (no_lines l.fn.version) 2 (pieces l.fn.text) ≡ read_from l.layout l.line (pieces l.rest);
   small : l.line < 4294967296;
 }
 

@@ -1,6 +1,7 @@
 use Rattle.std.proofs.Common.{◌≡◌, false, sym, ap, ◌∙◌, Option, ℕ}
 use Rattle.platform.specs.Owners.{owner_of}
-use Rattle.request_handling.specs.Requests.{or_discarded, unserved_by_host}
+use Rattle.request_handling.specs.AtFunctions.{or_discarded}
+use Rattle.request_handling.specs.Requests.{unserved_by_host}
 use Rattle.request_handling.specs.Carries.{is_owner, serve}
 use Rattle.request_handling.proofs.Choices.{else_is}
 use Rattle.request_handling.proofs.requests.by_table.Goals as goal

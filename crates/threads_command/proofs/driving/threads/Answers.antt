@@ -1,4 +1,4 @@
-use Rattle.threads_command.proofs.Faults.{among, handed_on}
+use Rattle.inputs.proofs.Faults.{among, handed_on}
 use Rattle.threads_command.proofs.driving.threads.Goals as goal
 
 pub returns-clause-ok : goal.returns-clause-ok

@@ -2,7 +2,7 @@ use Rattle.std.proofs.Common.{◌≡◌, false, sym, ap, ◌∙◌, subst, List,
 use Rattle.fab_types.specs.declared.origin.Origin.TheVariants.{Function}
 use Rattle.tlp_view.specs.Kinds.{is_completion}
 use Rattle.domain.specs.declared.receive.Reception.TheVariants.{Ends, Arrives}
-use Rattle.request_handling.specs.Requests.{request_at_function}
+use Rattle.request_handling.specs.AtFunctions.{request_at_function}
 use Rattle.domain.specs.Aliens.{answerer_of, at_function}
 use Rattle.domain.specs.Deliveries.{arrival_at}
 use Rattle.domain.specs.Domains.{DomainView}
