@@ -1,6 +1,6 @@
 //! The domains of a fabric with their outboxes.
 
-ghost use Rattle.std.specs.Prelude.{◌≡◌, ◌++◌, ◌∷◌, [], IfOk, IfErr, IfSome, IsSome, MatchOption, None, OnErr, OnOk, Some, List, is_some, option_map};
+ghost use Rattle.std.specs.Prelude.{◌≡◌, ◌==◌, ◌++◌, ◌∷◌, [], IfOk, IfErr, IfSome, IsSome, MatchOption, None, OnErr, OnOk, Some, List, is_some, length, option_map};
 ghost use Rattle.std.specs.Option.{option_copied};
 ghost use Rattle.std.specs.Result.{IsOkUnless};
 ghost use Rattle.fab_types.specs.declared.faults.begin.SubmitFault.{SubmitFault};
@@ -208,6 +208,13 @@ impl Agents {
         ensures { result ≡ option_map (λ taken. taken.0.head) (eligible class (waiting_of self.now.outboxes origin)) }
     {
         self.outboxes.head(origin, class)
+    }
+
+    /// Does no packet wait in the outbox of this origin? So it is too where there is no such outbox.
+    pub fn has_none_waiting(&self, origin: Origin) -> bool
+        ensures { result ≡ (length (waiting_of self.now.outboxes origin) == 0) }
+    {
+        self.outboxes.is_empty(origin)
     }
 
     /// The domain that made the eligible packet of a class that an origin has waiting.

@@ -1,7 +1,7 @@
 -- A route that is found in one switch alone is the route.
-use Rattle.std.proofs.Common.{◌≡◌, ℕ, Bool, true, false, cond, List, [], ◌∷◌, map, Option, Some, None, refl, sym, ap, ◌∙◌}
-use Rattle.std.specs.Prelude.{◌==◌, ◌&&◌, option_map}
-use Rattle.std.specs.List.{find, filter, list_all}
+use Rattle.std.proofs.Common.{◌≡◌, ℕ, true, cond, List, Option, Some, None, refl, sym, ap, ◌∙◌}
+use Rattle.std.specs.Prelude.{◌==◌, option_map}
+use Rattle.std.specs.List.{list_all}
 use Rattle.std.proofs.lemmas.Bool.{eqb-true, eq-eqb, false≢true}
 use Rattle.fab_types.specs.Id.{bus_of}
 use Rattle.platform.specs.declared.parts.DownstreamPort.{DownstreamPort}
@@ -12,47 +12,11 @@ use Rattle.platform.specs.Tree.{port_at, internal_bus, switch_on}
 use Rattle.layout.proofs.Bools.{all-found}
 use Rattle.bridge.specs.declared.route.Route.TheVariants.{Up, OwnEgress, Nobody}
 use Rattle.bridge.specs.declared.target.Target.{Target}
-use Rattle.bridge.specs.Routes.{holds, holder_on, to_holder, switch_at, route_below, route_from}
-use Rattle.bridge.specs.Groups.{Group, group_of, groups_of, group_at, holder_of, route_into, route_unless_own, route_unless_on, route_among}
-
-map-first : {X Y : Type 0} (f : X → Y) (b : Bool) (x : X) (further : Option X) (mapped : Option Y) → mapped ≡ option_map f further
-    → cond b (Some (f x)) mapped ≡ option_map f (cond b (Some x) further)
-map-first f true x further mapped rest = refl
-map-first f false x further mapped rest = rest
-
--- what is found among images is the image of what is found
-find-map : {X Y : Type 0} (p : Y → Bool) (f : X → Y) (xs : List X) → find p (map f xs) ≡ option_map f (find (λ x. p (f x)) xs)
-find-map p f [] = refl
-find-map p f (x ∷ xs) = map-first f (p (f x)) x (find (λ y. p (f y)) xs) (find p (map f xs)) (find-map p f xs)
-
-both-first : {X : Type 0} (p : X → Bool) (b : Bool) (x : X) (kept : List X) (further : Option X) → find p kept ≡ further
-    → find p (cond b (x ∷ kept) kept) ≡ cond (b && p x) (Some x) further
-both-first p true x kept further rest = ap (λ o. cond (p x) (Some x) o) rest
-both-first p false x kept further rest = rest
-
--- what is found among those that pass is the first that passes both tests
-find-filter : {X : Type 0} (p q : X → Bool) (xs : List X) → find p (filter q xs) ≡ find (λ x. q x && p x) xs
-find-filter p q [] = refl
-find-filter p q (x ∷ xs) = both-first p (q x) x (filter q xs) (find (λ y. q y && p y) xs) (find-filter p q xs)
-
-only-first : (b c : Bool) → (c ≡ true → b ≡ true) → (b && c) ≡ c
-only-first true c implied = refl
-only-first false true implied = implied refl
-only-first false false implied = refl
-
--- the first test may be left out where the second implies it
-find-both : {X : Type 0} (p q : X → Bool) (xs : List X) → ((x : X) → p x ≡ true → q x ≡ true) → find (λ x. q x && p x) xs ≡ find p xs
-find-both p q [] implied = refl
-find-both p q (x ∷ xs) implied = rw (only-first (q x) (p x) (implied x)) (ap (λ o. cond (p x) (Some x) o) (find-both p q xs implied))
-
--- what is found passes
-passes-first : {X : Type 0} (p : X → Bool) (b : Bool) (x y : X) (further : Option X) → p x ≡ b → (further ≡ Some y → p y ≡ true) → cond b (Some x) further ≡ Some y → p y ≡ true
-passes-first p true x y further is rest e = let same : x ≡ y = cc in rw (← same) is
-passes-first p false x y further is rest e = rest e
-
-find-passes : {X : Type 0} (p : X → Bool) (xs : List X) (y : X) → find p xs ≡ Some y → p y ≡ true
-find-passes p [] y e = absurd cc
-find-passes p (x ∷ xs) y e = passes-first p (p x) x y (find p xs) refl (find-passes p xs y) e
+use Rattle.bridge.specs.Routes.{port_to_bus, bus_table, holds, holder_on, to_holder, switch_at, route_below, route_from}
+use Rattle.bridge.specs.declared.target.Target.TheVariants.{Bus}
+use Rattle.bridge.proofs.Tables.{table_of-same}
+use Rattle.bridge.specs.Groups.{Group, port_to_bus_of, bus_table_of, group_of, groups_of, group_at, holder_of, route_into, route_unless_own, route_unless_on, route_among}
+use Rattle.bridge.proofs.Finding.{find-passes, find-map, find-filter, find-both}
 
 -- the ports of a switch, and among them a port by its ID
 own-among : (ports : List DownstreamPort) (line : Switch) (ingress : ℕ) → (internal_bus line == bus_of ingress) ≡ true
@@ -118,3 +82,17 @@ pub grouped : (switches : List Switch) (ports : List DownstreamPort) (ingress : 
 grouped switches ports ingress target nested =
     ap (route_unless_on (groups_of switches ports) ingress target) (find-map (λ (group : Group). internal_bus group.line == bus_of ingress) (group_of ports) switches)
     ∙ on-same switches ports ingress target (switch_on switches (bus_of ingress)) nested refl
+
+table-same : (ports : List DownstreamPort) (line : Switch) → bus_table_of (group_of ports line).ports ≡ bus_table ports line
+table-same ports line = table_of-same 256 (port_to_bus_of (group_of ports line).ports) (port_to_bus ports (internal_bus line)) (λ bus. ap (option_map (λ (port : DownstreamPort). port.id)) (holder-among ports line (Some (Bus bus))))
+
+table-into : (ports : List DownstreamPort) (line : Option Switch) → option_map (λ (group : Group). bus_table_of group.ports) (option_map (group_of ports) line) ≡ option_map (bus_table ports) line
+table-into ports None = refl
+table-into ports (Some line) = ap Some (table-same ports line)
+
+-- the table of a switch's own ports is that of the ports on its internal bus
+pub table-grouped : (switches : List Switch) (ports : List DownstreamPort) (id : ℕ)
+    → option_map (λ (group : Group). bus_table_of group.ports) (group_at (groups_of switches ports) id) ≡ option_map (bus_table ports) (switch_at switches id)
+table-grouped switches ports id =
+    ap (option_map (λ (group : Group). bus_table_of group.ports)) (find-map (λ (group : Group). group.line.id == id) (group_of ports) switches)
+    ∙ table-into ports (switch_at switches id)

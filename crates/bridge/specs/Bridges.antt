@@ -18,12 +18,12 @@ abbrev pub of_platform : Platform → Routes
 of_platform platform = record { switches = platform.switches; ports = platform.ports }
 
 abbrev pub routes_of : Inside → Routes
-routes_of s = record { switches = s.lines.items; ports = s.ports.items }
+routes_of s = record { switches = s.lines.items; ports = s.ports }
 
 -- neither the buses nor the windows of two ports of one switch meet; each port is one of a switch; each switch has
 -- its ports by it; and what is said of the controls is so
 pub record IsBridge (s : Inside) : Type 0 where
-  pub apart : each_pair are_apart s.ports.items ≡ true
-  pub nested : list_all (is_nested s.lines.items s.ports.items) s.ports.items ≡ true
-  pub groups : s.switches.items ≡ groups_of s.lines.items s.ports.items
-  pub guarded : s.is_guarded ≡ list_all is_guarded_port s.ports.items
+  pub apart : each_pair are_apart s.ports ≡ true
+  pub nested : list_all (is_nested s.lines.items s.ports) s.ports ≡ true
+  pub groups : s.switches ≡ groups_of s.lines.items s.ports
+  pub guarded : s.is_guarded ≡ list_all is_guarded_port s.ports

@@ -14,6 +14,7 @@ use Rattle.bridge.specs.declared.route.Route.{Route}
 use Rattle.bridge.specs.declared.route.Route.TheVariants.{Up, Port, OwnEgress, Nobody}
 use Rattle.bridge.specs.declared.target.Target.{Target}
 use Rattle.bridge.specs.declared.target.Target.TheVariants.{Bus, Address}
+use Rattle.bridge.specs.Tables.{table_of}
 
 -- memory requests go by their address, completions by the bus of the ID that they go to
 abbrev pub target_of : Header → Option Target
@@ -38,6 +39,14 @@ is_holder bus target port = is_on_bus bus port && holds port target
 -- the ports of one switch are those on one bus
 abbrev pub holder_on : List DownstreamPort → ℕ → Option Target → Option DownstreamPort
 holder_on ports bus target = find (is_holder bus target) ports
+
+-- the port on an internal bus that has this bus below it, by its ID
+abbrev pub port_to_bus : List DownstreamPort → ℕ → ℕ → Option ℕ
+port_to_bus ports internal bus = option_map (λ port. port.id) (holder_on ports internal (Some (Bus bus)))
+
+-- by bus number 0 to 255: the port of the switch that has the bus below it
+abbrev pub bus_table : List DownstreamPort → Switch → List (Option ℕ)
+bus_table ports switch = table_of 256 (port_to_bus ports (internal_bus switch))
 
 abbrev pub to_holder : Route → Option DownstreamPort → Route
 to_holder otherwise None = otherwise

@@ -1,9 +1,11 @@
 //! Where the ports of a switch send a packet.
 #![tactic(auto)]
 
+mod owners;
 mod route;
 mod routing;
 mod switch;
+mod switches;
 mod target;
 
 pub use route::Route;

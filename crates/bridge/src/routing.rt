@@ -1,6 +1,6 @@
 //! The switches of a platform, and where their ports send packets.
 
-ghost use Rattle.std.specs.Prelude.{◌≡◌, ◌==◌, ℕ, ◌≤◌, count_by, All, true, Some, IfOk};
+ghost use Rattle.std.specs.Prelude.{◌≡◌, ◌==◌, ℕ, ◌≤◌, count_by, All, true, Some, IfOk, option_map};
 ghost use Rattle.std.specs.List.{list_all};
 ghost use Rattle.std.specs.Option.{option_copied};
 ghost use Rattle.fab_types.specs.Id.{bus_of};
@@ -8,26 +8,28 @@ ghost use Rattle.platform.specs.declared.parts.DownstreamPort.{DownstreamPort};
 ghost use Rattle.platform.specs.Egress.{goes_directly};
 ghost use Rattle.platform.specs.Owners.{owner_of};
 ghost use Rattle.platform.specs.Share.{is_guarded_port};
-ghost use Rattle.bridge.specs.Groups.{groups_of, group_on, group_at, route_across, route_into, route_among};
-ghost use Rattle.bridge.specs.Routes.{is_holder, route_of, switch_bus, exit_at, target_of, holds};
+ghost use Rattle.bridge.specs.Groups.{route_across, route_into, route_among};
+ghost use Rattle.bridge.specs.Routes.{bus_table, is_holder, route_of, switch_at, switch_bus, exit_at, target_of, holds};
 
+use crate::owners::OwnedPorts;
 use crate::route::Route;
 use crate::switch::SwitchRoutes;
+use crate::switches::SwitchTable;
 use crate::target::{Target, holds};
 use fab_types::{Bdf, DomainId, Header, NoMemory, PortId};
 use layout::Layout;
-use platform::{DownstreamPort, Switch, goes_directly, owner_of};
+use platform::{DownstreamPort, Switch, goes_directly};
 use std::alloc::Global;
 use std::marker::Model;
 
 /// The switches of a platform and their ports. A contract sees their lines.
-#[derive(Debug, Drop)]
+#[derive(Debug)]
 pub struct Bridge {
     // the lines, in the order of the layout: what a contract sees
     lines: Vec<Switch>,
-    ports: Vec<DownstreamPort>,
+    ports: OwnedPorts,
     // each switch with its own ports, among which a route is found
-    switches: Vec<SwitchRoutes>,
+    switches: SwitchTable,
     // are all five controls set on each port?
     is_guarded: bool,
 }
@@ -42,30 +44,16 @@ impl Model for Bridge {
     ghost invariant = { IsBridge };
 }
 
-fn switches_of(
-    alloc: Global,
-    lines: &[Switch],
-    ports: &[DownstreamPort],
-) -> Result<Vec<SwitchRoutes>, NoMemory>
-    ensures { IfOk result (λ switches. switches.items ≡ groups_of lines.now ports.now) }
-{
-    let mut switches = Vec::new(alloc);
-    for line in lines {
-        switches.push(SwitchRoutes::new(alloc, *line, ports)?)?;
+// written out: a derived one would put all its vectors into the proof of whoever drops a bridge
+impl Drop for Bridge {
+    fn drop(self) {
+        let Bridge {
+            lines: _,
+            ports: _,
+            switches: _,
+            is_guarded: _,
+        } = self;
     }
-    Ok(switches)
-}
-
-fn find_on_bus(switches: &[SwitchRoutes], bus: u8) -> Option<&SwitchRoutes>
-    ensures { option_copied result ≡ group_on switches.now bus }
-{
-    switches.iter().find(|switch| switch.has_bus(bus))
-}
-
-fn find_switch(switches: &[SwitchRoutes], id: PortId) -> Option<&SwitchRoutes>
-    ensures { option_copied result ≡ group_at switches.now id }
-{
-    switches.iter().find(|switch| switch.has_upstream_port(id))
 }
 
 fn route_across(switch: &SwitchRoutes, own: &DownstreamPort, target: Option<Target>) -> Route
@@ -86,15 +74,15 @@ fn route_into(switch: Option<&SwitchRoutes>, target: Option<Target>) -> Route
     }
 }
 
-fn route_among(switches: &[SwitchRoutes], ingress: PortId, target: Option<Target>) -> Route
+fn route_among(switches: &SwitchTable, ingress: PortId, target: Option<Target>) -> Route
     ensures { result ≡ route_among switches.now ingress target }
 {
-    if let Some(switch) = find_on_bus(switches, ingress.id().bus()) {
+    if let Some(switch) = switches.on_bus(ingress.id().bus()) {
         if let Some(own) = switch.port_at(ingress) {
             return route_across(switch, &own, target);
         }
     }
-    route_into(find_switch(switches, ingress), target)
+    route_into(switches.at(ingress), target)
 }
 
 impl Bridge {
@@ -106,14 +94,23 @@ impl Bridge {
         ensures { IfOk result (λ bridge. bridge ≡ of_platform layout.now) }
     {
         let lines = Vec::from_slice(alloc, layout.switches())?;
-        let ports = Vec::from_slice(alloc, layout.ports())?;
-        let switches = switches_of(alloc, &lines, &ports)?;
+        let ports = OwnedPorts::new(alloc, layout.ports())?;
+        let switches = SwitchTable::new(alloc, &lines, ports.as_slice())?;
         Ok(Bridge {
             lines,
             ports,
             switches,
             is_guarded: layout.is_guarded(),
         })
+    }
+
+    /// Where the switch of this upstream port sends completions: at each of the 256 bus numbers, its downstream port whose
+    /// buses, from the secondary to the subordinate bus, have that number, if there is one (PCIe 4.0, 2.2.4.2 and 7.5.1.3).
+    /// None where the layout has no such switch.
+    pub fn bus_table(&self, switch: PortId) -> Option<&[Option<PortId>]>
+        ensures { option_copied result ≡ option_map (bus_table self.now.ports) (switch_at self.now.switches switch) }
+    {
+        self.switches.at(switch).map(|switch| switch.bus_table())
     }
 
     /// Where a packet with this header goes that came into a switch at `ingress`, a downstream port or
@@ -136,7 +133,7 @@ impl Bridge {
     pub fn owner(&self, id: Bdf) -> Option<DomainId>
         ensures { result ≡ owner_of self.now.ports id }
     {
-        owner_of(&self.ports, id)
+        self.ports.owner(id)
     }
 
     /// Does a request of this sender for this address go directly to this function, since a port above the sender lets it
@@ -144,7 +141,7 @@ impl Bridge {
     pub fn goes_directly(&self, sender: Bdf, address: u64, function: Bdf) -> bool
         ensures { result ≡ goes_directly self.now.ports sender address function }
     {
-        goes_directly(&self.ports, sender, address, function)
+        goes_directly(self.ports.as_slice(), sender, address, function)
     }
 
     /// Are all five ACS controls set on each downstream port (PCIe 4.0, 6.12.1)?

@@ -1,15 +1,16 @@
 //! A switch and its own ports.
 
-ghost use Rattle.std.specs.Prelude.{◌≡◌, ◌==◌, IfOk};
+ghost use Rattle.std.specs.Prelude.{◌≡◌, ◌==◌, IfOk, option_map};
 ghost use Rattle.std.specs.List.{find};
-ghost use Rattle.std.specs.Option.{option_copied};
+ghost use Rattle.fab_types.specs.Id.{bus_of};
+ghost use Rattle.platform.specs.Owners.{holds_address};
 ghost use Rattle.platform.specs.Tree.{is_on_bus};
 ghost use Rattle.platform.specs.Tree.{port_at, internal_bus};
-ghost use Rattle.bridge.specs.Routes.{holds, to_holder};
-ghost use Rattle.bridge.specs.Groups.{Group, group_of, holder_of};
+ghost use Rattle.bridge.specs.Routes.{to_holder};
+ghost use Rattle.bridge.specs.Groups.{Group, group_of, holder_of, port_to_bus_of, bus_table_of};
 
 use crate::route::Route;
-use crate::target::{Target, holds};
+use crate::target::Target;
 use fab_types::{NoMemory, PortId};
 use platform::{DownstreamPort, Switch, find_port, internal_bus, is_on_bus};
 use std::alloc::Global;
@@ -20,27 +21,44 @@ use std::marker::Model;
 pub(crate) struct SwitchRoutes {
     line: Switch,
     ports: Vec<DownstreamPort>,
+    // by bus number: the port that has the bus below it
+    table: Vec<Option<PortId>>,
 }
 
 impl Model for SwitchRoutes {
     ghost Value = { Group };
 
     ghost view = { λ s. record { line = s.line; ports = s.ports.items } };
+
+    ghost invariant = { λ s. s.table.items ≡ bus_table_of s.ports.items };
 }
 
-fn find_holder(ports: &[DownstreamPort], target: Option<Target>) -> Option<&DownstreamPort>
-    ensures { option_copied result ≡ find (λ port. holds port target) ports.now }
+fn port_to_bus(ports: &[DownstreamPort], bus: u8) -> Option<PortId>
+    ensures { result ≡ port_to_bus_of ports.now bus }
 {
-    ports.iter().find(|port| holds(port, target))
+    ports
+        .iter()
+        .find(|port| port.holds_bus(bus))
+        .map(|port| port.id)
 }
 
-fn to_holder(otherwise: Route, holder: Option<&DownstreamPort>) -> Route
-    ensures { result ≡ to_holder otherwise (option_copied holder.entry) }
+fn bus_table_of(alloc: Global, ports: &[DownstreamPort]) -> Result<Vec<Option<PortId>>, NoMemory>
+    ensures { IfOk result (λ table. table.items ≡ bus_table_of ports.now) }
 {
-    match holder {
-        Some(port) => Route::Port(port.id),
-        None => otherwise,
-    }
+    Ok(
+        (0..=u8::MAX)
+            .map(|bus| port_to_bus(ports, bus))
+            .collect(alloc)?,
+    )
+}
+
+fn port_to_address(ports: &[DownstreamPort], address: u64) -> Option<PortId>
+    ensures { result ≡ option_map (λ port. port.id) (find (λ port. holds_address port address) ports.now) }
+{
+    ports
+        .iter()
+        .find(|port| port.holds_address(address))
+        .map(|port| port.id)
 }
 
 impl SwitchRoutes {
@@ -53,12 +71,13 @@ impl SwitchRoutes {
         ensures { IfOk result (λ switch. switch ≡ group_of ports.now line) }
     {
         let bus = internal_bus(&line);
-        let ports = ports
+        let ports: Vec<DownstreamPort> = ports
             .iter()
             .copied()
             .filter(|port| is_on_bus(bus, port))
             .collect(alloc)?;
-        Ok(SwitchRoutes { line, ports })
+        let table = bus_table_of(alloc, &ports)?;
+        Ok(SwitchRoutes { line, ports, table })
     }
 
     /// Is its upstream port this one?
@@ -68,11 +87,11 @@ impl SwitchRoutes {
         self.line.id == id.id()
     }
 
-    /// Are its ports on this bus?
-    pub(crate) fn has_bus(&self, bus: u8) -> bool
-        ensures { result ≡ (internal_bus self.now.line == bus) }
+    /// Is its upstream port on this bus?
+    pub(crate) fn is_below_bus(&self, bus: u8) -> bool
+        ensures { result ≡ (bus_of self.now.line.id == bus) }
     {
-        internal_bus(&self.line) == u16::from(bus)
+        self.line.id.bus() == bus
     }
 
     /// Its port of this ID.
@@ -82,10 +101,37 @@ impl SwitchRoutes {
         find_port(&self.ports, id).copied()
     }
 
+    /// By bus number: its port that has the bus below it.
+    pub(crate) fn bus_table(&self) -> &[Option<PortId>]
+        ensures { result.now ≡ bus_table_of self.now.ports }
+    {
+        &self.table
+    }
+
+    fn port_to_bus(&self, bus: u8) -> Option<PortId>
+        ensures { result ≡ port_to_bus_of self.now.ports bus }
+    {
+        self.table[usize::from(bus)]
+    }
+
+    // by the table for a bus, by a search for an address: a switch has at most eight windows
+    fn holder(&self, target: Option<Target>) -> Option<PortId>
+        ensures { result ≡ option_map (λ port. port.id) (holder_of self.now target) }
+    {
+        match target {
+            Some(Target::Bus(bus)) => self.port_to_bus(bus),
+            Some(Target::Address(address)) => port_to_address(&self.ports, address),
+            None => None,
+        }
+    }
+
     /// To its port that has the target below it, if there is one.
     pub(crate) fn route(&self, otherwise: Route, target: Option<Target>) -> Route
         ensures { result ≡ to_holder otherwise (holder_of self.now target) }
     {
-        to_holder(otherwise, find_holder(&self.ports, target))
+        match self.holder(target) {
+            Some(id) => Route::Port(id),
+            None => otherwise,
+        }
     }
 }

@@ -65,6 +65,16 @@ is_begin (Tick function) = true
 is_begin (Mmio domain access) = true
 is_begin event = false
 
+-- does it take a packet from where that waits or travels?
+abbrev pub takes_packet : Event → Bool
+takes_packet (Enter origin class) = true
+takes_packet (Pass port class) = true
+takes_packet (Send direction class) = true
+takes_packet (Take direction) = true
+takes_packet (Root class) = true
+takes_packet (Arrive function class) = true
+takes_packet event = false
+
 -- the refusal of a begin, if it is refused, memory aside
 abbrev pub refusal : World → Event → Option BeginFault
 refusal w (Submit function bytes) = option_map begin.Submit (submit_refusal w.agents.domains function bytes)

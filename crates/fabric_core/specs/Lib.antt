@@ -9,6 +9,7 @@ pub mod Wanting
 pub mod Events
 pub mod Stations
 pub mod Isolation
+pub mod Leaving
 pub mod Runs
 pub mod Places
 pub mod Soundness

@@ -1,25 +1,28 @@
 //! The fabric: what each event does, and runs over lists of events.
 
-ghost use Rattle.std.specs.Prelude.{◌≡◌, ◌≢◌, All, IfOk, OnErr, option_map, true};
+ghost use Rattle.std.specs.Prelude.{◌≡◌, ◌≢◌, All, IfOk, OnErr, option_map, false, true};
 ghost use Rattle.std.specs.List.{list_all};
 ghost use Rattle.std.specs.Option.{option_copied};
 ghost use Rattle.agents.specs.Agents.{AreReplayed};
 ghost use Rattle.fab_types.specs.declared.outcome.Outcome.TheVariants.{Idle};
 ghost use Rattle.platform.specs.Share.{is_guarded_port};
 ghost use Rattle.domains.specs.Domains.{domain_at, place_of};
+ghost use Rattle.fab_types.specs.declared.class.Class.{Class};
 ghost use Rattle.fabric_core.specs.Credits.{HasCredits, channel_of};
-ghost use Rattle.fabric_core.specs.Events.{StepsTo, is_begin};
+ghost use Rattle.fabric_core.specs.Events.{StepsTo, is_begin, takes_packet};
 ghost use Rattle.fabric_core.specs.Isolation.{AreApart, IsApart, home};
 ghost use Rattle.fabric_core.specs.Orderly.{IsOrderly};
 ghost use Rattle.fabric_core.specs.Orders.{AreInOrder};
 ghost use Rattle.fabric_core.specs.Places.{HaveOnePlace};
 ghost use Rattle.fabric_core.specs.Runs.{HaveBegun, Run};
-ghost use Rattle.fabric_core.specs.Stations.{events_at, is_quiet};
+ghost use Rattle.fabric_core.specs.Leaving.{AreLeaving, has};
+ghost use Rattle.fabric_core.specs.Stations.{events_at, is_quiet, taking};
 ghost use Rattle.fabric_core.specs.TakenOut.{NoneCanTell};
 ghost use Rattle.fabric_core.specs.World.{is_guarded, world_of};
 
 use crate::event::Event;
 use crate::laws::{every_event_keeps_a_fabric, other_domains_can_be_taken_out};
+use crate::leaving::{LeavingClasses, leaving};
 use crate::quiet::is_quiet;
 use crate::station::Station;
 use crate::step::step;
@@ -120,11 +123,21 @@ impl Fabric {
     /// The domain that an event is of, as the fabric stands. A begin is of the domain whose function or host begins it,
     /// and an event that takes a packet is of that packet's home, the domain that made it, wherever the packet is and
     /// whoever takes it. None where the event tells credits, where there is nothing to take, and where no domain has the
-    /// function or host.
+    /// function or host. Where there is nothing to take the event would answer `Idle`.
     pub fn home(&self, event: &Event) -> Option<DomainId>
-        ensures { result ≡ home self.now event.now }
+        ensures value { result ≡ home self.now event.now }
+        ensures idle { takes_packet event.now ≡ true → result ≡ None → StepsTo self.now event.now Idle self.now }
     {
         home(&self.interconnect, &self.agents, event)
+    }
+
+    /// Of which classes a packet may leave this station (PCIe 4.0, 2.4.1): its oldest of the class, unless an older posted
+    /// one waits there. An event that takes a packet of another class there would answer `Idle`.
+    pub fn leaving(&self, station: &Station) -> LeavingClasses
+        ensures value { AreLeaving self.now station.now result }
+        ensures idle { (class : Class) → has result class ≡ false → StepsTo self.now (taking station.now class) Idle self.now }
+    {
+        leaving(&self.interconnect, &self.agents, station)
     }
 
     /// Can nothing move at this station, before something is put there? No packet may leave it, whatever its class, and

@@ -7,6 +7,7 @@ mod ends;
 mod event;
 mod fabric;
 mod laws;
+mod leaving;
 mod lose;
 mod pass;
 mod purge;
@@ -27,5 +28,6 @@ pub use laws::{
     only_non_posted_are_answered, other_domains_can_be_taken_out, packets_have_one_place,
     packets_keep_their_order, posted_packets_keep_to_their_way, what_is_left_can_be_run,
 };
+pub use leaving::LeavingClasses;
 pub use purge::purge_run;
 pub use station::Station;

@@ -1,33 +1,24 @@
 //! Where nothing can move in a fabric, before something is put there.
 
-ghost use Rattle.std.specs.Prelude.{◌≡◌, List, is_none};
+ghost use Rattle.std.specs.Prelude.{◌≡◌, List};
 ghost use Rattle.fab_types.specs.declared.violation.Violation.{Violation};
 ghost use Rattle.frame_log.specs.Descriptor.{Descriptor};
 ghost use Rattle.agents.specs.Agents.{waiting_of};
 ghost use Rattle.link.specs.Quiet.{none_eligible};
-ghost use Rattle.lane.specs.Lanes.{eligible};
 ghost use Rattle.fabric_core.specs.Stations.{is_quiet};
 ghost use Rattle.fabric_core.specs.World.{world_over};
 
 use crate::ends::top_link;
 use crate::station::Station;
 use agents::Agents;
-use fab_types::{Class, Direction, Origin, Way};
+use fab_types::{Direction, Origin, Way};
 use interconnect::Interconnect;
 
-fn has_none_of(agents: &Agents, origin: &Origin, class: Class) -> bool
-    ensures { result ≡ is_none (eligible class (waiting_of agents.now.outboxes origin.now)) }
-{
-    agents.home(*origin, class).is_none()
-}
-
-/// May no packet leave the outbox of this origin, whatever its class?
+/// May no packet leave the outbox of this origin, whatever its class? The oldest always may, so then none waits.
 fn has_none_emitted(agents: &Agents, origin: &Origin) -> bool
     ensures { result ≡ none_eligible (waiting_of agents.now.outboxes origin.now) }
 {
-    has_none_of(agents, origin, Class::Posted)
-        && has_none_of(agents, origin, Class::NonPosted)
-        && has_none_of(agents, origin, Class::Completion)
+    agents.has_none_waiting(*origin)
 }
 
 pub(crate) fn is_quiet(interconnect: &Interconnect, agents: &Agents, station: &Station) -> bool

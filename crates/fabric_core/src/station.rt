@@ -1,6 +1,7 @@
 //! Where packets wait or travel in a fabric.
 
-ghost use Rattle.std.specs.Prelude.{◌≡◌};
+ghost use Rattle.std.specs.Prelude.{◌≡◌, true};
+ghost use Rattle.fabric_core.specs.Events.{takes_packet};
 ghost use Rattle.fabric_core.specs.Stations.{taking};
 
 use crate::event::Event;
@@ -27,7 +28,8 @@ pub enum Station {
 impl Station {
     /// The event by which a packet of this class is taken there.
     pub fn taking(&self, class: Class) -> Event
-        ensures { result ≡ taking self.now class }
+        ensures value { result ≡ taking self.now class }
+        ensures takes { takes_packet result ≡ true }
     {
         match self {
             Station::FunctionOutbox(function) => Event::Enter(Origin::Function(*function), class),

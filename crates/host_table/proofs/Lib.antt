@@ -1,1 +1,5 @@
+pub mod Rising
+pub mod Contents
+pub mod Grouping
+pub mod Indexing
 pub mod Membership

@@ -1,23 +1,29 @@
 -- A table in which no two lines map one page of one requester is a set.
-use Rattle.std.proofs.Common.{◌≡◌, ℕ, zero, suc, ◌<◌, Bool, true, false, ◌&&◌, cond, List, [], ◌∷◌, length, slice_index_or, Some, option_map, sym, ◌∙◌, refl, ap, arith}
-use Rattle.std.specs.Prelude.{Any, AllPairs, IsTrue}
+use Rattle.std.proofs.Common.{◌≡◌, ℕ, zero, suc, ◌<◌, Bool, true, false, ◌&&◌, cond, List, [], ◌∷◌, length, slice_index_or, Some, None, option_map, sym, ◌∙◌, refl, ap, arith, eq-eqb, inl, inr, get_or, ◌==◌}
+use Rattle.std.specs.Prelude.{Any, AllPairs, Contains, IsTrue}
 use Rattle.std.specs.List.{find}
-use Rattle.std.proofs.lemmas.Bool.{eqb-true, false≢true}
+use Rattle.std.proofs.lemmas.Bool.{cases_lt, eqb-true, false≢true}
+use Rattle.std.proofs.lemmas.List.{get_or_default}
 use Rattle.platform.specs.declared.parts.Mapping.{Mapping}
 use Rattle.platform.specs.declared.parts.MapTarget.{MapTarget}
 use Rattle.platform.specs.declared.parts.Access.{Access}
-use Rattle.layout.specs.Tables.{fits, allows}
-use Rattle.host_table.specs.Target.{MapsOnce}
+use Rattle.layout.specs.Tables.{MapsOnce, fits, allows, target_of}
 
 both_parts : (a b : Bool) → (a && b) ≡ true → (a ≡ true) × (b ≡ true)
 both_parts true b both = (refl, both)
 both_parts false b both = absurd (false≢true both)
 
 -- a line that fits is of this page of this requester
-key_of_fit : (requester page : ℕ) (access : Access) (line : Mapping) → fits requester page access line ≡ true → (line.requester ≡ requester) × (line.page ≡ page)
+pub key_of_fit : (requester page : ℕ) (access : Access) (line : Mapping) → fits requester page access line ≡ true → (line.requester ≡ requester) × (line.page ≡ page)
 key_of_fit requester page access line fit =
     let keys = both_parts _ _ (both_parts _ (allows line.rights access) fit).0 in
     (eqb-true line.requester requester keys.0, eqb-true line.page page keys.1)
+
+fit_of_key : (requester page : ℕ) (access : Access) (line : Mapping) → line.requester ≡ requester → line.page ≡ page → allows line.rights access ≡ true → fits requester page access line ≡ true
+fit_of_key requester page access line same_requester same_page allowed = rw (eq-eqb line.requester requester same_requester, eq-eqb line.page page same_page, allowed) refl
+
+pub rights_of_fit : (requester page : ℕ) (access : Access) (line : Mapping) → fits requester page access line ≡ true → allows line.rights access ≡ true
+rights_of_fit requester page access line fit = (both_parts ((line.requester == requester) && (line.page == page)) (allows line.rights access) fit).1
 
 -- the line passes and has this target
 abbrev Leads : (Mapping → Bool) → MapTarget → Mapping → Type 0
@@ -59,3 +65,34 @@ one_fits maps requester page access once i j d below within first second =
     let a = key_of_fit requester page access (slice_index_or maps i d) first in
     let b = key_of_fit requester page access (slice_index_or maps j d) second in
     once i j d below within (a.0 ∙ sym b.0) (a.1 ∙ sym b.1)
+
+-- a line that is mapped once is the line of its requester and page
+pub same_line : (maps : List Mapping) (one other : Mapping) → MapsOnce maps → Contains maps one → Contains maps other → one.requester ≡ other.requester → one.page ≡ other.page → one ≡ other
+same_line maps one other once first second same_requester same_page =
+    let at_first : get_or maps first.0 other ≡ one = get_or_default maps first.0 other one first.1 ∙ first.2 in
+    let requesters : (get_or maps first.0 other).requester ≡ (get_or maps second.0 other).requester = ap (λ l. l.requester) at_first ∙ same_requester ∙ ap (λ l. l.requester) (sym second.2) in
+    let pages : (get_or maps first.0 other).page ≡ (get_or maps second.0 other).page = ap (λ l. l.page) at_first ∙ same_page ∙ ap (λ l. l.page) (sym second.2) in
+    elim (cases_lt first.0 second.0) [
+      | inl less ↦ absurd (once first.0 second.0 other less second.1 requesters pages)
+      | inr not_less ↦ elim (cases_lt second.0 first.0) [
+        | inl greater ↦ absurd (once second.0 first.0 other greater first.1 (sym requesters) (sym pages))
+        | inr not_greater ↦ let same : first.0 ≡ second.0 = omega arith in sym at_first ∙ rw same second.2
+      ]
+    ]
+
+-- the target of the line that is allowed
+pub allowed_target : (maps : List Mapping) (requester page : ℕ) (access : Access) (line : Mapping) → MapsOnce maps → Contains maps line → line.requester ≡ requester → line.page ≡ page → allows line.rights access ≡ true → target_of maps requester page access ≡ Some line.target
+allowed_target maps requester page access line once there same_requester same_page allowed =
+    leads_found (fits requester page access) line.target maps (one_fits maps requester page access once) (there.0, line, there.1, there.2, (fit_of_key requester page access line same_requester same_page allowed, refl))
+
+missing : (p : Mapping → Bool) (lines : List Mapping) (b : Bool) (line : Mapping) → p line ≡ b → ((other : Mapping) → Contains (line ∷ lines) other → p other ≡ true → ⊥) → find p lines ≡ None → cond b (Some line) (find p lines) ≡ None
+missing p lines true line passes none rest = absurd (none line (0, omega arith, refl) passes)
+missing p lines false line fails none rest = rest
+
+none_found : (p : Mapping → Bool) (lines : List Mapping) → ((other : Mapping) → Contains lines other → p other ≡ true → ⊥) → find p lines ≡ None
+none_found p [] none = refl
+none_found p (line ∷ lines) none = missing p lines (p line) line refl none (none_found p lines (λ other there. none other (suc there.0, omega (arith, there.1), there.2)))
+
+-- no target, where no line fits
+pub no_target : (maps : List Mapping) (requester page : ℕ) (access : Access) → ((line : Mapping) → Contains maps line → fits requester page access line ≡ true → ⊥) → target_of maps requester page access ≡ None
+no_target maps requester page access none = ap (option_map (λ line. line.target)) (none_found (fits requester page access) maps none)

@@ -1,1 +1,4 @@
 pub mod Target
+pub mod Rising
+pub mod Groups
+pub mod Index

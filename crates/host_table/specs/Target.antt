@@ -1,6 +1,5 @@
--- What a table answers, and when a table is a set.
-use Rattle.std.specs.Prelude.{◌≡◌, List, Option, Some, None, AllPairs}
-use Rattle.platform.specs.declared.parts.Mapping.{Mapping}
+-- What a table answers.
+use Rattle.std.specs.Prelude.{Option, Some, None}
 use Rattle.platform.specs.declared.parts.MapTarget.{MapTarget}
 use Rattle.platform.specs.declared.parts.MapTarget.TheVariants as line
 use Rattle.host_table.specs.declared.target.Target.{Target}
@@ -11,7 +10,3 @@ abbrev pub mapped_to : Target → Option MapTarget
 mapped_to (table.Frame number) = Some (line.Frame number)
 mapped_to (table.Peer function) = Some (line.Peer function)
 mapped_to table.None = None
-
--- no two lines map one page of one requester
-abbrev pub MapsOnce : List Mapping → Type 0
-MapsOnce maps = AllPairs (λ a b. a.requester ≡ b.requester → a.page ≡ b.page → ⊥) maps

@@ -1,22 +1,19 @@
 //! A table as a set.
 
-ghost use Rattle.std.specs.Prelude.{◌≡◌, ◌↔◌, Some, Any, IsTrue};
+ghost use Rattle.std.specs.Prelude.{◌≡◌, ◌↔◌, ℕ, Some, Any, IsTrue};
+ghost use Rattle.platform.specs.declared.parts.Access.{Access};
+ghost use Rattle.platform.specs.declared.parts.MapTarget.{MapTarget};
 ghost use Rattle.layout.specs.Tables.{target_of, fits};
-ghost use Rattle.host_table.specs.Target.{MapsOnce};
 
-use fab_types::Bdf;
-use platform::{Access, MapTarget, Mapping};
+use crate::table::HostTable;
 
-/// Where no two lines map one page of one requester, the target of an access is that of the one line
-/// that fits, wherever it stands. This is proved, and does nothing.
-pub fn lookup_is_membership(
-    maps: &[Mapping],
-    requester: Bdf,
-    page: u64,
-    access: Access,
-    target: MapTarget,
-)
-    requires { MapsOnce maps.now }
-    ensures { (target_of maps.now requester page access ≡ Some target)
-        ↔ Any (λ line. IsTrue (fits requester page access line) × (line.target ≡ target)) maps.now }
-{}
+/// The target of an access is that of the one line of the table that fits, wherever it stands. This is
+/// proved, and does nothing.
+pub fn lookup_is_membership(table: &HostTable)
+    ensures { (requester page : ℕ) (access : Access) (target : MapTarget)
+        → (target_of table.now requester page access ≡ Some target)
+        ↔ Any (λ line. IsTrue (fits requester page access line) × (line.target ≡ target)) table.now }
+{
+    // for the proof: no page of a table is mapped twice
+    let _ = &table.lines;
+}

@@ -1,7 +1,12 @@
-ghost use Rattle.std.specs.Prelude.{◌≡◌, IfOk};
-ghost use Rattle.layout.specs.Tables.{target_of, fits, allows};
-ghost use Rattle.host_table.specs.Target.{mapped_to};
+//! The table of a domain's host.
 
+ghost use Rattle.std.specs.Prelude.{◌≡◌, IfOk, Some};
+ghost use Rattle.layout.specs.Tables.{MapsOnce, target_of, allows};
+ghost use Rattle.host_table.specs.Target.{mapped_to};
+ghost use Rattle.host_table.specs.Groups.{AreGroups};
+
+use crate::groups::{Group, line_of};
+use crate::index::{RequesterGroups, index_of, place_of_requester};
 use crate::target::Target;
 use fab_types::{Bdf, NoMemory};
 use layout::Start;
@@ -12,7 +17,8 @@ use std::marker::Model;
 /// The mappings of a domain's functions. A contract sees the list of their lines.
 #[derive(Debug, Drop)]
 pub struct HostTable {
-    lines: Vec<Mapping>,
+    pub(crate) lines: Vec<Mapping>,
+    index: Vec<RequesterGroups>,
 }
 
 impl Model for HostTable {
@@ -21,7 +27,11 @@ impl Model for HostTable {
 
     ghost Value = { List Mapping };
 
+    ghost use Rattle.host_table.specs.Index.{IsTable};
+
     ghost view = { λ t. t.lines.items };
+
+    ghost invariant = { IsTable };
 }
 
 fn is_allowed(rights: Rights, access: Access) -> bool
@@ -33,10 +43,13 @@ fn is_allowed(rights: Rights, access: Access) -> bool
     }
 }
 
-fn is_fit(line: &Mapping, requester: Bdf, page: u64, access: Access) -> bool
-    ensures { result ≡ fits requester page access line.now }
+fn answer(target: MapTarget) -> Target
+    ensures { mapped_to result ≡ Some target }
 {
-    line.requester == requester && line.page == page && is_allowed(line.rights, access)
+    match target {
+        MapTarget::Frame(number) => Target::Frame(number),
+        MapTarget::Peer(function) => Target::Peer(function),
+    }
 }
 
 impl HostTable {
@@ -46,7 +59,19 @@ impl HostTable {
         ensures { IfOk result (λ table. table ≡ start.now.maps) }
     {
         let lines = Vec::from_slice(alloc, start.maps())?;
-        Ok(HostTable { lines })
+        let index = index_of(alloc, &lines)?;
+        Ok(HostTable { lines, index })
+    }
+
+    /// The lines of a requester in groups of 512 pages, by rising number: none where it has no line.
+    pub fn groups(&self, requester: Bdf) -> &[Group]
+        ensures groups { AreGroups self.now requester result.now }
+        ensures once { MapsOnce self.now }
+    {
+        match place_of_requester(&self.index, requester) {
+            Ok(place) => &self.index[place].groups,
+            Err(_) => &[],
+        }
     }
 
     /// What this page of this requester is mapped to for this access. A page is an address divided by
@@ -54,16 +79,9 @@ impl HostTable {
     pub fn lookup(&self, requester: Bdf, page: u64, access: Access) -> Target
         ensures { mapped_to result ≡ target_of self.now requester page access }
     {
-        let line = self
-            .lines
-            .iter()
-            .find(|line| is_fit(line, requester, page, access));
-        match line {
-            Some(line) => match line.target {
-                MapTarget::Frame(number) => Target::Frame(number),
-                MapTarget::Peer(function) => Target::Peer(function),
-            },
-            None => Target::None,
+        match line_of(self.groups(requester), page) {
+            Some(line) if is_allowed(line.rights, access) => answer(line.target),
+            _ => Target::None,
         }
     }
 }

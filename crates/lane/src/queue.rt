@@ -1,6 +1,6 @@
 //! Lanes that are queues in memory.
 
-ghost use Rattle.std.specs.Prelude.{◌≡◌, ◌≢◌, ◌<◌, ◌^◌, ◌==◌, ◌++◌, ◌∷◌, ℕ, [], None, IfOk, IsTrue, MatchBool, MatchResult, ◌↔◌, false, option_map, true};
+ghost use Rattle.std.specs.Prelude.{◌≡◌, ◌≢◌, ◌<◌, ◌^◌, ◌==◌, ◌++◌, ◌∷◌, ℕ, [], None, IfOk, IsTrue, MatchBool, MatchResult, ◌↔◌, false, length, option_map, true};
 ghost use Rattle.port_queue.specs.Queue.{count_of};
 ghost use Rattle.lane.specs.Lanes.{class_of, eligible};
 ghost use Rattle.lane.specs.Queues.{frames_of, frames_restored, IsSorted};
@@ -82,6 +82,13 @@ impl<const CAP: usize> FrameQueue<CAP> {
         }
         self.queue.put(class, frame);
         Ok(())
+    }
+
+    /// Does no packet wait?
+    pub fn is_empty(&self) -> bool
+        ensures { result ≡ (length (frames_of self.now.queue.waiting) == 0) }
+    {
+        self.queue.is_empty()
     }
 
     /// The domain that made the eligible packet of a class (PCIe 4.0, 2.4.1), if one is eligible.

@@ -1,5 +1,5 @@
 -- Tests over lists.
-use Rattle.std.proofs.Common.{◌≡◌, ℕ, ◌+◌, ◌≤◌, ◌<◌, Bool, true, false, cond, List, [], ◌∷◌, ◌++◌, length, Option, Some, refl, ap, ◌∙◌, arith, zero-add}
+use Rattle.std.proofs.Common.{◌≡◌, ℕ, zero, suc, get_or, ◌+◌, ◌≤◌, ◌<◌, Bool, true, false, cond, List, [], ◌∷◌, ◌++◌, length, Option, Some, refl, ap, ◌∙◌, arith, zero-add}
 use Rattle.std.specs.Prelude.{◌&&◌, ◌||◌, not, count_by, is_some}
 use Rattle.std.specs.List.{list_all, list_any, find}
 use Rattle.std.proofs.lemmas.List.Sums.{sum_by-append}
@@ -161,3 +161,9 @@ any-not_last p (x ∷ xs) y h k = any-not_here (p x) (list_any p xs) (list_any p
 pub or-here : (b rest : Bool) → b ≡ true → (b || rest) ≡ true
 or-here true rest h = refl
 or-here false rest h = absurd cc
+
+-- where no element passes, the one at this place does not
+pub none-at : {X : Type 0} (p : X → Bool) (xs : List X) (k : ℕ) (d : X) → list_any p xs ≡ false → k < length xs → p (get_or xs k d) ≡ false
+none-at p [] k d none within = absurd (omega arith)
+none-at p (x ∷ xs) zero d none within = or-first (p x) (list_any p xs) none
+none-at p (x ∷ xs) (suc k) d none within = none-at p xs k d (or-second (p x) (list_any p xs) none) (omega (arith, within))

@@ -27,6 +27,7 @@ use Rattle.layout.proofs.Levels.{level-stays, level-among, level-new}
 use Rattle.layout.proofs.Alone.{few-functions, no-functions, alone-port, alone-function, alone-switch, alone-root}
 use Rattle.layout.proofs.Free.{free-function, free-switch}
 use Rattle.layout.proofs.Sharing.{home-stays, unshared-stays, known-new, home-new, unshared-new, known-stays}
+use Rattle.layout.proofs.MapsOnce.{once-more}
 use Rattle.layout.proofs.Vectors.{vectors-more, vectors-new, no-vectors, vectors-given}
 use Rattle.layout.proofs.Given.{all-given, count-map, home-given, hung-given, levels-given, nested-given, pair-mapped, placed-given, unshared-given}
 use Rattle.layout.proofs.NoFault.{none-first, none-rest, three-none, four-none}
@@ -69,6 +70,7 @@ keeps-budget p budget h none = record {
   known = h.known;
   home = h.home;
   unshared = h.unshared;
+  mapped_once = h.mapped_once;
   vectors = h.vectors;
 }
 
@@ -97,6 +99,7 @@ keeps-credit p credit h none = record {
   known = h.known;
   home = h.home;
   unshared = h.unshared;
+  mapped_once = h.mapped_once;
   vectors = h.vectors;
 }
 
@@ -128,6 +131,7 @@ keeps-map p line h none =
       known = all-more (is_known_map p.functions p.frames) p.maps (map_line line) h.known (and-both _ _ (not-false (is_function p.functions line.requester) (or-first _ _ rules.0)) (known-new p.functions p.frames line.target (not-false (is_known_target p.functions line.target) (or-second _ _ rules.0)) (or-first _ _ rules.1)));
       home = all-more (is_home_map p.ports) p.maps (map_line line) h.home (home-new p.ports p.maps (domain_of p.ports line.requester) line.target rules.2);
       unshared = pair-more (share_no_frame p.ports) p.maps (map_line line) h.unshared (unshared-new p.ports p.maps (domain_of p.ports line.requester) line.target rules.2);
+      mapped_once = once-more p.maps line rules.3 h.mapped_once;
       vectors = h.vectors;
     }
 
@@ -173,6 +177,7 @@ keeps-port p port h low none =
       known = h.known;
       home = all-weaker-among (is_known_map p.functions p.frames) (is_home_map p.ports) (is_home_map (p.ports ++ port_line port ∷ [])) p.maps (λ line. home-stays p.ports (port_line port ∷ []) p.functions p.frames line h.placed) h.known h.home;
       unshared = pair-weaker (is_known_map p.functions p.frames) (share_no_frame p.ports) (share_no_frame (p.ports ++ port_line port ∷ [])) p.maps (λ one other. unshared-stays p.ports (port_line port ∷ []) p.functions p.frames one other h.placed) h.known h.unshared;
+      mapped_once = h.mapped_once;
       vectors = vectors-new p.functions p.ports port (no-vectors p.version p.ports (port_above p.ports on.0) port on.2) h.vectors;
     }
 
@@ -217,6 +222,7 @@ keeps-function p function h none =
       known = all-weaker (is_known_map p.functions p.frames) (is_known_map (p.functions ++ function ∷ []) p.frames) p.maps (known-stays p.functions (function ∷ []) p.frames) h.known;
       home = h.home;
       unshared = h.unshared;
+      mapped_once = h.mapped_once;
       vectors = vectors-more p.functions (function ∷ []) p.ports h.vectors;
     }
 
@@ -277,6 +283,7 @@ keeps-switch p switch h none = record {
   known = h.known;
   home = h.home;
   unshared = h.unshared;
+  mapped_once = h.mapped_once;
   vectors = h.vectors;
 }
 
@@ -304,6 +311,7 @@ keeps-frames p count h none = record {
   known = all-none (is_known_map p.functions count) p.maps (eqb-true (length p.maps) 0 (not-false (length p.maps == 0) (or-second _ _ (none-first _ _ _ none))));
   home = h.home;
   unshared = h.unshared;
+  mapped_once = h.mapped_once;
   vectors = h.vectors;
 }
 
@@ -336,6 +344,7 @@ keeps-root p id h none = record {
   known = h.known;
   home = h.home;
   unshared = h.unshared;
+  mapped_once = h.mapped_once;
   vectors = h.vectors;
 }
 
@@ -364,6 +373,7 @@ keeps-egress p egress h none = record {
   known = h.known;
   home = home-given egress p.ports p.maps ∙ h.home;
   unshared = unshared-given egress p.ports p.maps ∙ h.unshared;
+  mapped_once = h.mapped_once;
   vectors = vectors-given p egress h.vectors (none-first _ _ _ (none-rest _ _ _ none));
 }
 

@@ -10,6 +10,7 @@ pub mod Sharing
 pub mod FrameOwners
 pub mod Alone
 pub mod Free
+pub mod MapsOnce
 pub mod Keeping
 pub mod Places
 pub mod Ranges

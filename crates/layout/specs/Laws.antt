@@ -14,6 +14,7 @@ use Rattle.platform.specs.Platform.{Platform}
 use Rattle.platform.specs.Owners.{is_function}
 use Rattle.platform.specs.Tree.{port_at, port_leading_to, port_above, switch_on, id_below, is_switch, is_third_level, is_taken, domain_of}
 use Rattle.layout.specs.Rules.{is_within, is_of_requester, is_mapping_of, lets_abroad}
+use Rattle.layout.specs.Tables.{MapsOnce}
 use Rattle.platform.specs.Tree.{is_on_bus}
 
 abbrev pub is_good_budget : BudgetLine → Bool
@@ -154,4 +155,5 @@ pub record IsPlatform (platform : Platform) : Type 0 where
   pub known : list_all (is_known_map platform.functions platform.frames) platform.maps ≡ true
   pub home : list_all (is_home_map platform.ports) platform.maps ≡ true
   pub unshared : each_pair (share_no_frame platform.ports) platform.maps ≡ true
+  pub mapped_once : MapsOnce platform.maps
   pub vectors : list_all (keeps_home platform.functions platform.ports) platform.ports ≡ true

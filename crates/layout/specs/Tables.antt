@@ -1,5 +1,5 @@
 -- The translation tables of a domain's requesters.
-use Rattle.std.specs.Prelude.{ℕ, ◌==◌, Bool, ◌&&◌, List, Option, option_map}
+use Rattle.std.specs.Prelude.{◌≡◌, ℕ, ◌==◌, Bool, ◌&&◌, List, Option, option_map, AllPairs}
 use Rattle.std.specs.List.{find}
 use Rattle.platform.specs.declared.parts.Mapping.{Mapping}
 use Rattle.platform.specs.declared.parts.MapTarget.{MapTarget}
@@ -18,3 +18,7 @@ fits requester page access line = (line.requester == requester) && (line.page ==
 -- what the page is mapped to, if it is. No two lines of a table map one page.
 abbrev pub target_of : List Mapping → ℕ → ℕ → Access → Option MapTarget
 target_of maps requester page access = option_map (λ line. line.target) (find (fits requester page access) maps)
+
+-- no two lines map one page of one requester
+abbrev pub MapsOnce : List Mapping → Type 0
+MapsOnce maps = AllPairs (λ a b. a.requester ≡ b.requester → a.page ≡ b.page → ⊥) maps

@@ -4,6 +4,7 @@ ghost use Rattle.std.specs.Prelude.{◌≡◌, ◌≤◌, IfOk, [], ◌∷◌};
 ghost use Rattle.std.specs.List.Sorted.{IsStrictlyIncreasing};
 ghost use Rattle.platform.specs.Share.{Share, IsShare, is_guarded};
 ghost use Rattle.layout.specs.First.{first_share};
+ghost use Rattle.layout.specs.Tables.{MapsOnce};
 
 use crate::layout::Layout;
 use crate::views::are_guarded;
@@ -94,6 +95,7 @@ impl Start {
         requires least { 1 ≤ budget }
         requires most { budget ≤ 16384 }
         requires rising { IsStrictlyIncreasing frames.items }
+        requires once { MapsOnce maps.items }
         ensures { IfOk result (λ start. start ≡ record { domain = domain; budget = budget; frames = frames.items; maps = maps.items; switches = layout.now.switches; ports = layout.now.ports; functions = layout.now.functions }) }
     {
         Ok(Start {
@@ -145,9 +147,10 @@ impl Start {
         &self.frames
     }
 
-    /// The mappings of the domain's functions.
+    /// The mappings of the domain's functions, in the order of their lines.
     pub fn maps(&self) -> &[Mapping]
-        ensures { result.now ≡ self.now.maps }
+        ensures value { result.now ≡ self.now.maps }
+        ensures once { MapsOnce result.now }
     {
         &self.maps
     }

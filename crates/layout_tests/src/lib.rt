@@ -13,3 +13,5 @@ mod layouts;
 mod memory;
 #[cfg(test)]
 mod routes;
+#[cfg(test)]
+mod tables;

@@ -45,3 +45,20 @@ fn packets_go_to_the_port_that_has_their_target_below(rt: HostRuntime) -> Result
     );
     Ok(())
 }
+
+#[test]
+fn a_switch_has_a_table_of_its_ports_by_256_bus_numbers(rt: HostRuntime) -> Result<(), Fail> {
+    let layout = Layout::read(rt.alloc(), EXAMPLE)?;
+    let bridge = Bridge::new(rt.alloc(), &layout)?;
+    let table = bridge.bus_table(port(0x0100)).ok_or("no switch")?;
+    assert_eq!(rt; table.len(), 256);
+    let place = |bus: usize| table.get(bus).copied();
+    assert_eq!(rt; place(2), Some(None));
+    assert_eq!(rt; place(3), Some(Some(port(0x0200))));
+    assert_eq!(rt; place(4), Some(Some(port(0x0208))));
+    assert_eq!(rt; place(7), Some(Some(port(0x0208))));
+    assert_eq!(rt; place(9), Some(Some(port(0x0210))));
+    assert_eq!(rt; place(10), Some(None));
+    assert!(rt; bridge.bus_table(port(0x0208)).is_none());
+    Ok(())
+}

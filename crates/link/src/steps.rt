@@ -18,13 +18,11 @@ use frame_log::Frame;
 use lane::FrameQueue;
 use port_queue::Ring;
 
-/// May no packet of the queue leave, whatever its class?
+/// May no packet of the queue leave, whatever its class? The oldest always may, so then none waits.
 pub(crate) fn has_none_eligible<const CAP: usize>(queue: &FrameQueue<CAP>) -> bool
     ensures { result ≡ none_eligible (frames_of queue.now.queue.waiting) }
 {
-    queue.home(Class::Posted).is_none()
-        && queue.home(Class::NonPosted).is_none()
-        && queue.home(Class::Completion).is_none()
+    queue.is_empty()
 }
 
 /// Puts the eligible packet of the class on the wire, if the sender has the credits.

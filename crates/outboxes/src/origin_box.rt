@@ -1,6 +1,6 @@
 //! The outbox of one function or host.
 
-ghost use Rattle.std.specs.Prelude.{◌≡◌, IfOk, IsTrue, MatchOption, None, OnErr, OnOk, Some, option_map};
+ghost use Rattle.std.specs.Prelude.{◌≡◌, ◌==◌, IfOk, IsTrue, MatchOption, None, OnErr, OnOk, Some, length, option_map};
 ghost use Rattle.lane.specs.Lanes.{class_of, eligible};
 ghost use Rattle.outboxes.specs.Outboxes.{empty_box, takes, waiting, with_more, with_put, with_queue};
 
@@ -44,6 +44,13 @@ impl OriginBox {
         ensures { result ≡ self.now.origin }
     {
         self.origin
+    }
+
+    /// Does no packet wait?
+    pub fn is_empty(&self) -> bool
+        ensures { result ≡ (length (waiting self.now) == 0) }
+    {
+        self.outbox.is_empty()
     }
 
     /// What ports read of the eligible packet of a class.

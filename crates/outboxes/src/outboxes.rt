@@ -1,6 +1,6 @@
 //! The outboxes of all functions and hosts as one value.
 
-ghost use Rattle.std.specs.Prelude.{◌≡◌, ◌<◌, IfOk, IfSome, IsTrue, MatchOption, None, OnErr, OnOk, Some, length, option_map};
+ghost use Rattle.std.specs.Prelude.{◌≡◌, ◌==◌, ◌<◌, IfOk, IfSome, IsTrue, MatchOption, None, OnErr, OnOk, Some, length, option_map};
 ghost use Rattle.lane.specs.Lanes.{class_of, eligible};
 ghost use Rattle.outboxes.specs.Outboxes.{box_place, boxes_of, changed, has_place, queue_of, waiting_of, with_more, with_put, with_queue};
 
@@ -63,6 +63,16 @@ impl Outboxes {
         ensures within { IfSome result (λ place. place < length self.now) }
     {
         indexed_place(&self.index, &self.boxes, origin)
+    }
+
+    /// Does no packet of this origin wait? So it is too where there is no such origin.
+    pub fn is_empty(&self, origin: Origin) -> bool
+        ensures { result ≡ (length (waiting_of self.now origin) == 0) }
+    {
+        match self.place(origin) {
+            Some(place) => self.boxes[place].is_empty(),
+            None => true,
+        }
     }
 
     /// What ports read of the eligible packet of a class (PCIe 4.0, 2.4.1): the oldest that this origin has waiting,

@@ -1,4 +1,5 @@
 pub mod Arriving
+pub mod Emptiness
 pub mod Halves
 pub mod Heads
 pub mod Keeping

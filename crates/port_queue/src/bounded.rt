@@ -1,6 +1,6 @@
 //! A queue of bounded length whose puts take no memory.
 
-ghost use Rattle.std.specs.Prelude.{◌≡◌, ◌<◌, ◌≤◌, ◌^◌, ◌-◌, [], ◌∷◌, ◌++◌, IsTrue, ◌↔◌, IfOk, IsSome, IfSome, MatchOption, Some, None, option_copied, length, slice_get, take};
+ghost use Rattle.std.specs.Prelude.{◌≡◌, ◌==◌, ◌<◌, ◌≤◌, ◌^◌, ◌-◌, [], ◌∷◌, ◌++◌, IsTrue, ◌↔◌, IfOk, IsSome, IfSome, MatchOption, Some, None, option_copied, length, slice_get, take};
 ghost use Rattle.std.specs.Bool.{OnFalse};
 ghost use Rattle.fab_types.specs.declared.class.Class.{Class};
 ghost use Rattle.fab_types.specs.declared.class.Class.TheVariants.{Posted};
@@ -67,6 +67,20 @@ impl<T: Drop, const CAP: usize> PortQueue<T, CAP> {
         ensures room { OnFalse result (count_of class self.now.waiting < CAP) }
     {
         self.queues.get(class).len() == CAP
+    }
+
+    /// How many items wait.
+    pub fn len(&self) -> usize
+        ensures { result ≡ length self.now.waiting }
+    {
+        self.queues.posted.len() + self.queues.non_posted.len() + self.queues.completion.len()
+    }
+
+    /// Does nothing wait?
+    pub fn is_empty(&self) -> bool
+        ensures { result ≡ (length self.now.waiting == 0) }
+    {
+        self.len() == 0
     }
 
     /// The eligible item of the class: its oldest, unless an older posted one waits that it may not pass.

@@ -1,6 +1,6 @@
 //! A queue of items that come in a counted number.
 
-ghost use Rattle.std.specs.Prelude.{◌≡◌, ◌<◌, ◌≤◌, ◌+◌, ◌^◌, [], ◌∷◌, ◌++◌, IsTrue, ◌↔◌, IsSome, IfSome, IfOk, OnOk, OnErr, MatchOption, Some, None, option_copied, length, slice_get, alloc_error};
+ghost use Rattle.std.specs.Prelude.{◌≡◌, ◌==◌, ◌<◌, ◌≤◌, ◌+◌, ◌^◌, [], ◌∷◌, ◌++◌, IsTrue, ◌↔◌, IsSome, IfSome, IfOk, OnOk, OnErr, MatchOption, Some, None, option_copied, length, slice_get, alloc_error};
 ghost use Rattle.std.specs.Bool.{OnFalse};
 ghost use Rattle.std.specs.VecDeque.{deque_capacity};
 ghost use Rattle.fab_types.specs.declared.class.Class.TheVariants.{Posted};
@@ -81,6 +81,20 @@ impl<T: Drop> Outbox<T> {
         ensures room { OnFalse result (at_class self.now.puts class < self.now.places) }
     {
         *self.puts.get(class) == self.places
+    }
+
+    /// How many items wait.
+    pub fn len(&self) -> usize
+        ensures { result ≡ length self.now.queue.waiting }
+    {
+        self.queues.posted.len() + self.queues.non_posted.len() + self.queues.completion.len()
+    }
+
+    /// Does nothing wait?
+    pub fn is_empty(&self) -> bool
+        ensures { result ≡ (length self.now.queue.waiting == 0) }
+    {
+        self.len() == 0
     }
 
     /// The eligible item of the class: its oldest, unless an older posted one waits that it may not pass.

@@ -1,6 +1,6 @@
 -- Runs that go on: events of a sweep, and sweeps.
 use Rattle.std.proofs.Common.{◌≡◌, ℕ, suc, ◌+◌, ◌-◌, ◌<◌, ◌≤◌, Bool, true, false, List, [], ◌∷◌, ◌++◌, length, take, refl, sym, ap, ap₂, ◌∙◌, subst, arith}
-use Rattle.std.specs.Prelude.{All, ◌||◌, slice_index_or}
+use Rattle.std.specs.Prelude.{All, ◌||◌, slice_index_or, is_some, Option, Some, None, Result, Ok, Err, IfOk}
 use Rattle.std.specs.List.{flat_map, list_any}
 use Rattle.std.proofs.lemmas.List.{append-nil}
 use Rattle.std.proofs.lemmas.List.Elements.{All-head, All-tail}
@@ -8,11 +8,16 @@ use Rattle.std.proofs.lemmas.Grind.{flat_map-append}
 use Rattle.std.proofs.lemmas.List.Folds.{list_any-append}
 use Rattle.fab_types.specs.declared.outcome.Outcome.{Outcome}
 use Rattle.fab_types.specs.declared.outcome.Outcome.TheVariants.{Idle, Moved, Refused, NoMemory}
+use Rattle.fab_types.specs.declared.faults.memory.NoMemory.{NoMemory as Fault}
 use Rattle.fabric_core.specs.declared.event.Event.{Event}
 use Rattle.fabric_core.specs.declared.station.Station.{Station}
 use Rattle.fabric_core.specs.Events.{StepsTo}
 use Rattle.fabric_core.specs.Runs.{Run}
-use Rattle.fabric_core.specs.Stations.{events_at}
+use Rattle.fab_types.specs.declared.class.Class.{Class}
+use Rattle.fabric_core.specs.Leaving.{AreLeaving, has}
+use Rattle.fabric_core.specs.declared.leaving.LeavingClasses.{LeavingClasses}
+use Rattle.fabric_core.proofs.effect.QuietStations.{none_leaves}
+use Rattle.fabric_core.specs.Stations.{events_at, taking}
 use Rattle.fabric_core.specs.World.{World}
 use Rattle.sweeps.specs.Sweeps.{Sweeps, SweepsUpTo, is_moved, lacks_memory}
 use Rattle.reports.proofs.Taking.{take_all, take_next}
@@ -26,12 +31,6 @@ run_then w v u (e ∷ es) fs (o ∷ os) ps run rest = (run.0, run.1, run_then ru
 run_then w v u [] fs (o ∷ os) ps run rest = absurd run
 run_then w v u (e ∷ es) fs [] ps run rest = absurd run
 
-run_more : (w v u : World) (es : List Event) (os : List Outcome) (e : Event) (o : Outcome) → Run w es os v → StepsTo v e o u → Run w (es ++ e ∷ []) (os ++ o ∷ []) u
-run_more w v u [] [] e o r s = (u, subst (λ (x : World). StepsTo x e o u) r s, refl)
-run_more w v u (x ∷ es) (y ∷ os) e o r s = (r.0, r.1, run_more r.0 v u es os e o r.2 s)
-run_more w v u [] (y ∷ os) e o r s = absurd r
-run_more w v u (x ∷ es) [] e o r s = absurd r
-
 one : (o : Outcome) → list_any is_moved (o ∷ []) ≡ is_moved o
 one Moved = refl
 one Idle = refl
@@ -44,29 +43,19 @@ only Idle = refl
 only (Refused fault) = refl
 only NoMemory = refl
 
-sweep_more : (w v u : World) (es : List Event) (e : Event) (m : Bool) (o : Outcome) → lacks_memory o ≡ false → Sweeps es w m v → StepsTo v e o u → Sweeps (es ++ e ∷ []) w (m || is_moved o) u
-sweep_more w v u es e m o enough s step = record {
-  outcomes = s.outcomes ++ o ∷ [];
-  run = run_more w v u es s.outcomes e o s.run step;
-  memory = list_any-append lacks_memory s.outcomes (o ∷ []) ∙ ap₂ (λ (a b : Bool). a || b) s.memory (only o ∙ enough);
-  moves =
-      ap (λ (b : Bool). b || is_moved o) s.moves
-      ∙ (ap (λ (b : Bool). list_any is_moved s.outcomes || b) (sym (one o)) ∙ sym (list_any-append is_moved s.outcomes (o ∷ [])));
-}
+-- one event
+pub one_event : (w v : World) (e : Event) (o : Outcome) (moved : Bool) → (moved ≡ is_moved o) × (lacks_memory o ≡ false) → StepsTo w e o v → Sweeps (e ∷ []) w moved v
+one_event w v e o moved said step = record { outcomes = o ∷ []; run = (v, step, refl); memory = only o ∙ said.1; moves = said.0 ∙ sym (one o) }
 
-pub sweep_start : (w : World) (es : List Event) → Sweeps (take 0 es) w false w
-sweep_start w es = record { outcomes = []; run = refl; memory = refl; moves = refl }
+-- and what is said of it, if it isn't want of memory
+pub made : (w v : World) (e : Event) (o : Outcome) (answer : Result Bool Fault) → IfOk answer (λ moved. (moved ≡ is_moved o) × (lacks_memory o ≡ false)) → StepsTo w e o v → IfOk answer (λ moved. Sweeps (e ∷ []) w moved v)
+made w v e o (Ok moved) said step = one_event w v e o moved said step
+made w v e o (Err fault) said step = tt
 
--- one event more of a list
-pub sweep_next : (w v u : World) (es : List Event) (i : ℕ) (e : Event) (m n : Bool) (o : Outcome) → i < length es → e ≡ slice_index_or es i e → n ≡ (m || is_moved o)
-    → lacks_memory o ≡ false → Sweeps (take i es) w m v → StepsTo v e o u → Sweeps (take (i + 1) es) w n u
-sweep_next w v u es i e m n o lt is both enough s step =
-    subst (λ (xs : List Event). Sweeps xs w n u) (sym (take_next es i e lt is))
-    (subst (λ (b : Bool). Sweeps (take i es ++ e ∷ []) w b u) (sym both) (sweep_more w v u (take i es) e m o enough s step))
-
--- the sweep of all events, once the loop has gone through them
-pub sweep_whole : (w v : World) (es : List Event) (m : Bool) (i : ℕ) → length es ≤ i → Sweeps (take i es) w m v → Sweeps es w m v
-sweep_whole w v es m i le s = subst (λ (xs : List Event). Sweeps xs w m v) (take_all es i le) s
+-- one that finds nothing to take
+pub none_taken : (w : World) (e : Event) (home : Option ℕ) → (home ≡ None → StepsTo w e Idle w) → is_some home ≡ false → Sweeps (e ∷ []) w false w
+none_taken w e None idle h = one_event w w e Idle false (refl, refl) (idle refl)
+none_taken w e (Some domain) idle h = absurd cc
 
 -- ---- stations of a sweep
 
@@ -77,6 +66,15 @@ sweep_then w v u es fs m n first second = record {
   memory = list_any-append lacks_memory first.outcomes second.outcomes ∙ ap₂ (λ (a b : Bool). a || b) first.memory second.memory;
   moves = ap₂ (λ (a b : Bool). a || b) first.moves second.moves ∙ sym (list_any-append is_moved first.outcomes second.outcomes);
 }
+
+-- a class of which no packet may leave
+pub none_may : (w : World) (s : Station) (class : Class) (leaving : LeavingClasses) → AreLeaving w s leaving → has leaving class ≡ false → Sweeps (taking s class ∷ []) w false w
+none_may w s class leaving are none = one_event w w (taking s class) Idle false (refl, refl) (none_leaves w s class (sym (are class) ∙ none))
+
+-- the events of three classes
+pub three : (w v u x : World) (a b c : Event) (l m n : Bool) → Sweeps (a ∷ []) w l v → Sweeps (b ∷ []) v m u → Sweeps (c ∷ []) u n x → Sweeps (a ∷ b ∷ c ∷ []) w ((l || m) || n) x
+three w v u x a b c l m n first second third =
+    sweep_then w u x (a ∷ b ∷ []) (c ∷ []) (l || m) n (sweep_then w v u (a ∷ []) (b ∷ []) l m first second) third
 
 -- events that move nothing
 pub quiet_sweep : (w : World) (es : List Event) → All (λ e. StepsTo w e Idle w) es → Sweeps es w false w

@@ -1,12 +1,14 @@
 //! Sweeps: each event of a fabric once, in a fixed order.
 
-ghost use Rattle.std.specs.Prelude.{◌≡◌, IfOk, OnOk, false, map};
+ghost use Rattle.std.specs.Prelude.{◌≡◌, ◌∷◌, [], IfOk, OnOk, false, map, true};
 ghost use Rattle.std.specs.List.{flat_map};
+ghost use Rattle.fabric_core.specs.Events.{takes_packet};
+ghost use Rattle.fabric_core.specs.Leaving.{AreLeaving};
 ghost use Rattle.fabric_core.specs.Stations.{classes, events_at, others_at, taking};
 ghost use Rattle.sweeps.specs.Sweeps.{Sweeps, SweepsUpTo, is_moved, lacks_memory};
 
 use fab_types::{Class, NoMemory, Outcome};
-use fabric_core::{Event, Fabric, Station};
+use fabric_core::{Event, Fabric, LeavingClasses, Station};
 use std::sync::Wait;
 
 /// Did the event move something? `NoMemory` where it was refused memory.
@@ -20,30 +22,56 @@ fn has_moved(outcome: Outcome) -> Result<bool, NoMemory>
     }
 }
 
-/// Makes the events in turn. Did any of them move something? It answers `NoMemory` at the first event
-/// that was refused memory.
-fn make_all<R: Wait>(rt: &R, fabric: &mut Fabric, events: &[Event]) -> Result<bool, NoMemory>
-    ensures { IfOk result (λ moved. Sweeps events.now fabric.old moved fabric.new) }
+/// Makes the event. Did it move something? It answers `NoMemory` where it was refused memory.
+fn make<R: Wait>(rt: &R, fabric: &mut Fabric, event: &Event) -> Result<bool, NoMemory>
+    ensures { IfOk result (λ moved. Sweeps (event.now ∷ []) fabric.old moved fabric.new) }
 {
-    let mut moved = false;
-    for event in events {
-        let outcome = fabric.step(rt, event);
-        let moves = has_moved(outcome)?;
-        moved = moved || moves;
+    has_moved(fabric.step(rt, event))
+}
+
+/// Makes an event that takes a packet, if there is one for it to take.
+fn make_taking<R: Wait>(rt: &R, fabric: &mut Fabric, event: &Event) -> Result<bool, NoMemory>
+    requires { takes_packet event.now ≡ true }
+    ensures { IfOk result (λ moved. Sweeps (event.now ∷ []) fabric.old moved fabric.new) }
+{
+    if fabric.home(event).is_none() {
+        return Ok(false);
+    }
+    make(rt, fabric, event)
+}
+
+/// Makes the event by which a packet of a class is taken at a station, if one may leave. What may leave there is asked
+/// anew where something moved.
+fn take<R: Wait>(
+    rt: &R,
+    fabric: &mut Fabric,
+    station: &Station,
+    class: Class,
+    leaving: &mut LeavingClasses,
+) -> Result<bool, NoMemory>
+    requires { AreLeaving fabric.old station.now leaving.old }
+    ensures made { IfOk result (λ moved. Sweeps (taking station.now class ∷ []) fabric.old moved fabric.new) }
+    ensures leaving { OnOk result (AreLeaving fabric.new station.now leaving.new) }
+{
+    if !leaving.has(class) {
+        return Ok(false);
+    }
+    let moved = make(rt, fabric, &station.taking(class))?;
+    if moved {
+        *leaving = fabric.leaving(station);
     }
     Ok(moved)
 }
 
-/// Makes the events by which a packet of each class is taken at a station, whatever waits there.
-fn make_taking<R: Wait>(rt: &R, fabric: &mut Fabric, station: &Station) -> Result<bool, NoMemory>
+/// Makes the events by which a packet of each class is taken at a station.
+fn take_each<R: Wait>(rt: &R, fabric: &mut Fabric, station: &Station) -> Result<bool, NoMemory>
     ensures { IfOk result (λ moved. Sweeps (map (taking station.now) classes) fabric.old moved fabric.new) }
 {
-    let events = [
-        station.taking(Class::Posted),
-        station.taking(Class::NonPosted),
-        station.taking(Class::Completion),
-    ];
-    make_all(rt, fabric, &events)
+    let mut leaving = fabric.leaving(station);
+    let posted = take(rt, fabric, station, Class::Posted, &mut leaving)?;
+    let non_posted = take(rt, fabric, station, Class::NonPosted, &mut leaving)?;
+    let completion = take(rt, fabric, station, Class::Completion, &mut leaving)?;
+    Ok(posted | non_posted | completion)
 }
 
 /// Makes the other events of a station: on a direction of a link a packet is received, and credits are told.
@@ -52,8 +80,9 @@ fn make_others<R: Wait>(rt: &R, fabric: &mut Fabric, station: &Station) -> Resul
 {
     match station {
         Station::Link(direction) => {
-            let events = [Event::Take(*direction), Event::Credit(*direction)];
-            make_all(rt, fabric, &events)
+            let received = make_taking(rt, fabric, &Event::Take(*direction))?;
+            let told = make(rt, fabric, &Event::Credit(*direction))?;
+            Ok(received | told)
         }
         Station::FunctionOutbox(_)
         | Station::HostOutbox(_)
@@ -71,7 +100,7 @@ fn visit<R: Wait>(rt: &R, fabric: &mut Fabric, station: &Station) -> Result<bool
     if fabric.is_quiet(station) {
         return Ok(false);
     }
-    let taken = make_taking(rt, fabric, station)?;
+    let taken = take_each(rt, fabric, station)?;
     let others = make_others(rt, fabric, station)?;
     Ok(taken | others)
 }

@@ -1,8 +1,10 @@
-use Rattle.layout.specs.Tables.{fits}
+use Rattle.layout.specs.Tables.{MapsOnce, fits}
 use Rattle.host_table.proofs.Membership.{found_leads, leads_found, one_fits}
 use Rattle.host_table.proofs.law.lookup_is_membership.Goals as goal
 
 pub returns : goal.returns
-returns c =
-    let p = fits c.args.requester c.args.page c.args.access in
-    (found_leads p c.args.target c.args.maps.now, leads_found p c.args.target c.args.maps.now (one_fits _ _ _ _ c.requires))
+returns c = λ requester page access target.
+    let maps = c.args.table.now in
+    let p = fits requester page access in
+    let once : MapsOnce maps = rw (← c.table.view_is) c.table.invariant.once in
+    (found_leads p target maps, leads_found p target maps (one_fits maps requester page access once))

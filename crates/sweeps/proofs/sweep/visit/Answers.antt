@@ -9,4 +9,4 @@ returns-then-is_quiet g c = quiet_sweep c.args.fabric.now (events_at c.args.stat
 pub returns : goal.returns
 returns g c =
     let s = c.args.station.now in
-    sweep_then c.args.fabric.now c.make_taking.new.fabric c.make_others.new.fabric (map (taking s) classes) (others_at s) c.in_ok-taken.taken c.in_ok-others.others c.in_ok-taken.ensures c.in_ok-others.ensures
+    sweep_then c.args.fabric.now c.take_each.new.fabric c.make_others.new.fabric (map (taking s) classes) (others_at s) c.in_ok-taken.taken c.in_ok-others.others c.in_ok-taken.ensures c.in_ok-others.ensures

@@ -11,7 +11,7 @@ use Rattle.bridge.proofs.routing.Bridge.route.Goals as goal
 pub returns-clause-exact : goal.returns-clause-exact
 returns-clause-exact c =
     let nested : list_all (is_nested c.args.self.now.switches c.args.self.now.ports) c.args.self.now.ports ≡ true = rw (← c.self.view_is) c.self.invariant.nested in
-    let groups : c.deref.result.now ≡ groups_of c.args.self.now.switches c.args.self.now.ports = rw (← c.self.view_is) (c.deref.ensures.value ∙ c.self.invariant.groups) in
+    let groups : c.self.inside.switches ≡ groups_of c.args.self.now.switches c.args.self.now.ports = rw (← c.self.view_is) c.self.invariant.groups in
     let found : c.route_among.result ≡ route_among (groups_of c.args.self.now.switches c.args.self.now.ports) c.args.ingress (target_of c.args.header.now) = cc in
     found ∙ grouped c.args.self.now.switches c.args.self.now.ports c.args.ingress (target_of c.args.header.now) nested
 
