@@ -40,9 +40,28 @@ fn make_taking<R: Wait>(rt: &R, fabric: &mut Fabric, event: &Event) -> Result<bo
     make(rt, fabric, event)
 }
 
-/// Makes the event by which a packet of a class is taken at a station, if one may leave. What may leave there is asked
-/// anew where something moved.
+/// Makes the event by which a packet of a class is taken at a station, and asks anew what may leave there if something
+/// moved.
 fn take<R: Wait>(
+    rt: &R,
+    fabric: &mut Fabric,
+    station: &Station,
+    class: Class,
+    leaving: &mut LeavingClasses,
+) -> Result<bool, NoMemory>
+    requires { AreLeaving fabric.old station.now leaving.old }
+    ensures made { IfOk result (λ moved. Sweeps (taking station.now class ∷ []) fabric.old moved fabric.new) }
+    ensures leaving { OnOk result (AreLeaving fabric.new station.now leaving.new) }
+{
+    let moved = make(rt, fabric, &station.taking(class))?;
+    if moved {
+        *leaving = fabric.leaving(station);
+    }
+    Ok(moved)
+}
+
+/// The same, but the event isn't made where no packet of the class may leave: mostly none may.
+fn take_leaving<R: Wait>(
     rt: &R,
     fabric: &mut Fabric,
     station: &Station,
@@ -56,11 +75,7 @@ fn take<R: Wait>(
     if !leaving.has(class) {
         return Ok(false);
     }
-    let moved = make(rt, fabric, &station.taking(class))?;
-    if moved {
-        *leaving = fabric.leaving(station);
-    }
-    Ok(moved)
+    take(rt, fabric, station, class, leaving)
 }
 
 /// Makes the events by which a packet of each class is taken at a station.
@@ -68,9 +83,9 @@ fn take_each<R: Wait>(rt: &R, fabric: &mut Fabric, station: &Station) -> Result<
     ensures { IfOk result (λ moved. Sweeps (map (taking station.now) classes) fabric.old moved fabric.new) }
 {
     let mut leaving = fabric.leaving(station);
-    let posted = take(rt, fabric, station, Class::Posted, &mut leaving)?;
-    let non_posted = take(rt, fabric, station, Class::NonPosted, &mut leaving)?;
-    let completion = take(rt, fabric, station, Class::Completion, &mut leaving)?;
+    let posted = take_leaving(rt, fabric, station, Class::Posted, &mut leaving)?;
+    let non_posted = take_leaving(rt, fabric, station, Class::NonPosted, &mut leaving)?;
+    let completion = take_leaving(rt, fabric, station, Class::Completion, &mut leaving)?;
     Ok(posted | non_posted | completion)
 }
 
