@@ -1,6 +1,7 @@
 // Stands before the C library of a program: refuses its request for memory of the number REFUSED_MEMORY, or its thread of
 // the number REFUSED_THREAD, from 1, and counts the threads that began and those that ended. At the end it writes into the
-// file COUNTED how many requests and threads were asked for, and how many threads began and ended.
+// file COUNTED how many requests and threads were asked for, how many threads began and ended, and how many pieces of memory
+// were given and not given back.
 #define _GNU_SOURCE
 #include <dlfcn.h>
 #include <errno.h>
@@ -16,8 +17,9 @@ extern void *__libc_malloc(size_t);
 extern void *__libc_calloc(size_t, size_t);
 extern void *__libc_realloc(void *, size_t);
 extern void *__libc_memalign(size_t, size_t);
+extern void __libc_free(void *);
 
-static atomic_long requests, threads, began, ended;
+static atomic_long requests, threads, began, ended, held;
 static long refused_request, refused_thread;
 
 static long number_in(const char *name) {
@@ -29,14 +31,15 @@ __attribute__((constructor)) static void begin(void) {
     refused_request = number_in("REFUSED_MEMORY");
     refused_thread = number_in("REFUSED_THREAD");
     atomic_store(&requests, 0);
+    atomic_store(&held, 0);
 }
 
 __attribute__((destructor)) static void end(void) {
     const char *name = getenv("COUNTED");
     int file = name ? open(name, O_WRONLY | O_CREAT | O_TRUNC, 0644) : -1;
     char line[100];
-    int length = snprintf(line, sizeof line, "%ld %ld %ld %ld\n", atomic_load(&requests), atomic_load(&threads),
-                          atomic_load(&began), atomic_load(&ended));
+    int length = snprintf(line, sizeof line, "%ld %ld %ld %ld %ld\n", atomic_load(&requests), atomic_load(&threads),
+                          atomic_load(&began), atomic_load(&ended), atomic_load(&held));
     if (file < 0 || write(file, line, length) != length) abort();
     close(file);
 }
@@ -54,26 +57,38 @@ static int is_refused(void) {
     return 1;
 }
 
+static void *given(void *memory) {
+    if (memory) atomic_fetch_add(&held, 1);
+    return memory;
+}
+
 void *malloc(size_t size) {
-    return is_refused() ? NULL : __libc_malloc(size);
+    return is_refused() ? NULL : given(__libc_malloc(size));
 }
 
 void *calloc(size_t count, size_t size) {
-    return is_refused() ? NULL : __libc_calloc(count, size);
+    return is_refused() ? NULL : given(__libc_calloc(count, size));
 }
 
 void *realloc(void *old, size_t size) {
-    return is_refused() ? NULL : __libc_realloc(old, size);
+    if (is_refused()) return NULL;
+    void *made = __libc_realloc(old, size);
+    return old ? made : given(made);
 }
 
 void *aligned_alloc(size_t align, size_t size) {
-    return is_refused() ? NULL : __libc_memalign(align, size);
+    return is_refused() ? NULL : given(__libc_memalign(align, size));
 }
 
 int posix_memalign(void **made, size_t align, size_t size) {
     if (is_refused()) return ENOMEM;
-    *made = __libc_memalign(align, size);
+    *made = given(__libc_memalign(align, size));
     return *made ? 0 : ENOMEM;
+}
+
+void free(void *memory) {
+    if (memory) atomic_fetch_sub(&held, 1);
+    __libc_free(memory);
 }
 
 struct start {

@@ -1,7 +1,8 @@
 -- What waits of an origin, as the outboxes have it and as a clause on agents sees it.
-use Rattle.std.proofs.Common.{◌≡◌, ℕ, List, [], ◌∷◌, ◌++◌, map, Option, Some, None, refl, sym, ap, ◌∙◌, slice_get, slice_set}
+use Rattle.std.proofs.Common.{◌≡◌, ◌⊎◌, inl, inr, ℕ, List, [], ◌∷◌, ◌++◌, map, Option, Some, None, refl, sym, ap, ◌∙◌, slice_get, slice_set}
 use Rattle.std.specs.Prelude.{MatchOption, option_map}
 use Rattle.std.proofs.lemmas.List.{map-append}
+use Rattle.std.proofs.lemmas.Option.{same_Some}
 use Rattle.fab_types.specs.declared.origin.Origin.{Origin}
 use Rattle.frame_log.specs.Descriptor.{Descriptor}
 use Rattle.fab_types.specs.Origins.{same_origin}
@@ -11,7 +12,7 @@ use Rattle.domain.specs.Domains.{DomainView}
 use Rattle.outboxes.specs.Outboxes.{BoxView, box_at, box_of, box_place, changed, changed_at, changed_in, queue_in, queue_of, waiting_in as waiting_in_box, with_put, with_queue}
 use Rattle.outboxes.specs.Outboxes as outboxes
 use Rattle.agents.proofs.Lists.{get_map, map_set, position_map}
-use Rattle.agents.specs.Agents.{Outbox, joined, outbox_place, taken_from, waiting_at, waiting_in, waiting_of, with_waiting, with_waiting_at, with_waiting_in}
+use Rattle.agents.specs.Agents.{AreFound, Outbox, joined, outbox_place, taken_from, waiting_at, waiting_in, waiting_of, with_waiting, with_waiting_at, with_waiting_in}
 use Rattle.agents.specs.Kept.{outbox_of, seen}
 
 pub same_place : (boxes : List BoxView) (origin : Origin) → outbox_place (map outbox_of boxes) origin ≡ box_place boxes origin
@@ -82,3 +83,22 @@ pub taken : (class : Class) (origin : Origin) (ds : List DomainView) (old new : 
 taken class origin ds old new None t kept = (ap (eligible class) (waits old origin) ∙ t.0, ap (seen ds) t.1)
 taken class origin ds old new (Some frame) t kept =
     (outboxes.waiting_of new origin, ap (eligible class) (waits old origin) ∙ t, ap (λ (os : List Outbox). record { domains = ds; outboxes = os }) (taken_seen old new origin kept))
+
+-- ---- whose outboxes they are
+
+pub origins_seen : (boxes : List BoxView) → map (λ box. box.origin) (map outbox_of boxes) ≡ map (λ box. box.origin) boxes
+origins_seen [] = refl
+origins_seen (box ∷ boxes) = ap (λ (origins : List Origin). box.origin ∷ origins) (origins_seen boxes)
+
+module _ (boxes : List BoxView) (found : outboxes.AreFound boxes) where
+  found_of : (i : ℕ) (box : Outbox) (o : Option BoxView) → slice_get boxes i ≡ o → option_map outbox_of o ≡ Some box → (box.waiting ≡ []) ⊎ (outbox_place (map outbox_of boxes) box.origin ≡ Some i)
+  found_of i box None at is = absurd cc
+  found_of i box (Some b) at is =
+      let same : outbox_of b ≡ box = same_Some (outbox_of b) box is in
+      elim (found i b at) [
+        | inl none ↦ inl (ap (λ (x : Outbox). x.waiting) (sym same) ∙ none)
+        | inr place ↦ inr (ap (λ (x : Outbox). outbox_place (map outbox_of boxes) x.origin) (sym same) ∙ (same_place boxes b.origin ∙ place))
+      ]
+
+  pub found_seen : AreFound (map outbox_of boxes)
+  found_seen i box there = found_of i box (slice_get boxes i) refl (sym (get_map outbox_of boxes i) ∙ there)

@@ -1,5 +1,5 @@
 -- The agents of a fabric: its domains, and what their functions and hosts have emitted and no link has taken yet.
-use Rattle.std.specs.Prelude.{◌≡◌, ℕ, ◌==◌, Bool, false, List, [], ◌∷◌, ◌++◌, map, slice_get, slice_set, Option, Some, None, IsSome, option_map, if◌then◌else◌}
+use Rattle.std.specs.Prelude.{◌≡◌, ◌⊎◌, ℕ, ◌==◌, Bool, false, List, [], ◌∷◌, ◌++◌, map, slice_get, slice_set, Option, Some, None, IsSome, option_map, if◌then◌else◌}
 use Rattle.std.specs.List.{position}
 use Rattle.fab_types.specs.declared.origin.Origin.{Origin}
 use Rattle.fab_types.specs.declared.origin.Origin.TheVariants.{Function, Host}
@@ -128,6 +128,10 @@ home_of domains (Host n) = place_of domains n
 pub record IsSettled (agents : AgentsView) : Type 0 where
   pub numbered : (place : ℕ) (d : DomainView) → slice_get agents.domains place ≡ Some d → place_of agents.domains d.share.domain ≡ Some place
   pub boxed : (origin : Origin) (place : ℕ) → home_of agents.domains origin ≡ Some place → IsSome (outbox_place agents.outboxes origin)
+
+-- what waits anywhere waits in an outbox that is found by its origin
+abbrev pub AreFound : List Outbox → Type 0
+AreFound boxes = (place : ℕ) (box : Outbox) → slice_get boxes place ≡ Some box → (box.waiting ≡ []) ⊎ (outbox_place boxes box.origin ≡ Some place)
 
 -- the state of each domain is what its machine alone makes of its journal, which is legal
 abbrev pub AreReplayed : List DomainView → Type 0

@@ -1,15 +1,17 @@
 //! The domains of a fabric with their outboxes.
 
-ghost use Rattle.std.specs.Prelude.{◌≡◌, ◌==◌, ◌++◌, ◌∷◌, [], IfOk, IfErr, IfSome, IsSome, MatchOption, None, OnErr, OnOk, Some, List, is_some, length, option_map};
+ghost use Rattle.std.specs.Prelude.{◌≡◌, ◌==◌, ◌++◌, ◌∷◌, [], IfOk, IfErr, IfSome, IsSome, MatchOption, None, OnErr, OnOk, Some, List, is_some, length, map, option_map};
+ghost use Rattle.std.specs.List.Sorted.{IsPermutation};
 ghost use Rattle.std.specs.Option.{option_copied};
 ghost use Rattle.std.specs.Result.{IsOkUnless};
 ghost use Rattle.fab_types.specs.declared.faults.begin.SubmitFault.{SubmitFault};
 ghost use Rattle.fab_types.specs.declared.faults.begin.TickFault.{TickFault};
 ghost use Rattle.fab_types.specs.declared.faults.begin.MmioFault.{MmioFault};
 ghost use Rattle.frame_log.specs.Descriptor.{Descriptor};
-ghost use Rattle.lane.specs.Lanes.{eligible};
+ghost use Rattle.port_queue.specs.Leaving.{has};
+ghost use Rattle.lane.specs.Lanes.{Class, eligible};
 ghost use Rattle.domains.specs.Domains.{Emits, IsGivenBack, IsStray, delivered as delivery, domain_at, made, made_at, mmio_refusal, place_of, place_of_function, submit_refusal, tick_refusal};
-ghost use Rattle.agents.specs.Agents.{AreReplayed, accessed, carried_at, carried_by_function, carried_by_host, IsSettled, delivered, agents_of, is_function_of, submitted, taken_from, ticked, waiting_of};
+ghost use Rattle.agents.specs.Agents.{AreFound, AreReplayed, accessed, carried_at, carried_by_function, carried_by_host, IsSettled, delivered, agents_of, is_function_of, submitted, taken_from, ticked, waiting_of};
 
 use domain::{Domain, Record};
 use domains::Domains;
@@ -21,6 +23,7 @@ use frame_log::{Frame, FrameFault};
 use layout::Layout;
 use outboxes::Outboxes;
 use port::Desk;
+use port_queue::LeavingClasses;
 use std::alloc::Global;
 use std::marker::Model;
 use std::sync::Wait;
@@ -215,6 +218,28 @@ impl Agents {
         ensures { result ≡ (length (waiting_of self.now.outboxes origin) == 0) }
     {
         self.outboxes.is_empty(origin)
+    }
+
+    /// The functions and hosts that have an outbox. No packet waits in an outbox but that which is found by its origin.
+    pub fn origins(&self, alloc: Global) -> Result<Vec<Origin>, NoMemory>
+        ensures value { IfOk result (λ origins. origins.items ≡ map (λ box. box.origin) self.now.outboxes) }
+        ensures found { AreFound self.now.outboxes }
+    {
+        self.outboxes.origins(alloc)
+    }
+
+    /// All packets that an origin has waiting, in no order that a caller may rely on. Where there is no such outbox, none.
+    pub fn all(&self, alloc: Global, origin: Origin) -> Result<Vec<&Frame>, NoMemory>
+        ensures { IfOk result (λ all. IsPermutation (map (λ frame. frame.now) all.items) (waiting_of self.now.outboxes origin)) }
+    {
+        self.outboxes.all(alloc, origin)
+    }
+
+    /// Of which classes a packet may leave an origin's outbox (PCIe 4.0, 2.4.1).
+    pub fn leaving(&self, origin: Origin) -> LeavingClasses
+        ensures { (class : Class) → has result class ≡ is_some (eligible class (waiting_of self.now.outboxes origin)) }
+    {
+        self.outboxes.leaving(origin)
     }
 
     /// The domain that made the eligible packet of a class that an origin has waiting.

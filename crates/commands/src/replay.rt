@@ -4,8 +4,8 @@ ghost use Rattle.std.specs.Prelude.{OnOk};
 ghost use Rattle.reports.specs.Writing.{Wrote};
 ghost use Rattle.commands.specs.Runs.{ReplayPrints};
 
+use crate::report::write_part;
 use inputs::{Fault, FileGiver, journal_of, layout_of, start_of, text_of};
-use reports::write_domain;
 use std::alloc::Global;
 use std::io::Write;
 use std::sync::Wait;
@@ -28,6 +28,6 @@ pub fn replay<'a, R: Wait, F: FileGiver, W: Write>(
     let start = start_of(alloc, &layout, number)?;
     let journal = journal_of(alloc, start.domain(), text.as_str())?;
     let domain = journals::replay(rt, alloc, &start, journal.lines())?;
-    write_domain(alloc, out, &domain)?;
+    write_part(alloc, out, &domain)?;
     Ok(())
 }

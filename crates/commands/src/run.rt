@@ -5,13 +5,12 @@ ghost use Rattle.reports.specs.Writing.{Wrote};
 ghost use Rattle.commands.specs.Runs.{AlonePrints, IsReplayed, JournalPrints, RunPrints};
 
 use crate::drive::driven;
-use crate::report::write_report;
+use crate::report::{write_part, write_report};
 use command_line::Files;
 use domain::Domain;
 use inputs::{Fault, FileGiver, Inputs, inputs_of, layout_of, script_of};
 use journals::write_journal;
 use layout::{Layout, Start};
-use reports::write_domain;
 use script::Line;
 use std::alloc::Global;
 use std::io;
@@ -54,7 +53,7 @@ pub fn alone<'a, R: Wait, F: FileGiver, W: Write>(
         start,
     } = inputs;
     let domain = replayed(rt, alloc, &layout, script.into_lines(), &start)?;
-    write_domain(alloc, out, &domain)?;
+    write_part(alloc, out, &domain)?;
     Ok(())
 }
 
@@ -79,7 +78,9 @@ pub fn journal<'a, R: Wait, F: FileGiver, W: Write>(
     let Some(domain) = fabric.domain(start.domain()) else {
         return Err(Fault::NoDomain { number });
     };
-    write_journal(rt, alloc, out, domain)?;
+    let mut text = Vec::new(alloc);
+    write_journal(rt, alloc, &mut text, domain)?;
+    out.write_all(&text)?;
     Ok(())
 }
 

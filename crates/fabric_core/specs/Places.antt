@@ -1,6 +1,7 @@
 -- Where packets are: each that is in flight stands in exactly one place, with the head that its bytes give.
-use Rattle.std.specs.Prelude.{◌≡◌, ℕ, ◌==◌, Bool, true, ◌&&◌, List, [], ◌++◌, All, count_by, slice_get, Some}
-use Rattle.std.specs.List.{flat_map}
+use Rattle.std.specs.Prelude.{◌≡◌, ℕ, true, List, [], ◌++◌, All, count_by, is_some, slice_get, Some}
+use Rattle.std.specs.List.{flat_map, list_all}
+use Rattle.fab_types.specs.declared.place.Place.{Place}
 use Rattle.frame_log.specs.Descriptor.{Descriptor}
 use Rattle.domain.specs.Domains.{DomainView}
 use Rattle.request_handling.specs.Heads.{descriptor_of}
@@ -11,6 +12,9 @@ use Rattle.agents.specs.Agents.{Outbox}
 use Rattle.link.specs.Channels.{Channel}
 use Rattle.port.specs.Turns.{PortView}
 pub use Rattle.domains.specs.Aliens.{flown, flown_by}
+pub use Rattle.whereabouts.specs.Standing.{is_numbered}
+pub use Rattle.whereabouts.specs.Whereabouts.{AreWhereabouts, Whereabout, is_named, stands_at}
+use Rattle.fabric_core.specs.Trails.{standing_at}
 use Rattle.fabric_core.specs.World.{World, is_guarded}
 
 -- the packets of a direction, wherever in it they are
@@ -29,10 +33,6 @@ strays_of port = port.strays
 -- all packets of a fabric: on links, in outboxes, and those that nobody has a case for
 abbrev pub frames_of : World → List Descriptor
 frames_of w = flat_map frames_from w.channels ++ (flat_map waiting_in w.agents.outboxes ++ (flat_map strays_of w.ports ++ w.strays))
-
--- is it the packet of this number of this domain?
-abbrev pub is_numbered : ℕ → ℕ → Descriptor → Bool
-is_numbered domain n frame = (frame.domain == domain) && (frame.number == n)
 
 -- a packet shows what its bytes, which its home has in flight, say of it
 pub record IsFlown (domains : List DomainView) (frame : Descriptor) : Type 0 where
@@ -58,3 +58,12 @@ pub record HasPlaces (w : World) (d : DomainView) : Type 0 where
 pub record HaveOnePlace (w : World) : Type 0 where
   pub each : (place : ℕ) (d : DomainView) → slice_get w.agents.domains place ≡ Some d → HasPlaces w d
   pub shown : All (IsFlown w.agents.domains) (frames_of w)
+
+-- each packet that is named is in flight at its domain
+abbrev pub AreFlown : World → ℕ → List Whereabout → Type 0
+AreFlown w domain named = list_all (λ one. is_some (flown w.agents.domains domain one.0)) named ≡ true
+
+-- In a guarded fabric these are all that the domain has in flight, and each stands at no other place
+pub record ArePartition (w : World) (domain : ℕ) (named : List Whereabout) : Type 0 where
+  pub in_flight : (n : ℕ) → is_named named n ≡ is_some (flown w.agents.domains domain n)
+  pub alone : (n : ℕ) (one other : Place) → stands_at (standing_at w) domain n one ≡ true → stands_at (standing_at w) domain n other ≡ true → one ≡ other

@@ -1,44 +1,16 @@
 -- The packets on the way from an outbox to where the way ends, in their order, those nearest to its end first.
-use Rattle.std.specs.Prelude.{◌≡◌, ◌⊎◌, ℕ, Bool, true, false, ◌&&◌, ◌||◌, not, List, [], ◌∷◌, ◌++◌, All, Option, Some, None, option_map}
+use Rattle.std.specs.Prelude.{◌≡◌, ◌⊎◌, ℕ, Bool, true, false, ◌&&◌, ◌||◌, not, List, [], ◌∷◌, ◌++◌, All}
 use Rattle.std.specs.List.{flat_map}
-use Rattle.fab_types.specs.declared.place.Direction.{Direction}
 use Rattle.fab_types.specs.declared.origin.Origin.TheVariants as origin
 use Rattle.fab_types.specs.declared.place.Place.{Place}
 use Rattle.fab_types.specs.declared.place.Place.TheVariants as place
-use Rattle.fab_types.specs.declared.place.Place.TheVariants.{Egress, Wire, Ingress}
-use Rattle.fab_types.specs.declared.place.Way.TheVariants.{Up, Down}
 use Rattle.frame_log.specs.Descriptor.{Descriptor}
-use Rattle.agents.specs.Agents.{Outbox, waiting_of}
-use Rattle.link.specs.Channels.{Channel}
-use Rattle.topology.specs.Links.{sender_of}
-use Rattle.topology.specs.declared.links.Link.{Link}
-use Rattle.interconnect.specs.Moves.{channel_at}
+pub use Rattle.whereabouts.specs.Standing.{channel_in, down, egress_of, ingress_of, places_on, standing_in, up, wire_of}
 use Rattle.fabric_core.specs.World.{World}
 
 -- ---- where packets stand
 
-abbrev pub egress_of : Option Channel → List Descriptor
-egress_of None = []
-egress_of (Some c) = c.egress
-
-abbrev pub wire_of : Option Channel → List Descriptor
-wire_of None = []
-wire_of (Some c) = c.wire
-
-abbrev pub ingress_of : Option Channel → List Descriptor
-ingress_of None = []
-ingress_of (Some c) = c.ingress
-
-abbrev pub channel_in : List Link → List (List Channel) → Direction → Option Channel
-channel_in links channels direction = option_map (channel_at channels) (sender_of links direction)
-
 -- the packets at a place, oldest first
-abbrev pub standing_in : List Link → List (List Channel) → List Outbox → Place → List Descriptor
-standing_in links channels boxes (place.Outbox origin) = waiting_of boxes origin
-standing_in links channels boxes (Egress direction) = egress_of (channel_in links channels direction)
-standing_in links channels boxes (Wire direction) = wire_of (channel_in links channels direction)
-standing_in links channels boxes (Ingress direction) = ingress_of (channel_in links channels direction)
-
 abbrev pub standing_at : World → Place → List Descriptor
 standing_at w place = standing_in w.tree.links w.channels w.agents.outboxes place
 
@@ -47,16 +19,6 @@ abbrev pub trail : World → List Place → List Descriptor
 trail w places = flat_map (standing_at w) places
 
 -- ---- the places of a way
-
-abbrev pub up : ℕ → Direction
-up link = record { lower = link; way = Up }
-
-abbrev pub down : ℕ → Direction
-down link = record { lower = link; way = Down }
-
--- a direction's, its receiver's first
-abbrev pub places_on : Direction → List Place
-places_on direction = Ingress direction ∷ Wire direction ∷ Egress direction ∷ []
 
 -- of the links from a function's own on, up
 abbrev pub places_up : List ℕ → List Place

@@ -1,6 +1,6 @@
 //! The fabric: what each event does, and runs over lists of events.
 
-ghost use Rattle.std.specs.Prelude.{◌≡◌, ◌≢◌, All, IfOk, OnErr, option_map, false, true};
+ghost use Rattle.std.specs.Prelude.{◌≡◌, ◌≢◌, ◌↔◌, All, IfOk, OnErr, None, option_map, false, true};
 ghost use Rattle.std.specs.List.{list_all};
 ghost use Rattle.std.specs.Option.{option_copied};
 ghost use Rattle.agents.specs.Agents.{AreReplayed};
@@ -10,19 +10,20 @@ ghost use Rattle.domains.specs.Domains.{domain_at, place_of};
 ghost use Rattle.fab_types.specs.declared.class.Class.{Class};
 ghost use Rattle.fabric_core.specs.Credits.{HasCredits, channel_of};
 ghost use Rattle.fabric_core.specs.Events.{StepsTo, is_begin, takes_packet};
-ghost use Rattle.fabric_core.specs.Isolation.{AreApart, IsApart, home};
+ghost use Rattle.fabric_core.specs.Isolation.{AreApart, IsApart, domain_of, home};
 ghost use Rattle.fabric_core.specs.Orderly.{IsOrderly};
 ghost use Rattle.fabric_core.specs.Orders.{AreInOrder};
-ghost use Rattle.fabric_core.specs.Places.{HaveOnePlace};
+ghost use Rattle.fabric_core.specs.Places.{AreFlown, ArePartition, AreWhereabouts, HaveOnePlace};
 ghost use Rattle.fabric_core.specs.Runs.{HaveBegun, Run};
 ghost use Rattle.fabric_core.specs.Leaving.{AreLeaving, has};
 ghost use Rattle.fabric_core.specs.Stations.{events_at, is_quiet, taking};
 ghost use Rattle.fabric_core.specs.TakenOut.{NoneCanTell};
+ghost use Rattle.fabric_core.specs.Trails.{standing_at};
 ghost use Rattle.fabric_core.specs.World.{is_guarded, world_of};
 
 use crate::event::Event;
 use crate::laws::{every_event_keeps_a_fabric, other_domains_can_be_taken_out};
-use crate::leaving::{LeavingClasses, leaving};
+use crate::leaving::leaving;
 use crate::quiet::is_quiet;
 use crate::station::Station;
 use crate::step::step;
@@ -30,14 +31,16 @@ use crate::whose::home;
 use agents::Agents;
 use credit::Limits;
 use domain::Domain;
-use fab_types::{Direction, DomainId, NoMemory, Outcome, Violation};
+use fab_types::{Direction, DomainId, NoMemory, Outcome, Place, PlacesFault, Violation};
 use frame_log::Frame;
 use interconnect::Interconnect;
 use layout::Layout;
 use port::Reports;
+use port_queue::LeavingClasses;
 use std::alloc::Global;
 use std::marker::Model;
 use std::sync::Wait;
+use whereabouts::whereabouts_of;
 
 /// A fabric: the links and switches of a layout, its domains with what they have emitted, the violations that
 /// its ports reported, and the packets that the host or a function has no case for. A contract sees a `World`.
@@ -118,6 +121,29 @@ impl Fabric {
     {
         let end = self.interconnect.sender(direction)?;
         Some(self.interconnect.credits_at(end))
+    }
+
+    /// Where the packets of a domain stand: the number of each that waits in an outbox or at either end of a link, or is on
+    /// a wire, with that place, by rising numbers. Each of these is in flight. In a guarded fabric they are all that the
+    /// domain has in flight, and each stands at that place alone. In another a domain may have more in flight that stands at
+    /// no place: an entry of an alien packet took it, or nobody had a case for it.
+    ///
+    /// # Errors
+    ///
+    /// `NoDomain` exactly where the domain owns no port of the layout; `NoMemory` where memory for the answer was refused.
+    pub fn places(&self, alloc: Global, domain: DomainId) -> Result<Vec<(u64, Place)>, PlacesFault>
+        ensures domain { (result ≡ Err PlacesFault.NoDomain) ↔ (domain_of self.now domain ≡ None) }
+        ensures places { IfOk result (λ named. AreWhereabouts (standing_at self.now) domain named.items) }
+        ensures flown { IfOk result (λ named. AreFlown self.now domain named.items) }
+        ensures partition { is_guarded self.now ≡ true → IfOk result (λ named. ArePartition self.now domain named.items) }
+    {
+        if self.domain(domain).is_none() {
+            return Err(PlacesFault::NoDomain);
+        }
+        match whereabouts_of(&self.interconnect, &self.agents, alloc, domain) {
+            Ok(named) => Ok(named),
+            Err(_) => Err(PlacesFault::NoMemory),
+        }
     }
 
     /// The domain that an event is of, as the fabric stands. A begin is of the domain whose function or host begins it,

@@ -28,6 +28,6 @@ pub use laws::{
     only_non_posted_are_answered, other_domains_can_be_taken_out, packets_have_one_place,
     packets_keep_their_order, posted_packets_keep_to_their_way, what_is_left_can_be_run,
 };
-pub use leaving::LeavingClasses;
+pub use port_queue::LeavingClasses;
 pub use purge::purge_run;
 pub use station::Station;

@@ -6,7 +6,7 @@ ghost use Rattle.credit.specs.Kinds.{Kind};
 ghost use Rattle.credit.specs.Limits.{MayStart, at};
 ghost use Rattle.frame_log.specs.Descriptor.{Descriptor};
 ghost use Rattle.link.specs.Channels.{IsCovered, count_in, is_full};
-ghost use Rattle.link.specs.Simplexes.{simplex_restored};
+ghost use Rattle.link.specs.Simplexes.{channel, simplex_restored};
 ghost use Rattle.lane.specs.Lanes.{class_of, eligible};
 ghost use Rattle.topology.specs.Topologies.{IsEnd};
 ghost use Rattle.interconnect.specs.Moves.{channel_at, left_at, put_at};
@@ -14,15 +14,24 @@ ghost use Rattle.interconnect.specs.Views.{IsSameRest, channels, simplex_at};
 
 use crate::interconnect::Interconnect;
 use crate::outputs::{
-    credits_at, head_at, home_received_at, home_sent_at, home_travelling_at, is_full_at, put_at,
-    put_back_at, take_at,
+    credits_at, direction_at, head_at, home_received_at, home_sent_at, home_travelling_at,
+    is_full_at, put_at, put_back_at, take_at,
 };
 use credit::Limits;
 use fab_types::{Class, DomainId, Head};
 use frame_log::Frame;
+use link::Simplex;
 use topology::LinkEnd;
 
 impl Interconnect {
+    /// The direction of a link that is sent from this end: what waits and travels there.
+    pub fn direction_at(&self, end: LinkEnd) -> &Simplex
+        requires { IsEnd (self.now.tree).outputs end }
+        ensures { channel result.now ≡ channel_at (channels self.now) end }
+    {
+        direction_at(&self.nodes, end)
+    }
+
     /// The credits that the sender at this end knows to be left (PCIe 4.0, 2.6.1). In every interconnect they and
     /// the cost of all that travels and waits at the receiver are within the start, so no more than 127 packets
     /// of a class are ever there.

@@ -33,7 +33,7 @@ use port::{Desk, Port, Reporter};
 use std::alloc::Global;
 use std::marker::Model;
 use std::sync::Wait;
-use topology::{LinkEnd, Topology};
+use topology::{Link, LinkEnd, Topology};
 
 /// The links and switches of a layout (PCIe 4.0, 1.3): what waits and travels on each direction of each
 /// link, and the ports of the switches. A contract sees a `InterconnectView`.
@@ -92,6 +92,13 @@ impl Interconnect {
         ensures { result ≡ list_all is_guarded_port (self.now.routes).ports }
     {
         self.bridge.is_guarded()
+    }
+
+    /// The links of the layout, each with its two ends.
+    pub fn links(&self) -> &[Link]
+        ensures { result.now ≡ (self.now.tree).links }
+    {
+        self.topology.links()
     }
 
     /// Where the packets of this direction are sent from, if there is such a link.

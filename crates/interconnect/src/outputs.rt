@@ -6,7 +6,7 @@ ghost use Rattle.credit.specs.Kinds.{Kind};
 ghost use Rattle.credit.specs.Limits.{MayStart, at};
 ghost use Rattle.frame_log.specs.Descriptor.{Descriptor};
 ghost use Rattle.link.specs.Channels.{IsCovered, count_in, is_full, deliver, send, update_fc};
-ghost use Rattle.link.specs.Simplexes.{simplex_restored};
+ghost use Rattle.link.specs.Simplexes.{channel, simplex_restored};
 ghost use Rattle.lane.specs.Lanes.{class_of, eligible};
 ghost use Rattle.topology.specs.Topologies.{IsEnd};
 ghost use Rattle.interconnect.specs.Moves.{channel_at, left_at, on_channel, put_at};
@@ -18,7 +18,17 @@ use credit::Limits;
 use fab_types::{Class, DomainId, Head};
 use frame_log::Frame;
 use lane::{LaneIn, LaneOut};
+use link::Simplex;
 use topology::LinkEnd;
+
+/// The direction that is sent from an end.
+pub(crate) fn direction_at(nodes: &[Node], end: LinkEnd) -> &Simplex
+    requires { IsEnd (map length nodes.now) end }
+    ensures { channel result.now ≡ channel_at (channels_of nodes.now) end }
+{
+    let node = &nodes[end.node];
+    &node.outputs[end.output]
+}
 
 pub(crate) fn send_at(nodes: &mut [Node], end: LinkEnd, class: Class) -> bool
     requires { IsEnd (map length nodes.old) end }

@@ -1,6 +1,6 @@
 -- Queues in which each packet waits under its own class.
 use Rattle.std.proofs.Common.{◌≡◌, ℕ, Bool, true, false, List, [], ◌∷◌, Option, Some, None, cond, refl, sym, subst, ap, ◌∙◌}
-use Rattle.std.specs.Prelude.{option_map}
+use Rattle.std.specs.Prelude.{is_some, option_map}
 use Rattle.std.specs.Option.{MatchOption, IfSome}
 use Rattle.std.specs.List.{insert}
 use Rattle.std.proofs.lemmas.List.Elements.{All-append, All-cons, All-head, All-tail, All-take, All-drop}
@@ -54,6 +54,14 @@ homes (Some r) = refl
 pub home_found : (c : Class) (ws : List (Class × Descriptor)) (lent : Option Descriptor) → IsSorted ws → lent ≡ head_of c ws → option_map (λ (f : Descriptor). f.domain) lent ≡ option_map (λ (t : Descriptor × List Descriptor). t.0.domain) (eligible c (frames_of ws))
 home_found c ws lent all e = ap (option_map (λ (f : Descriptor). f.domain)) e
     ∙ (homes (taken_of c ws) ∙ ap (option_map (λ (t : Descriptor × List Descriptor). t.0.domain)) (sym (eligible_of c ws all)))
+
+both : (found : Option ((Class × Descriptor) × List (Class × Descriptor))) → is_some (option_map (λ (r : (Class × Descriptor) × List (Class × Descriptor)). r.0.1) found) ≡ is_some (option_map of_taken found)
+both None = refl
+both (Some r) = refl
+
+-- and whether there is one
+pub leaving_found : (c : Class) (ws : List (Class × Descriptor)) → IsSorted ws → is_some (head_of c ws) ≡ is_some (eligible c (frames_of ws))
+leaving_found c ws all = both (taken_of c ws) ∙ ap (is_some {T = Descriptor × List Descriptor}) (sym (eligible_of c ws all))
 
 pub none_taken : (c : Class) (ws : List (Class × Descriptor)) → IsSorted ws → taken_of c ws ≡ None → eligible c (frames_of ws) ≡ None
 none_taken c ws all e = eligible_of c ws all ∙ ap (option_map of_taken) e

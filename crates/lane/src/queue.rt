@@ -1,14 +1,16 @@
 //! Lanes that are queues in memory.
 
-ghost use Rattle.std.specs.Prelude.{◌≡◌, ◌≢◌, ◌<◌, ◌^◌, ◌==◌, ◌++◌, ◌∷◌, ℕ, [], None, IfOk, IsTrue, MatchBool, MatchResult, ◌↔◌, false, length, option_map, true};
+ghost use Rattle.std.specs.Prelude.{◌≡◌, ◌≢◌, ◌<◌, ◌^◌, ◌==◌, ◌++◌, ◌∷◌, ℕ, [], None, IfOk, IsTrue, MatchBool, MatchResult, ◌↔◌, false, is_some, length, map, option_map, true};
+ghost use Rattle.std.specs.List.Sorted.{IsPermutation};
+ghost use Rattle.port_queue.specs.Leaving.{has};
 ghost use Rattle.port_queue.specs.Queue.{count_of};
-ghost use Rattle.lane.specs.Lanes.{class_of, eligible};
+ghost use Rattle.lane.specs.Lanes.{Class, class_of, eligible};
 ghost use Rattle.lane.specs.Queues.{frames_of, frames_restored, IsSorted};
 
 use crate::lanes::LaneIn;
 use fab_types::{Class, DomainId, Head, NoMemory};
 use frame_log::Frame;
-use port_queue::PortQueue;
+use port_queue::{LeavingClasses, PortQueue};
 use std::alloc::Global;
 use std::marker::Model;
 
@@ -89,6 +91,20 @@ impl<const CAP: usize> FrameQueue<CAP> {
         ensures { result ≡ (length (frames_of self.now.queue.waiting) == 0) }
     {
         self.queue.is_empty()
+    }
+
+    /// All packets that wait, in no order that a caller may rely on.
+    pub fn all(&self, alloc: Global) -> Result<Vec<&Frame>, NoMemory>
+        ensures { IfOk result (λ all. IsPermutation (map (λ frame. frame.now) all.items) (frames_of self.now.queue.waiting)) }
+    {
+        self.queue.all(alloc)
+    }
+
+    /// Of which classes a packet may leave (PCIe 4.0, 2.4.1).
+    pub fn leaving(&self) -> LeavingClasses
+        ensures { (class : Class) → has result class ≡ is_some (eligible class (frames_of self.now.queue.waiting)) }
+    {
+        self.queue.leaving()
     }
 
     /// The domain that made the eligible packet of a class (PCIe 4.0, 2.4.1), if one is eligible.

@@ -79,6 +79,14 @@ sent-kept class false s s' limit egress egress' wire wire' ingress kept went res
     let r = rests refl in
     subst (λ (t : Ledger). IsCounted t limit (wire' ++ ingress)) (sym r.1) (subst (λ (x : List Descriptor). IsCounted s limit (x ++ ingress)) (sym r.2) kept)
 
+-- what the sender was told last stays as it sends
+pub sent-told : (class : Class) (answer : Bool) (s s' : Ledger) (egress egress' wire wire' : List Descriptor)
+    → (answer ≡ true → Transmits class egress s wire egress' s' wire')
+    → (answer ≡ false → (egress' ≡ egress) × (s' ≡ s) × (wire' ≡ wire))
+    → s'.credit_limit ≡ s.credit_limit
+sent-told class true s s' egress egress' wire wire' went rests = ap (λ (l : Ledger). l.credit_limit) (went refl).sends.spends
+sent-told class false s s' egress egress' wire wire' went rests = ap (λ (l : Ledger). l.credit_limit) (rests refl).1
+
 -- ---- what arrives
 
 pub none_waits : (wire wire' : List Descriptor) → slice_get wire 0 ≡ None → wire ≡ wire' → (wire ≡ []) × (wire' ≡ [])
@@ -132,6 +140,14 @@ accepted-kept false s s' limit told behind kept is new known =
     subst (λ (t : Ledger). IsCounted t limit behind) (sym (known refl).0) kept
 
 -- a sender that knows the limit is told nothing
+-- once the sender was told, it knows the receiver's limit
+pub accepted-told : (answer : Bool) (s s' : Ledger) (limit told : Counters) → told ≡ limit
+    → (answer ≡ true → (s' ≡ record s { credit_limit = told }) × (told ≢ s.credit_limit))
+    → (answer ≡ false → (s' ≡ s) × (told ≡ s.credit_limit))
+    → limit ≡ s'.credit_limit
+accepted-told true s s' limit told is went rests = sym is ∙ sym (ap (λ (l : Ledger). l.credit_limit) (went refl).0)
+accepted-told false s s' limit told is went rests = sym is ∙ ((rests refl).1 ∙ sym (ap (λ (l : Ledger). l.credit_limit) (rests refl).0))
+
 pub knows-told : (answer : Bool) (s : Ledger) (limit told : Counters) (egress wire ingress : List Descriptor) → IsCounted s limit (wire ++ ingress) → told ≡ limit
     → MatchBool answer (told ≡ s.credit_limit) (told ≢ s.credit_limit) → answer ≡ is_none (update_fc (link_of s egress wire ingress))
 knows-told true s limit told egress wire ingress kept is known = ap is_none (sym (update_fc-none s limit egress wire ingress kept (sym is ∙ known)))

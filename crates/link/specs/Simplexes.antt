@@ -1,5 +1,5 @@
 -- One direction of a link, as a contract sees it.
-use Rattle.std.specs.Prelude.{◌≡◌, ◌+◌, ◌<◌, ◌≤◌, ◌++◌, Bool, ◌&&◌, nat_le, List, Option, None, if◌then◌else◌}
+use Rattle.std.specs.Prelude.{◌≡◌, ◌+◌, ◌<◌, ◌≤◌, ◌++◌, Bool, true, ◌&&◌, nat_le, List, Option, None, if◌then◌else◌}
 use Rattle.frame_log.specs.Descriptor.{Descriptor}
 use Rattle.credit.specs.Counter.{distance}
 use Rattle.credit.specs.Kinds.{Kind, Cost, size_of}
@@ -55,5 +55,7 @@ pub record IsCounted (sender : Ledger) (limit : Counters) (behind : List Descrip
   pub known : (k : Kind) → at sender.credit_limit k < size_of k
   pub bounded : (k : Kind) → at limit k < size_of k
 
-abbrev pub IsSimplex : Inside → Type 0
-IsSimplex s = IsCounted s.egress.sender s.ingress.receiver.credits_allocated (s.wire ++ frames_of s.ingress.queue.queue.waiting)
+-- and where the receiver freed nothing since the sender was told, the sender knows its limit
+pub record IsSimplex (s : Inside) : Type 0 where
+  pub counted : IsCounted s.egress.sender s.ingress.receiver.credits_allocated (s.wire ++ frames_of s.ingress.queue.queue.waiting)
+  pub told : s.is_told ≡ true → s.ingress.receiver.credits_allocated ≡ s.egress.sender.credit_limit

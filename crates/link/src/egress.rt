@@ -1,8 +1,10 @@
 //! The sender's end of a direction.
 
-ghost use Rattle.std.specs.Prelude.{◌≡◌, ◌≢◌, ◌==◌, ◌++◌, ◌∷◌, [], None, IfOk, IfSome, MatchBool, MatchResult, false, option_map, true};
+ghost use Rattle.std.specs.Prelude.{◌≡◌, ◌≢◌, ◌==◌, ◌++◌, ◌∷◌, [], None, IfOk, IfSome, MatchBool, MatchResult, false, is_some, map, option_map, true};
+ghost use Rattle.std.specs.List.Sorted.{IsPermutation};
 ghost use Rattle.credit.specs.Limits.{IsUpdate, MayStart, left_counters, zero_counters};
-ghost use Rattle.lane.specs.Lanes.{class_of, eligible};
+ghost use Rattle.lane.specs.Lanes.{Class, class_of, eligible};
+ghost use Rattle.port_queue.specs.Leaving.{has};
 ghost use Rattle.lane.specs.Queues.{frames_of};
 ghost use Rattle.link.specs.Channels.{count_in};
 ghost use Rattle.link.specs.Quiet.{none_eligible};
@@ -13,6 +15,7 @@ use credit::{Limits, Sender};
 use fab_types::{Class, DomainId, NoMemory};
 use frame_log::Frame;
 use lane::{FrameQueue, LaneIn, LaneOut};
+use port_queue::LeavingClasses;
 use std::alloc::Global;
 use std::marker::Model;
 use vetted::VettedFrame;
@@ -110,6 +113,20 @@ impl Egress {
         ensures { result ≡ option_map (λ taken. taken.0.domain) (eligible class (frames_of self.now.queue.queue.waiting)) }
     {
         self.queue.home(class)
+    }
+
+    /// All packets that wait, in no order that a caller may rely on.
+    pub fn all(&self, alloc: Global) -> Result<Vec<&Frame>, NoMemory>
+        ensures { IfOk result (λ all. IsPermutation (map (λ frame. frame.now) all.items) (frames_of self.now.queue.queue.waiting)) }
+    {
+        self.queue.all(alloc)
+    }
+
+    /// Of which classes a packet may leave (PCIe 4.0, 2.4.1), whatever the credits.
+    pub fn leaving(&self) -> LeavingClasses
+        ensures { (class : Class) → has result class ≡ is_some (eligible class (frames_of self.now.queue.queue.waiting)) }
+    {
+        self.queue.leaving()
     }
 
     /// May no packet leave, whatever its class and the credits?

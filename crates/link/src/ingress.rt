@@ -1,8 +1,10 @@
 //! The receiver's end of a direction.
 
-ghost use Rattle.std.specs.Prelude.{◌≡◌, ◌≢◌, ◌==◌, ◌++◌, ◌∷◌, [], None, Some, IfOk, IfSome, IsSome, MatchOption, false, option_map};
+ghost use Rattle.std.specs.Prelude.{◌≡◌, ◌≢◌, ◌==◌, ◌++◌, ◌∷◌, [], None, Some, IfOk, IfSome, IsSome, MatchOption, false, is_some, map, option_map};
+ghost use Rattle.std.specs.List.Sorted.{IsPermutation};
 ghost use Rattle.credit.specs.Limits.{counted, uncounted, zero_counters};
-ghost use Rattle.lane.specs.Lanes.{class_of, eligible};
+ghost use Rattle.lane.specs.Lanes.{Class, class_of, eligible};
+ghost use Rattle.port_queue.specs.Leaving.{has};
 ghost use Rattle.lane.specs.Queues.{frames_of, frames_restored};
 ghost use Rattle.link.specs.Channels.{count_in};
 ghost use Rattle.link.specs.Quiet.{none_eligible};
@@ -12,6 +14,7 @@ use credit::{Limits, Receiver};
 use fab_types::{Class, DomainId, Head, NoMemory};
 use frame_log::Frame;
 use lane::{FrameQueue, LaneIn};
+use port_queue::LeavingClasses;
 use std::alloc::Global;
 use std::marker::Model;
 
@@ -113,6 +116,20 @@ impl Ingress {
         ensures { result ≡ option_map (λ taken. taken.0.domain) (eligible class (frames_of self.now.queue.queue.waiting)) }
     {
         self.queue.home(class)
+    }
+
+    /// All packets that wait, in no order that a caller may rely on.
+    pub fn all(&self, alloc: Global) -> Result<Vec<&Frame>, NoMemory>
+        ensures { IfOk result (λ all. IsPermutation (map (λ frame. frame.now) all.items) (frames_of self.now.queue.queue.waiting)) }
+    {
+        self.queue.all(alloc)
+    }
+
+    /// Of which classes a packet may leave (PCIe 4.0, 2.4.1), whatever the credits.
+    pub fn leaving(&self) -> LeavingClasses
+        ensures { (class : Class) → has result class ≡ is_some (eligible class (frames_of self.now.queue.queue.waiting)) }
+    {
+        self.queue.leaving()
     }
 
     /// May no packet leave, whatever its class?

@@ -1,9 +1,11 @@
 //! One direction of a link.
 
-ghost use Rattle.std.specs.Prelude.{◌≡◌, ◌≤◌, ◌++◌, ◌∷◌, [], None, Some, IfOk, MatchBool, false, is_none, option_map, slice_get};
+ghost use Rattle.std.specs.Prelude.{◌≡◌, ◌≤◌, ◌++◌, ◌∷◌, [], None, Some, IfOk, MatchBool, false, is_none, is_some, map, option_map, slice_get};
+ghost use Rattle.std.specs.List.Sorted.{IsPermutation};
 ghost use Rattle.fab_types.specs.declared.class.Class.{Class};
 ghost use Rattle.credit.specs.Kinds.{Kind};
 ghost use Rattle.credit.specs.Limits.{MayStart, at};
+ghost use Rattle.port_queue.specs.Leaving.{has};
 ghost use Rattle.lane.specs.Lanes.{class_of, eligible};
 ghost use Rattle.lane.specs.Queues.{frames_of};
 ghost use Rattle.link.specs.Channels.{IsCovered, count_in, deliver, is_full, send, update_fc, with_egress};
@@ -17,7 +19,7 @@ use credit::Limits;
 use fab_types::{Class, DomainId, Head, NoMemory};
 use frame_log::Frame;
 use lane::{LaneIn, LaneOut};
-use port_queue::Ring;
+use port_queue::{LeavingClasses, Ring};
 use std::alloc::Global;
 use std::marker::Model;
 use vetted::VettedFrame;
@@ -31,6 +33,9 @@ pub struct Simplex {
     egress: Egress,
     wire: Ring<Frame, 381>,
     ingress: Ingress,
+
+    /// Has the receiver freed no credits since the sender was told?
+    is_told: bool,
 }
 
 impl Model for Simplex {
@@ -61,6 +66,7 @@ impl Simplex {
             egress: Egress::new(alloc, start)?,
             wire: Ring::new(alloc)?,
             ingress: Ingress::new(alloc, limits)?,
+            is_told: true,
         })
     }
 
@@ -104,6 +110,41 @@ impl Simplex {
         self.egress.left()
     }
 
+    /// All packets at the sender, in no order that a caller may rely on.
+    pub fn at_sender(&self, alloc: Global) -> Result<Vec<&Frame>, NoMemory>
+        ensures { IfOk result (λ all. IsPermutation (map (λ frame. frame.now) all.items) (channel self.now).egress) }
+    {
+        self.egress.all(alloc)
+    }
+
+    /// All packets on the wire, the oldest first.
+    pub fn on_wire(&self, alloc: Global) -> Result<Vec<&Frame>, NoMemory>
+        ensures { IfOk result (λ all. map (λ frame. frame.now) all.items ≡ (channel self.now).wire) }
+    {
+        self.wire.all(alloc)
+    }
+
+    /// All packets at the receiver, in no order that a caller may rely on.
+    pub fn at_receiver(&self, alloc: Global) -> Result<Vec<&Frame>, NoMemory>
+        ensures { IfOk result (λ all. IsPermutation (map (λ frame. frame.now) all.items) (channel self.now).ingress) }
+    {
+        self.ingress.all(alloc)
+    }
+
+    /// Of which classes a packet may leave the sender (PCIe 4.0, 2.4.1), whatever the credits.
+    pub fn leaving_sender(&self) -> LeavingClasses
+        ensures { (class : Class) → has result class ≡ is_some (eligible class (channel self.now).egress) }
+    {
+        self.egress.leaving()
+    }
+
+    /// Of which classes a packet may leave the receiver (PCIe 4.0, 2.4.1).
+    pub fn leaving_receiver(&self) -> LeavingClasses
+        ensures { (class : Class) → has result class ≡ is_some (eligible class (channel self.now).ingress) }
+    {
+        self.ingress.leaving()
+    }
+
     /// The domain that made the eligible packet of a class at the sender, which the next `send` takes if there are
     /// credits for it.
     pub fn home_sent(&self, class: Class) -> Option<DomainId>
@@ -133,6 +174,10 @@ impl Simplex {
     pub fn update_fc(&mut self) -> bool
         ensures { MatchBool result (update_fc (channel self.old) ≡ Some (channel self.new)) ((update_fc (channel self.old) ≡ None) × (channel self.new ≡ channel self.old)) }
     {
+        if self.is_told {
+            return false;
+        }
+        self.is_told = true;
         let limits = self.ingress.advert();
         accept_update(&mut self.egress, limits)
     }
@@ -141,7 +186,7 @@ impl Simplex {
     fn is_told(&self) -> bool
         ensures { result ≡ is_none (update_fc (channel self.now)) }
     {
-        self.egress.knows(&self.ingress.advert())
+        self.is_told || self.egress.knows(&self.ingress.advert())
     }
 
     /// May no packet leave the receiver, whatever its class?
@@ -179,10 +224,12 @@ impl LaneIn for Simplex {
     }
 
     fn take(&mut self, class: Class) -> Option<Frame> {
+        self.is_told = false;
         self.ingress.release(class)
     }
 
     fn put_back(&mut self, frame: Frame) {
+        self.is_told = false;
         self.ingress.give_back(frame);
     }
 }

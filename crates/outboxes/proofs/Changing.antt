@@ -58,14 +58,14 @@ kept_at boxes i read new within is =
 
 -- ---- the box of another origin
 
-get_other : (boxes : List BoxView) (i j : ℕ) (new : BoxView) → j ≢ i → slice_get (set boxes i new) j ≡ slice_get boxes j
+pub get_other : (boxes : List BoxView) (i j : ℕ) (new : BoxView) → j ≢ i → slice_get (set boxes i new) j ≡ slice_get boxes j
 get_other [] i j new apart = refl
 get_other (b ∷ boxes) zero zero new apart = absurd (apart refl)
 get_other (b ∷ boxes) zero (suc j) new apart = refl
 get_other (b ∷ boxes) (suc i) zero new apart = refl
 get_other (b ∷ boxes) (suc i) (suc j) new apart = get_other boxes i j new (λ e. apart (ap suc e))
 
-found_is : (boxes : List BoxView) (origin : Origin) (i : ℕ) (d : BoxView) → box_place boxes origin ≡ Some i → same_origin (get_or boxes i d).origin origin ≡ true
+pub found_is : (boxes : List BoxView) (origin : Origin) (i : ℕ) (d : BoxView) → box_place boxes origin ≡ Some i → same_origin (get_or boxes i d).origin origin ≡ true
 unfolding box_place
 found_is boxes origin i d e = (position-Some (λ (b : BoxView). same_origin b.origin origin) boxes i d e).1
 

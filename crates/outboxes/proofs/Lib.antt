@@ -1,4 +1,5 @@
 pub mod Boxes
 pub mod Changing
+pub mod FullBoxes
 pub mod Indexed
 pub mod Starting

@@ -1,5 +1,5 @@
 -- What functions and hosts have emitted and no link has taken yet: an outbox of each, as a list of boxes.
-use Rattle.std.specs.Prelude.{ℕ, ◌+◌, ◌*◌, nat_lt, Bool, false, List, [], ◌∷◌, ◌++◌, map, filter, slice_get, slice_set, Option, Some, None}
+use Rattle.std.specs.Prelude.{◌≡◌, ◌⊎◌, ℕ, ◌+◌, ◌*◌, nat_lt, Bool, false, List, [], ◌∷◌, ◌++◌, map, filter, slice_get, slice_set, Option, Some, None}
 use Rattle.std.specs.List.{position, range_with_len}
 use Rattle.fab_types.specs.declared.origin.Origin.{Origin}
 use Rattle.fab_types.specs.declared.origin.Origin.TheVariants.{Function, Host}
@@ -99,6 +99,12 @@ changed_at change boxes (Some place) = changed_in change boxes place (slice_get 
 -- the box of an origin is changed so, and all others stay as they were; nothing changes where there is none
 abbrev pub changed : (BoxView → BoxView) → List BoxView → Origin → List BoxView
 changed change boxes origin = changed_at change boxes (box_place boxes origin)
+
+-- ---- what always holds
+
+-- what waits anywhere waits in a box that is found by its origin
+abbrev pub AreFound : List BoxView → Type 0
+AreFound boxes = (place : ℕ) (box : BoxView) → slice_get boxes place ≡ Some box → (waiting box ≡ []) ⊎ (box_place boxes box.origin ≡ Some place)
 
 -- ---- the start
 

@@ -1,12 +1,14 @@
 //! The outbox of one function or host.
 
-ghost use Rattle.std.specs.Prelude.{◌≡◌, ◌==◌, IfOk, IsTrue, MatchOption, None, OnErr, OnOk, Some, length, option_map};
-ghost use Rattle.lane.specs.Lanes.{class_of, eligible};
+ghost use Rattle.std.specs.Prelude.{◌≡◌, ◌==◌, IfOk, IsTrue, MatchOption, None, OnErr, OnOk, Some, is_some, length, map, option_map};
+ghost use Rattle.std.specs.List.Sorted.{IsPermutation};
+ghost use Rattle.port_queue.specs.Leaving.{has};
+ghost use Rattle.lane.specs.Lanes.{Class, class_of, eligible};
 ghost use Rattle.outboxes.specs.Outboxes.{empty_box, takes, waiting, with_more, with_put, with_queue};
 
 use fab_types::{Class, DomainId, Head, NoMemory, Origin};
 use frame_log::Frame;
-use port_queue::Outbox;
+use port_queue::{LeavingClasses, Outbox};
 use std::alloc::Global;
 use std::marker::Model;
 
@@ -51,6 +53,20 @@ impl OriginBox {
         ensures { result ≡ (length (waiting self.now) == 0) }
     {
         self.outbox.is_empty()
+    }
+
+    /// All packets that wait, in no order that a caller may rely on.
+    pub fn all(&self, alloc: Global) -> Result<Vec<&Frame>, NoMemory>
+        ensures { IfOk result (λ all. IsPermutation (map (λ frame. frame.now) all.items) (waiting self.now)) }
+    {
+        self.outbox.all(alloc)
+    }
+
+    /// Of which classes a packet may leave (PCIe 4.0, 2.4.1).
+    pub fn leaving(&self) -> LeavingClasses
+        ensures { (class : Class) → has result class ≡ is_some (eligible class (waiting self.now)) }
+    {
+        self.outbox.leaving()
     }
 
     /// What ports read of the eligible packet of a class.

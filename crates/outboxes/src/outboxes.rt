@@ -1,8 +1,10 @@
 //! The outboxes of all functions and hosts as one value.
 
-ghost use Rattle.std.specs.Prelude.{◌≡◌, ◌==◌, ◌<◌, IfOk, IfSome, IsTrue, MatchOption, None, OnErr, OnOk, Some, length, option_map};
-ghost use Rattle.lane.specs.Lanes.{class_of, eligible};
-ghost use Rattle.outboxes.specs.Outboxes.{box_place, boxes_of, changed, has_place, queue_of, waiting_of, with_more, with_put, with_queue};
+ghost use Rattle.std.specs.Prelude.{◌≡◌, ◌==◌, ◌<◌, IfOk, IfSome, IsTrue, MatchOption, None, OnErr, OnOk, Some, is_some, length, map, option_map};
+ghost use Rattle.std.specs.List.Sorted.{IsPermutation};
+ghost use Rattle.port_queue.specs.Leaving.{has};
+ghost use Rattle.lane.specs.Lanes.{Class, class_of, eligible};
+ghost use Rattle.outboxes.specs.Outboxes.{AreFound, box_place, boxes_of, changed, has_place, queue_of, waiting_of, with_more, with_put, with_queue};
 
 use crate::changes::{more_at, put_at, take_at};
 use crate::indexing::{index_of, indexed_place};
@@ -12,7 +14,8 @@ use fab_types::{Class, DomainId, Head, NoMemory, Origin};
 use frame_log::Frame;
 use layout::Layout;
 use origin_index::OriginIndex;
-use std::alloc::Global;
+use port_queue::LeavingClasses;
+use std::alloc::{AllocError, Global};
 use std::marker::Model;
 
 /// What functions and hosts have emitted and no link has taken yet. A contract sees the list of their boxes.
@@ -30,9 +33,19 @@ impl Model for Outboxes {
 
     ghost view = { λ o. o.boxes.items };
 
-    ghost use Rattle.outboxes.specs.Indexes.{IsIndexOf};
+    ghost use Rattle.outboxes.specs.Indexes.{AreKept};
 
-    ghost invariant = { λ o. IsIndexOf o.index o.boxes.items };
+    ghost invariant = { λ o. AreKept o.index o.boxes.items };
+}
+
+fn origins_of(alloc: Global, boxes: &[OriginBox]) -> Result<Vec<Origin>, AllocError>
+    ensures { IfOk result (λ origins. origins.items ≡ map (λ box. box.origin) boxes.now) }
+{
+    let mut origins = Vec::new(alloc);
+    for outbox in boxes {
+        origins.push(outbox.origin())?;
+    }
+    Ok(origins)
 }
 
 impl Outboxes {
@@ -72,6 +85,35 @@ impl Outboxes {
         match self.place(origin) {
             Some(place) => self.boxes[place].is_empty(),
             None => true,
+        }
+    }
+
+    /// The functions and hosts that have a box, in the order of the boxes. No packet waits in a box but that which is found
+    /// by its origin.
+    pub fn origins(&self, alloc: Global) -> Result<Vec<Origin>, NoMemory>
+        ensures value { IfOk result (λ origins. origins.items ≡ map (λ box. box.origin) self.now) }
+        ensures found { AreFound self.now }
+    {
+        Ok(origins_of(alloc, &self.boxes)?)
+    }
+
+    /// All packets of this origin that wait, in no order that a caller may rely on. Where there is no such origin, none.
+    pub fn all(&self, alloc: Global, origin: Origin) -> Result<Vec<&Frame>, NoMemory>
+        ensures { IfOk result (λ all. IsPermutation (map (λ frame. frame.now) all.items) (waiting_of self.now origin)) }
+    {
+        match self.place(origin) {
+            Some(place) => self.boxes[place].all(alloc),
+            None => Ok(Vec::new(alloc)),
+        }
+    }
+
+    /// Of which classes a packet of this origin may leave (PCIe 4.0, 2.4.1). Where there is no such origin, of none.
+    pub fn leaving(&self, origin: Origin) -> LeavingClasses
+        ensures { (class : Class) → has result class ≡ is_some (eligible class (waiting_of self.now origin)) }
+    {
+        match self.place(origin) {
+            Some(place) => self.boxes[place].leaving(),
+            None => LeavingClasses::NONE,
         }
     }
 

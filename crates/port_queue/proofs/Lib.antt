@@ -1,5 +1,6 @@
 pub mod Arriving
 pub mod Emptiness
+pub mod Everything
 pub mod Halves
 pub mod Heads
 pub mod Keeping

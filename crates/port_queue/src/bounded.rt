@@ -1,15 +1,19 @@
 //! A queue of bounded length whose puts take no memory.
 
-ghost use Rattle.std.specs.Prelude.{◌≡◌, ◌==◌, ◌<◌, ◌≤◌, ◌^◌, ◌-◌, [], ◌∷◌, ◌++◌, IsTrue, ◌↔◌, IfOk, IsSome, IfSome, MatchOption, Some, None, option_copied, length, slice_get, take};
+ghost use Rattle.std.specs.Prelude.{◌≡◌, ◌==◌, ◌<◌, ◌≤◌, ◌^◌, ◌-◌, [], ◌∷◌, ◌++◌, IsTrue, ◌↔◌, IfOk, IsSome, IfSome, MatchOption, Some, None, is_some, map, option_copied, length, slice_get, take};
+ghost use Rattle.std.specs.List.Sorted.{IsPermutation};
 ghost use Rattle.std.specs.Bool.{OnFalse};
 ghost use Rattle.fab_types.specs.declared.class.Class.{Class};
 ghost use Rattle.fab_types.specs.declared.class.Class.TheVariants.{Posted};
 ghost use Rattle.port_queue.specs.PerClass.{at_class};
 ghost use Rattle.port_queue.specs.Arrivals.{may_leave, AreClassQueues, IsLeast, number_or_last_of, waiting_of};
 ghost use Rattle.port_queue.specs.Queue.{Queue, count_of, taken_of, head_of, restored};
+ghost use Rattle.port_queue.specs.Leaving.{has};
 ghost use Rattle.port_queue.specs.Renumbering.{firsts_of, others_of};
 
 use crate::entry::{Entry, Gap};
+use crate::items::items_of;
+use crate::leaving_classes::LeavingClasses;
 use crate::per_class::{PerClass, may_leave_beside};
 use crate::ring::Ring;
 use fab_types::{Class, NoMemory};
@@ -81,6 +85,30 @@ impl<T: Drop, const CAP: usize> PortQueue<T, CAP> {
         ensures { result ≡ (length self.now.waiting == 0) }
     {
         self.len() == 0
+    }
+
+    /// All that waits, in no order that a caller may rely on.
+    pub fn all(&self, alloc: Global) -> Result<Vec<&T>, NoMemory>
+        ensures { IfOk result (λ all. IsPermutation (map (λ item. item.now) all.items) (map (λ w. w.1) self.now.waiting)) }
+    {
+        let queues = &self.queues;
+        Ok(items_of(
+            alloc,
+            queues.posted.deque(),
+            queues.non_posted.deque(),
+            queues.completion.deque(),
+        )?)
+    }
+
+    /// Of which classes an item may leave: its oldest, unless an older posted one waits that it may not pass.
+    pub fn leaving(&self) -> LeavingClasses
+        ensures { (class : Class) → has result class ≡ is_some (head_of class self.now.waiting) }
+    {
+        LeavingClasses {
+            posted: self.head(Class::Posted).is_some(),
+            non_posted: self.head(Class::NonPosted).is_some(),
+            completion: self.head(Class::Completion).is_some(),
+        }
     }
 
     /// The eligible item of the class: its oldest, unless an older posted one waits that it may not pass.

@@ -12,6 +12,8 @@
 mod anew;
 mod bounded;
 mod entry;
+mod items;
+mod leaving_classes;
 mod per_class;
 mod reserved;
 mod ring;
@@ -19,6 +21,7 @@ mod ring;
 pub use bounded::PortQueue;
 #[doc(hidden)]
 pub use entry::{Entry, Gap};
+pub use leaving_classes::LeavingClasses;
 #[doc(hidden)]
 pub use per_class::PerClass;
 pub use reserved::Outbox;

@@ -1,9 +1,12 @@
 //! A queue of items that come in a counted number.
 
-ghost use Rattle.std.specs.Prelude.{◌≡◌, ◌==◌, ◌<◌, ◌≤◌, ◌+◌, ◌^◌, [], ◌∷◌, ◌++◌, IsTrue, ◌↔◌, IsSome, IfSome, IfOk, OnOk, OnErr, MatchOption, Some, None, option_copied, length, slice_get, alloc_error};
+ghost use Rattle.std.specs.Prelude.{◌≡◌, ◌==◌, ◌<◌, ◌≤◌, ◌+◌, ◌^◌, [], ◌∷◌, ◌++◌, IsTrue, ◌↔◌, IsSome, IfSome, IfOk, OnOk, OnErr, MatchOption, Some, None, is_some, map, option_copied, length, slice_get, alloc_error};
+ghost use Rattle.std.specs.List.Sorted.{IsPermutation};
 ghost use Rattle.std.specs.Bool.{OnFalse};
 ghost use Rattle.std.specs.VecDeque.{deque_capacity};
+ghost use Rattle.fab_types.specs.declared.class.Class.{Class};
 ghost use Rattle.fab_types.specs.declared.class.Class.TheVariants.{Posted};
+ghost use Rattle.port_queue.specs.Leaving.{has};
 ghost use Rattle.port_queue.specs.PerClass.{at_class, with_class};
 ghost use Rattle.port_queue.specs.Arrivals.{may_leave};
 ghost use Rattle.port_queue.specs.Queue.{Queue, taken_of, head_of, restored};
@@ -11,6 +14,8 @@ ghost use Rattle.port_queue.specs.Outgoing.{Outgoing, entries_of};
 
 use crate::anew::{pop_oldest, push_oldest};
 use crate::entry::{Entry, Gap};
+use crate::items::items_of;
+use crate::leaving_classes::LeavingClasses;
 use crate::per_class::{PerClass, may_leave_beside};
 use fab_types::{Class, NoMemory};
 use std::alloc::Global;
@@ -95,6 +100,30 @@ impl<T: Drop> Outbox<T> {
         ensures { result ≡ (length self.now.queue.waiting == 0) }
     {
         self.len() == 0
+    }
+
+    /// All that waits, in no order that a caller may rely on.
+    pub fn all(&self, alloc: Global) -> Result<Vec<&T>, NoMemory>
+        ensures { IfOk result (λ all. IsPermutation (map (λ item. item.now) all.items) (map (λ w. w.1) self.now.queue.waiting)) }
+    {
+        let queues = &self.queues;
+        Ok(items_of(
+            alloc,
+            &queues.posted,
+            &queues.non_posted,
+            &queues.completion,
+        )?)
+    }
+
+    /// Of which classes an item may leave: its oldest, unless an older posted one waits that it may not pass.
+    pub fn leaving(&self) -> LeavingClasses
+        ensures { (class : Class) → has result class ≡ is_some (head_of class self.now.queue.waiting) }
+    {
+        LeavingClasses {
+            posted: self.head(Class::Posted).is_some(),
+            non_posted: self.head(Class::NonPosted).is_some(),
+            completion: self.head(Class::Completion).is_some(),
+        }
     }
 
     /// The eligible item of the class: its oldest, unless an older posted one waits that it may not pass.

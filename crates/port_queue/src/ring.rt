@@ -1,6 +1,6 @@
 //! A queue of bounded length that has its room from the start.
 
-ghost use Rattle.std.specs.Prelude.{◌≡◌, ◌<◌, [], ◌∷◌, ◌++◌, IfOk, length, slice_get, option_copied};
+ghost use Rattle.std.specs.Prelude.{◌≡◌, ◌<◌, [], ◌∷◌, ◌++◌, IfOk, length, map, slice_get, option_copied};
 ghost use Rattle.std.specs.Option.{option_to_list};
 
 use crate::anew::{begin_anew, push_oldest};
@@ -51,6 +51,20 @@ impl<T, const CAP: usize> Ring<T, CAP> {
         ensures { option_copied result ≡ slice_get self.now 0 }
     {
         self.items.front()
+    }
+
+    /// The items, in the queue that keeps them.
+    pub(crate) fn deque(&self) -> &VecDeque<T>
+        ensures { result.now.items ≡ self.now }
+    {
+        &self.items
+    }
+
+    /// All items, the oldest first.
+    pub fn all(&self, alloc: Global) -> Result<Vec<&T>, NoMemory>
+        ensures { IfOk result (λ all. map (λ item. item.now) all.items ≡ self.now) }
+    {
+        Ok(self.items.iter().collect(alloc)?)
     }
 
     pub fn push_back(&mut self, item: T)

@@ -26,6 +26,10 @@ joined (Some xs) None new s t a b = absurd a
 joined (Some xs) (Some ys) None s t a b = absurd b
 joined (Some xs) (Some ys) (Some zs) s t a b = b ∙ (ap (λ (l : List ℕ). l ++ t) a ∙ append_assoc xs s t)
 
+-- what was made ready was appended
+pub ready : (old new : Option (List ℕ)) (text made : List ℕ) → Appends (Some []) (Some made) text → Appends old new made → Appends old new text
+ready old new text made is a = subst (Appends old new) is a
+
 -- one item more of a list, of which each has its text
 pub lines_next : {X : Type 0} (f : X → List ℕ) (xs : List X) (i : ℕ) (x : X) (old mid new : Option (List ℕ)) → i < length xs → x ≡ slice_index_or xs i x
     → Appends old mid (flat_map f (take i xs)) → Appends mid new (f x) → Appends old new (flat_map f (take (i + 1) xs))

@@ -14,8 +14,7 @@ use Rattle.fabric_core.specs.declared.station.Station.{Station}
 use Rattle.fabric_core.specs.Events.{StepsTo}
 use Rattle.fabric_core.specs.Runs.{Run}
 use Rattle.fab_types.specs.declared.class.Class.{Class}
-use Rattle.fabric_core.specs.Leaving.{AreLeaving, has}
-use Rattle.fabric_core.specs.declared.leaving.LeavingClasses.{LeavingClasses}
+use Rattle.fabric_core.specs.Leaving.{AreLeaving, LeavingClasses, has}
 use Rattle.fabric_core.proofs.effect.QuietStations.{none_leaves}
 use Rattle.fabric_core.specs.Stations.{events_at, taking}
 use Rattle.fabric_core.specs.World.{World}

@@ -21,6 +21,7 @@ fn violations_of(alloc: Global, reports: &[Report]) -> Result<Vec<Violation>, Al
 }
 
 /// Writes how many begins of each function and host were refused; the violations, as the monitor took them; and each domain.
+/// Where memory is refused before all of it stands ready, nothing is written.
 pub(crate) fn write_report<W: Write>(
     alloc: Global,
     out: &mut W,
@@ -29,9 +30,11 @@ pub(crate) fn write_report<W: Write>(
 ) -> io::Result<()>
     ensures { OnOk result (Wrote (W.contents out.old) (W.contents out.new) (IsReport refusals.now stopped.now)) }
 {
-    refusals.write(out)?;
+    let mut report = Vec::new(alloc);
+    refusals.write(&mut report)?;
     let violations = violations_of(alloc, &stopped.list)?;
-    write_violations(alloc, out, &violations)?;
-    write_domains(alloc, out, &stopped.domains)?;
+    write_violations(alloc, &mut report, &violations)?;
+    write_domains(alloc, &mut report, &stopped.domains)?;
+    out.write_all(&report)?;
     Ok(())
 }

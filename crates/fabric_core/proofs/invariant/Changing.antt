@@ -25,7 +25,7 @@ module _ {A : Type 0} where
   all_back P [] ys h = h
   all_back P (x ∷ xs) ys h = all_back P xs ys (All-tail P x (xs ++ ys) h)
 
-  count_append : (p : A → Bool) (xs ys : List A) → count_by p (xs ++ ys) ≡ count_by p xs + count_by p ys
+  pub count_append : (p : A → Bool) (xs ys : List A) → count_by p (xs ++ ys) ≡ count_by p xs + count_by p ys
   count_append p xs ys = sum_by-append (λ x. cond (p x) 1 0) xs ys
 
   pub unchanged : (xs : List A) → Changed xs xs [] []

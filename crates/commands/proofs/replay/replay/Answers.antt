@@ -4,7 +4,7 @@ use Rattle.commands.proofs.replay.replay.Goals as goal
 pub returns : goal.returns
 returns g c =
     let layout = c.in_ok-layout.ensures.layout in
-    let written = c.in_ok-write_domain.ensures in (
+    let written = c.in_ok-write_part.ensures in (
       written.0,
       record {
         layout_text = layout.0;

@@ -2,7 +2,7 @@ use Rattle.commands.proofs.run.alone.Goals as goal
 
 pub returns : goal.returns
 returns g c =
-    let written = c.in_ok-write_domain.ensures in (
+    let written = c.in_ok-write_part.ensures in (
       written.0,
       record {
         platform = c.in_ok-inputs.inputs.layout;

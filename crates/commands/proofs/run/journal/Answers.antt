@@ -1,5 +1,6 @@
-use Rattle.std.proofs.Common.{refl, sym}
+use Rattle.std.proofs.Common.{◌++◌, ◌∙◌, List, ℕ, ap, refl, sym}
 use Rattle.journal_text.specs.Journals.{journal_text}
+use Rattle.reports.proofs.Writing.{ready}
 use Rattle.commands.proofs.run.journal.Goals as goal
 
 pub returns : goal.returns
@@ -23,5 +24,5 @@ returns g c =
         journal = refl;
         read_back = c.in_ok-write_journal.ensures.read_back;
       },
-      c.in_ok-write_journal.ensures.written,
+      ready _ _ (journal_text domain.share domain.journal) _ (c.deref.ensures.value ∙ c.in_ok-write_journal.ensures.written ∙ ap (λ (l : List ℕ). l ++ journal_text domain.share domain.journal) c.new-text.ensures.items) c.in_ok-write_all.ensures.bytes,
     )

@@ -1,3 +1,4 @@
+use Rattle.outboxes.proofs.FullBoxes.{found_set}
 use Rattle.std.proofs.Common.{ap}
 use Rattle.outboxes.proofs.Changing.{kept_at, same_place, took_at}
 use Rattle.outboxes.specs.Outboxes.{BoxView}
@@ -11,3 +12,7 @@ returns-clause-kept c = kept_at c.args.boxes.now c.args.place c.index-boxes-plac
 
 pub returns-clause-places : goal.returns-clause-places
 returns-clause-places c = same_place c.args.boxes.now c.args.place c.index-boxes-place.result c.take.new.self (ap (λ (b : BoxView). b.origin) c.take.ensures.kept)
+
+pub returns-clause-found : goal.returns-clause-found
+returns-clause-found c = λ origin is found.
+    found_set c.args.boxes.now c.args.place c.index-boxes-place.result c.take.new.self origin c.requires is (ap (λ (b : BoxView). b.origin) c.take.ensures.kept) found

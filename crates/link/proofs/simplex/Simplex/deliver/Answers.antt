@@ -1,4 +1,4 @@
-use Rattle.std.proofs.Common.{◌≡◌, ◌++◌, Some, None, sym, subst}
+use Rattle.std.proofs.Common.{◌≡◌, ◌++◌, Some, None, ap, sym, subst, ◌∙◌}
 use Rattle.std.specs.Prelude.{MatchBool}
 use Rattle.credit.specs.Limits.{Allotment}
 use Rattle.lane.specs.Lanes.{class_of}
@@ -14,13 +14,15 @@ use Rattle.link.proofs.simplex.Simplex.deliver.Goals as goal
 pub deliver_oldest-requires : goal.deliver_oldest-requires
 deliver_oldest-requires c frame oldest = let s = c.self.inside in
     places_left (class_of frame) (frames_of s.ingress.queue.queue.waiting)
-    (ingress-place s.egress.sender s.ingress.receiver.credits_allocated s.wire (frames_of s.ingress.queue.queue.waiting) frame c.self.invariant oldest)
+    (ingress-place s.egress.sender s.ingress.receiver.credits_allocated s.wire (frames_of s.ingress.queue.queue.waiting) frame c.self.invariant.counted oldest)
 
 pub invariant_of-self : goal.invariant_of-self
-invariant_of-self c = let s = c.self.inside in
-    subst (λ (r : Allotment). IsCounted s.egress.sender r.credits_allocated (c.deliver_oldest.new.wire ++ frames_of c.deliver_oldest.new.ingress.queue.queue.waiting)) (sym c.deliver_oldest.ensures.receiver)
-    (delivered-kept c.deliver_oldest.result s.egress.sender s.ingress.receiver.credits_allocated s.wire c.deliver_oldest.new.wire (frames_of s.ingress.queue.queue.waiting) (frames_of c.deliver_oldest.new.ingress.queue.queue.waiting)
-    c.self.invariant c.deliver_oldest.ensures.delivered c.deliver_oldest.ensures.rests)
+invariant_of-self c = let s = c.self.inside in record {
+  counted = subst (λ (r : Allotment). IsCounted s.egress.sender r.credits_allocated (c.deliver_oldest.new.wire ++ frames_of c.deliver_oldest.new.ingress.queue.queue.waiting)) (sym c.deliver_oldest.ensures.receiver)
+      (delivered-kept c.deliver_oldest.result s.egress.sender s.ingress.receiver.credits_allocated s.wire c.deliver_oldest.new.wire (frames_of s.ingress.queue.queue.waiting) (frames_of c.deliver_oldest.new.ingress.queue.queue.waiting)
+      c.self.invariant.counted c.deliver_oldest.ensures.delivered c.deliver_oldest.ensures.rests);
+  told = λ told. ap (λ (r : Allotment). r.credits_allocated) c.deliver_oldest.ensures.receiver ∙ c.self.invariant.told told;
+}
 
 pub returns : goal.returns
 returns c = let s = c.self.inside in

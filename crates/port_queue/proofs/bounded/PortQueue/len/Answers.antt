@@ -1,4 +1,4 @@
-use Rattle.std.proofs.Common.{◌≡◌, ◌+◌, ◌≤◌, length, sym, ap, ◌∙◌, arith}
+use Rattle.std.proofs.Common.{length, ap, arith}
 use Rattle.ordering.specs.Ordering.{Class}
 use Rattle.port_queue.specs.PerClass.{at_class}
 use Rattle.port_queue.specs.Queue.{Queue}
