@@ -1,4 +1,4 @@
--- PCIe 4.0, 2.6.1, Table 2-43: the six kinds of credits are header and data credits of each class.
+-- The six kinds of credits (PCIe 4.0, 2.6.1): header and data credits of each class.
 use Rattle.std.specs.Prelude.{ℕ}
 pub use Rattle.fab_types.specs.declared.class.Class.{Class}
 pub use Rattle.fab_types.specs.declared.cost.Cost.{Cost}

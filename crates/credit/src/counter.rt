@@ -5,7 +5,7 @@ ghost use Rattle.credit.specs.Counter.{distance};
 
 use std::marker::Model;
 
-/// A count of credits modulo `SIZE` (PCIe 4.0, 2.6.1.2). A contract sees the remainder.
+/// A count of credits modulo `SIZE` (PCIe 4.0, 2.6.1). A contract sees the remainder.
 #[derive(Clone, Copy, Debug, PartialEq, Eq)]
 pub struct Counter<const SIZE: u16> {
     value: u16,
@@ -24,6 +24,7 @@ impl<const SIZE: u16> Model for Counter<SIZE> {
 }
 
 impl<const SIZE: u16> Counter<SIZE> {
+    /// The counter with this remainder, which is below `SIZE`.
     pub fn new(value: u16) -> Self
         requires { value < SIZE }
         ensures { result ≡ value }

@@ -15,6 +15,7 @@ pub type DataCounter = Counter<4096>;
 /// The two counters of a class.
 #[derive(Clone, Copy, Debug, PartialEq, Eq)]
 pub struct Credits {
+    /// Header credits, one for each packet.
     pub headers: HeaderCounter,
     /// Data credits, of 4 DW each.
     pub payload: DataCounter,
@@ -65,8 +66,11 @@ impl Credits {
 /// A counter of each of the six kinds: PH and PD, NPH and NPD, CPLH and CPLD.
 #[derive(Clone, Copy, Debug, PartialEq, Eq)]
 pub struct Counters {
+    /// PH and PD: for posted requests.
     pub posted: Credits,
+    /// NPH and NPD: for non-posted requests.
     pub non_posted: Credits,
+    /// CPLH and CPLD: for completions.
     pub completion: Credits,
 }
 

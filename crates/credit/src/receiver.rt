@@ -54,7 +54,8 @@ impl Receiver {
         self.credits_allocated = self.credits_allocated.plus(cost);
     }
 
-    /// Takes the credits of a packet back that were freed, and that no sender was told of.
+    /// Takes the credits of a packet back that were freed.
+    /// No sender was told of them.
     pub fn reclaim(&mut self, cost: Cost)
         ensures exact { self.new ≡ record self.old { credits_allocated = uncounted self.old.credits_allocated cost } }
         ensures totals { (limit : Kind → ℕ) → Count (with_cost limit cost) self.old.credits_allocated → Count limit self.new.credits_allocated }

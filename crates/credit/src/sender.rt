@@ -35,8 +35,9 @@ impl Model for Sender {
 }
 
 impl Sender {
-    /// A sender that sent nothing yet, and knows the limits that its receiver advertises at the start:
-    /// headers at most 127, data at most 2,047.
+    /// A sender that sent nothing yet.
+    /// It knows the limits that its receiver advertises at the start, in credits: headers at most 127, data at
+    /// most 2,047.
     pub fn new(limits: Limits) -> Sender
         requires { MayStart limits }
         ensures exact { result ≡ record { credits_consumed = zero_counters; credit_limit = limits; start = limits } }

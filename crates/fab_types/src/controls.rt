@@ -3,7 +3,8 @@ ghost use Rattle.std.specs.Option.{SomeIff};
 
 use bitflags::{Flag, Flags, bitflag_items};
 
-/// The ACS controls of a downstream port, as the low bits of its control register (PCIe 4.0, 7.7.8.3).
+/// The ACS controls of a downstream port (PCIe 4.0, 7.7.8.3).
+/// They are the low bits of its control register.
 #[derive(Clone, Copy, Debug, PartialEq, Eq, Hash)]
 pub struct AcsControl(u8);
 

@@ -4,6 +4,7 @@ use crate::class::Class;
 /// data credits of that class, one for each 4 DW of payload begun.
 #[derive(Clone, Copy, Debug, PartialEq, Eq)]
 pub struct Cost {
+    /// The class whose credits it costs.
     pub class: Class,
     /// Data credits, at most 16.
     pub data: u16,

@@ -7,9 +7,13 @@ use crate::origin::Origin;
 /// The AT field of a memory request (PCIe 4.0, 10.2.1).
 #[derive(Clone, Copy, Debug, PartialEq, Eq)]
 pub enum AddressType {
+    /// 00b: the address is untranslated.
     Untranslated,
+    /// 01b: a translation of the address is asked for.
     TranslationRequest,
+    /// 10b: the address is translated.
     Translated,
+    /// 11b: a reserved value.
     Reserved,
 }
 
@@ -18,6 +22,7 @@ pub enum AddressType {
 pub enum Answerer {
     /// The first port above the requester, of a request that it stops.
     Port,
+    /// The host, of a request that it took.
     Host,
     /// The function that the request was for.
     Function(Bdf),
@@ -59,7 +64,10 @@ pub enum Header {
 /// What moves between ports in place of a packet's bytes.
 #[derive(Clone, Copy, Debug, PartialEq, Eq)]
 pub struct Head {
+    /// Who made the packet, and for whom.
     pub parties: Parties,
+    /// What it costs in flow control credits.
     pub cost: Cost,
+    /// The header fields by which ports route and test it.
     pub header: Header,
 }

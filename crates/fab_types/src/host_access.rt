@@ -1,4 +1,4 @@
-//! What a domain's host asks of a function's register page (PCIe 4.0, 2.2.5).
+//! What a domain's host asks of a function's register page (PCIe 4.0, 2.2.7).
 
 ghost use Rattle.std.specs.Prelude.{◌≡◌, IfOk};
 
@@ -19,9 +19,11 @@ pub enum Operation {
 /// A read or write of a function's register page by the domain's host.
 #[derive(Debug, Drop)]
 pub struct HostAccess {
+    /// The function whose page it is.
     pub function: Bdf,
     /// Where in the page it begins, in bytes.
     pub offset: u16,
+    /// Whether it reads or writes, and what.
     pub operation: Operation,
 }
 

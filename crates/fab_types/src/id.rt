@@ -50,20 +50,21 @@ impl Bdf {
         bits
     }
 
+    /// The bus number, 0 to 255.
     pub fn bus(self) -> u8
         ensures { result ≡ bus_of self }
     {
         (self.0 / 256) as u8
     }
 
-    /// Below 32.
+    /// The device number, below 32.
     pub fn device(self) -> u8
         ensures { result ≡ device_of self }
     {
         (self.0 / 8 % 32) as u8
     }
 
-    /// Below 8.
+    /// The function number, below 8.
     pub fn function(self) -> u8
         ensures { result ≡ function_of self }
     {
@@ -94,12 +95,14 @@ impl Model for PortId {
 }
 
 impl PortId {
+    /// The port of this ID.
     pub fn new(id: Bdf) -> PortId
         ensures { result ≡ id }
     {
         PortId(id)
     }
 
+    /// The ID of the port.
     pub fn id(self) -> Bdf
         ensures { result ≡ self }
     {

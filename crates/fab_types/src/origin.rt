@@ -8,7 +8,9 @@ use crate::id::{Bdf, DomainId};
 /// Where a domain's packets come from: one of its functions, or its host.
 #[derive(Clone, Copy, Debug, PartialEq, Eq, PartialOrd, Ord, Hash)]
 pub enum Origin {
+    /// The function of this ID.
     Function(Bdf),
+    /// The host of this domain.
     Host(DomainId),
 }
 

@@ -31,12 +31,14 @@ impl PacketBytes {
         Ok(PacketBytes { items })
     }
 
+    /// These bytes, without a copy of them.
     pub fn from_vec(items: Vec<u8>) -> PacketBytes
         ensures { result ≡ items.items }
     {
         PacketBytes { items }
     }
 
+    /// The bytes as a list, without a copy of them.
     pub fn into_vec(self) -> Vec<u8>
         ensures { result.items ≡ self }
     {
@@ -44,6 +46,7 @@ impl PacketBytes {
         items
     }
 
+    /// Lends the bytes.
     pub fn as_slice(&self) -> &[u8]
         ensures { result.now ≡ self.now }
     {

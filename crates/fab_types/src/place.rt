@@ -6,14 +6,18 @@ use crate::origin::Origin;
 /// Which way packets go on a link: toward the host, or away from it.
 #[derive(Clone, Copy, Debug, PartialEq, Eq, PartialOrd, Ord, Hash)]
 pub enum Way {
+    /// Toward the host.
     Up,
+    /// Away from the host.
     Down,
 }
 
 /// A direction of a link. The link is named by the ID at its lower end, a function or an upstream port.
 #[derive(Clone, Copy, Debug, PartialEq, Eq, PartialOrd, Ord, Hash)]
 pub struct Direction {
+    /// The ID at the link's lower end: a function or an upstream port.
     pub lower: Bdf,
+    /// Which way its packets go.
     pub way: Way,
 }
 

@@ -7,5 +7,6 @@ pub struct TlpEntry {
     pub domain: DomainId,
     /// The packet's number in that domain.
     pub number: u64,
+    /// The packet's bytes, as its domain made them.
     pub bytes: PacketBytes,
 }

@@ -7,7 +7,7 @@ use thiserror::Error;
 /// Why a domain did not take a frame. The frame is given back.
 #[derive(Debug, Drop, Error)]
 pub enum FrameFault {
-    /// The packet is not in flight in this domain, or what is asked does not fit it.
+    /// The domain doesn't have the packet in flight, or the call doesn't fit it.
     #[error("the packet is not in flight in this domain, or what is asked does not fit it")]
     Stray(Frame),
     /// Memory was refused.

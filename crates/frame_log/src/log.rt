@@ -83,7 +83,8 @@ impl Log {
         }
     }
 
-    /// Lends the entry that the token names, for as long as the log is lent, whatever becomes of the token.
+    /// Lends the entry that the token names.
+    /// It is lent for as long as the log is, whatever becomes of the token.
     pub fn lend<'a>(&'a self, token: &Token) -> &'a TlpEntry
         requires { Shown self.now token.now }
         ensures { result.now ≡ entry_of token.now }

@@ -14,8 +14,9 @@ use port_queue::{LeavingClasses, PortQueue};
 use std::alloc::Global;
 use std::marker::Model;
 
-/// A queue of at most `CAP` packets of each class, each of which waits under its own class: the egress
-/// queue at the sender of a link, or the ingress queue at its receiver. A contract sees a `Waiting`.
+/// A queue of at most `CAP` packets of each class.
+/// Each packet waits under its own class. It is the egress queue at the sender of a link, or the ingress queue
+/// at its receiver. A contract sees a `Waiting`.
 #[derive(Drop)]
 pub struct FrameQueue<const CAP: usize> {
     queue: PortQueue<Frame, CAP>,
@@ -107,7 +108,8 @@ impl<const CAP: usize> FrameQueue<CAP> {
         self.queue.leaving()
     }
 
-    /// The domain that made the eligible packet of a class (PCIe 4.0, 2.4.1), if one is eligible.
+    /// The domain that made the eligible packet of a class (PCIe 4.0, 2.4.1).
+    /// There is none where no packet of the class is eligible.
     pub fn home(&self, class: Class) -> Option<DomainId>
         ensures { result ≡ option_map (λ taken. taken.0.domain) (eligible class (frames_of self.now.queue.waiting)) }
     {

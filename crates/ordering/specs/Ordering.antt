@@ -1,4 +1,5 @@
--- PCIe 4.0, 2.4.1, Table 2-39: which packets may pass which, and what of a queue may leave it.
+-- Which packets may pass which (PCIe 4.0, 2.4.1), and what of a queue may leave it. Relaxed Ordering and ID-Based Ordering
+-- let no packet pass here, which the standard leaves open.
 use Rattle.std.specs.Prelude.{◌≡◌, ◌↔◌, Bool, true, false, List, [], ◌∷◌, ◌++◌, All, Option, Some, None, is_some}
 pub use Rattle.fab_types.specs.declared.class.Class.{Class}
 

@@ -5,10 +5,11 @@ ghost use Rattle.ordering.specs.Ordering.{passes};
 
 use fab_types::Class;
 
-/// May a packet of the class `later` pass one of the class `earlier` that came before it?
+/// May a later packet pass one that came before it (PCIe 4.0, 2.4.1)?
+/// It is of the class `later`, the other of the class `earlier`.
 ///
-/// Of the entries that the standard leaves open, a posted or non-posted request may pass a completion
-/// here, and nothing passes its own class. Relaxed Ordering and ID-Based Ordering change nothing.
+/// Of the entries that the standard leaves open, a posted or non-posted request may pass a completion here, and
+/// nothing passes its own class. Relaxed Ordering and ID-Based Ordering change nothing.
 pub fn may_pass(later: Class, earlier: Class) -> bool
     ensures { result ≡ passes later earlier }
 {

@@ -13,8 +13,9 @@ pub(crate) struct Noted {
     place: usize,
 }
 
-/// For each function and each host the place that was noted for it last, which is found by one look. Functions stand by
-/// their bus: of two functions on one bus the index has the one that was noted last.
+/// For each function and each host the place that was noted for it.
+/// It is the last one that was noted, and is found by one look. Functions stand by their bus: of two functions
+/// on one bus the index has the one that was noted last.
 #[derive(Drop)]
 pub struct OriginIndex {
     by_bus: [Option<Noted>; 256],

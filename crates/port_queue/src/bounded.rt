@@ -20,7 +20,8 @@ use fab_types::{Class, NoMemory};
 use std::alloc::Global;
 use std::marker::Model;
 
-/// A queue of at most `CAP` items of each class, for which it reserves room when it is made, so that no put takes memory.
+/// A queue of at most `CAP` items of each class.
+/// It reserves room for them when it is made, so that no put takes memory.
 #[derive(Drop)]
 pub struct PortQueue<T, const CAP: usize> {
     queues: PerClass<Ring<Entry<T>, CAP>>,

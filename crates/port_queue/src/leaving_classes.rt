@@ -8,8 +8,11 @@ use fab_types::Class;
 /// Of which classes an item may leave.
 #[derive(Clone, Copy, Debug, PartialEq, Eq)]
 pub struct LeavingClasses {
+    /// May a posted item leave?
     pub posted: bool,
+    /// May a non-posted item leave?
     pub non_posted: bool,
+    /// May a completion leave?
     pub completion: bool,
 }
 

@@ -13,12 +13,16 @@ use fab_types::Class;
 /// A queue of each class.
 #[derive(Drop)]
 pub struct PerClass<Q> {
+    /// That of posted items.
     pub posted: Q,
+    /// That of non-posted items.
     pub non_posted: Q,
+    /// That of completions.
     pub completion: Q,
 }
 
 impl<Q> PerClass<Q> {
+    /// The queue of a class.
     pub fn get(&self, class: Class) -> &Q
         ensures { result.now ≡ at_class self.now class }
     {
@@ -29,6 +33,7 @@ impl<Q> PerClass<Q> {
         }
     }
 
+    /// Lends the queue of a class to be changed. The other two stay.
     pub fn get_mut(&mut self, class: Class) -> &mut Q
         ensures* lends { sem 𝓛 (LendsClass Q.row self.entry class result) }
         ensures value { result.now ≡ at_class self.old class }

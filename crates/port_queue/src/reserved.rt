@@ -25,8 +25,8 @@ use std::marker::Model;
 /// No memory holds more entries of a class than this.
 const MOST: usize = 1 << 62;
 
-/// A queue that takes a counted number of items of each class in all, for which it reserves room when it
-/// is made, so that no put takes memory.
+/// A queue that takes a counted number of items of each class in all.
+/// It reserves room for them when it is made, so that no put takes memory.
 #[derive(Drop)]
 pub struct Outbox<T> {
     queues: PerClass<VecDeque<Entry<T>>>,

@@ -31,6 +31,7 @@ impl<T, const CAP: usize> Model for Ring<T, CAP> {
 }
 
 impl<T, const CAP: usize> Ring<T, CAP> {
+    /// An empty queue with room for `CAP` items. It answers `NoMemory` where memory was refused.
     pub fn new(alloc: Global) -> Result<Self, NoMemory>
         ensures { IfOk result (λ ring. ring ≡ []) }
     {
@@ -40,6 +41,7 @@ impl<T, const CAP: usize> Ring<T, CAP> {
         })
     }
 
+    /// How many items wait.
     pub fn len(&self) -> usize
         ensures { result ≡ length self.now }
     {
@@ -67,6 +69,7 @@ impl<T, const CAP: usize> Ring<T, CAP> {
         Ok(self.items.iter().collect(alloc)?)
     }
 
+    /// Puts an item behind the others, of which there are fewer than `CAP`.
     pub fn push_back(&mut self, item: T)
         requires { length self.old < CAP }
         ensures { self.new ≡ self.old ++ item ∷ [] }

@@ -8,7 +8,9 @@ ghost use Rattle.text.specs.Text.{at_blank, cut, is_byte, is_comment};
 /// The two parts of a text that was cut.
 #[derive(Clone, Copy, Debug)]
 pub struct Parts<'a> {
+    /// What stands before the byte of the cut.
     pub before: &'a [u8],
+    /// What stands after the byte of the cut.
     pub after: &'a [u8],
 }
 

@@ -62,7 +62,8 @@ atomic_completion completer t bytes = record {
   payload = bytes;
 }
 
--- a completion with no data
+-- A completion with no data. It is a Cpl for a locked read (MRdLk) too, where the standard has CplLk (PCIe 4.0, 2.2.1);
+-- that is this project's own choice
 abbrev pub refusal : ℕ → Status → Packet → Packet
 refusal completer status t = record {
   kind = Cpl;

@@ -18,14 +18,17 @@ use std::marker::Model;
 pub struct CompletionHead {
     /// Completer ID: who answers.
     pub completer: Bdf,
+    /// Completion Status.
     pub status: Status,
     /// Byte Count, 12 bits.
     pub byte_count: u16,
     /// Requester ID: to whom the completion goes.
     pub requester: Bdf,
+    /// The Tag of the request.
     pub tag: u8,
     /// Lower Address, 7 bits.
     pub lower_address: u8,
+    /// The Attr field.
     pub attributes: Attributes,
 }
 
@@ -60,7 +63,8 @@ impl CompletionHead {
         }
     }
 
-    /// Of the successful completion of this FetchAdd, with the bytes that stood there, 4 or 8: as many as it carries.
+    /// Of the successful completion of this FetchAdd.
+    /// It has the bytes that stood there, 4 or 8: as many as the request carries.
     #[tactic(auto, using(crate::proofs::Operands::operand_size))]
     pub fn of_atomic(completer: Bdf, request: &TlpView) -> CompletionHead
         requires { is_fetch_add (request.now).kind ≡ true }
@@ -79,8 +83,9 @@ impl CompletionHead {
         }
     }
 
-    /// Of a completion of this request that has no data. Byte Count and Lower Address are this project's
-    /// own choice.
+    /// Of a completion of this request that has no data.
+    /// Byte Count and Lower Address are this project's own choice, and so is that a locked read (`MRdLk`) gets a
+    /// `Cpl`, where the standard has `CplLk` (PCIe 4.0, 2.2.1).
     pub fn of_refusal(completer: Bdf, status: Status, request: &TlpView) -> CompletionHead
         ensures value { completion_of result [] ≡ refusal completer status request.now }
         ensures fits { HeadFits result }
@@ -157,8 +162,8 @@ fn lower_address(enables: Enables, address: u64) -> u8
     (address / 4 * 4 % 128) as u8 + first_place(enables.first)
 }
 
-/// A completion that is being made, at most 64 DW of payload long, without memory of its own. A contract
-/// sees the packet.
+/// A completion that is being made, without memory of its own.
+/// It has at most 64 DW of payload. A contract sees the packet.
 #[derive(Drop)]
 pub struct CplBuf {
     cells: Cells,

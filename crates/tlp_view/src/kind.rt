@@ -2,7 +2,7 @@
 
 use fab_types::Class;
 
-/// The kinds of packets (PCIe 4.0, 2.2.1, Table 2-3).
+/// The kinds of packets (PCIe 4.0, 2.2.1).
 #[derive(Clone, Copy, Debug, PartialEq, Eq, Hash)]
 pub enum Kind {
     /// Memory Read Request.
@@ -117,6 +117,7 @@ impl Kind {
         }
     }
 
+    /// Is it a completion, with or without data, locked or not?
     pub fn is_completion(self) -> bool
         ensures { result ≡ is_completion self }
     {
@@ -137,7 +138,7 @@ impl Kind {
         }
     }
 
-    /// The kind of a pair of Fmt and Type, if there is one (PCIe 4.0, 2.2.1, Table 2-3).
+    /// The kind of a pair of Fmt and Type, if there is one (PCIe 4.0, 2.2.1).
     #[tactic(auto, unfolding(crate::specs::Kinds::kind_at))]
     pub(crate) fn of(fmt: u8, code: u8) -> Option<Kind>
         ensures { result ≡ kind_at fmt code }

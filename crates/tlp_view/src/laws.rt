@@ -22,7 +22,8 @@ pub fn well_formed_spelled()
     ensures { (bytes : List ℕ) → ((i : ℕ) → slice_index bytes i < 256) → malformed bytes ≡ None → Spells bytes (packet_of bytes) }
 {}
 
-/// Well-formed packets are as long as their Length says, and their requests stay within 4,096 bytes.
+/// Well-formed packets are as long as their Length says.
+/// Their requests stay within 4,096 bytes.
 pub fn well_formed_sound()
     ensures { (bytes : List ℕ) → malformed bytes ≡ None → IsSound (packet_of bytes) }
 {}
@@ -32,14 +33,15 @@ pub fn runs_within()
     ensures { (t : Packet) → All (λ run. run.0 + length run.1 ≤ length t.payload) (runs t) }
 {}
 
-/// The bytes of a completion of at most 64 DW spell it, and so are read back as what they were made from.
+/// The bytes of a completion spell it.
+/// Its payload has at most 64 DW. So the bytes are read back as what they were made from.
 pub fn completion_spelled()
     ensures { (head : CompletionHead) (payload : List ℕ) → HeadFits head → head.completer < 2 ^ 16 → head.requester < 2 ^ 16 → head.tag < 2 ^ 8
         → length payload ≤ 256 → length payload % 4 ≡ 0 → Spells (completion_bytes (completion_of head payload)) (completion_of head payload) }
 {}
 
-/// The bytes of a memory read that was made spell it, and so are read back as what they were made
-/// from.
+/// The bytes of a memory read that was made spell it.
+/// So they are read back as what they were made from.
 pub fn read_request_spelled()
     ensures { (head : RequestHead) (count : ℕ) → RequestFits head count → head.requester < 2 ^ 16 → head.tag < 2 ^ 8 → head.address < 2 ^ 64
         → Spells (packet_bytes (read_request head count)) (read_request head count) }

@@ -36,6 +36,7 @@ impl<'a> ReadPacket<'a> {
         ReadPacket { bytes, view }
     }
 
+    /// The bytes that were read.
     pub fn bytes(&self) -> &'a [u8]
         ensures { result.now ≡ self.now }
     {

@@ -19,16 +19,20 @@ use std::marker::Model;
 pub struct RequestHead {
     /// Requester ID: who asks.
     pub requester: Bdf,
+    /// The Tag.
     pub tag: u8,
+    /// First and Last DW Byte Enables.
     pub enables: Enables,
     /// In bytes, a multiple of 4. From 4 GB on the header has 4 DW.
     pub address: u64,
+    /// The AT field.
     pub address_type: AddressType,
+    /// The Attr field.
     pub attributes: Attributes,
 }
 
-/// A memory request that was made, at most 272 bytes long, without memory of its own. A contract
-/// sees the packet.
+/// A memory request that was made, without memory of its own.
+/// It is at most 272 bytes long. A contract sees the packet.
 #[derive(Drop)]
 pub struct RequestBuf {
     cells: [u8; 272],

@@ -8,8 +8,8 @@ use crate::bits::is_set;
 use crate::enables::Enables;
 use std::marker::Model;
 
-/// The runs of enabled bytes that are left, as an iterator over each one's offset from the address
-/// and its part of the payload. A contract sees them as a list.
+/// The runs of enabled bytes that are left, as an iterator.
+/// Each item is a run's offset from the address, and its part of the payload. A contract sees them as a list.
 #[derive(Debug, Drop)]
 pub struct Runs<'a> {
     payload: &'a [u8],

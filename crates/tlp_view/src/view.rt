@@ -77,6 +77,7 @@ impl<'a> TlpView<'a> {
         }
     }
 
+    /// The packet's kind (PCIe 4.0, 2.2.1).
     pub fn kind(&self) -> Kind
         ensures sound { IsSound self.now }
         ensures value { result ≡ self.now.kind }
@@ -102,6 +103,7 @@ impl<'a> TlpView<'a> {
         })
     }
 
+    /// The Tag (PCIe 4.0, 2.2.6.2).
     pub fn tag(&self) -> u8
         ensures { result ≡ self.now.tag }
     {
@@ -135,6 +137,7 @@ impl<'a> TlpView<'a> {
         }
     }
 
+    /// The Attr field (PCIe 4.0, 2.2.6.3).
     pub fn attr(&self) -> Attributes
         ensures { result ≡ self.now.attributes }
     {

@@ -14,9 +14,9 @@ use frame_log::Frame;
 use std::marker::Model;
 use std::snapshot::Snapshot;
 
-/// A packet that may stand in a lane out of a switch, with the domain that owns its Requester ID. Where all five ACS
-/// controls are set on each downstream port (PCIe 4.0, 6.12), that of a request is the domain that made it. A contract
-/// sees a `Vetted`.
+/// A packet that may stand in a lane out of a switch, with an owner.
+/// The owner is the domain that owns its Requester ID. Where all five ACS controls are set on each downstream
+/// port (PCIe 4.0, 6.12), that of a request is the domain that made it. A contract sees a `Vetted`.
 #[derive(Drop)]
 pub struct VettedFrame {
     frame: Frame,
@@ -58,8 +58,9 @@ fn is_own(owner: &Option<DomainId>, frame: &Frame) -> bool
 }
 
 impl VettedFrame {
-    /// Looks up the domain that owns the Requester ID of the packet, if it is a request and any does. Where all five
-    /// controls are set on each port of the layout, a request of another domain than that owner is given back.
+    /// Looks up the domain that owns the Requester ID of the packet.
+    /// There is one if the packet is a request and any domain does. Where all five controls are set on each
+    /// port of the layout, a request of another domain than that owner is given back.
     pub fn new(frame: Frame, bridge: &Bridge) -> Result<VettedFrame, Frame>
         ensures { MatchResult result
             (λ vetted. (vetted.frame ≡ frame) × (vetted.tree ≡ bridge.now) × (may_go_on bridge.now.ports frame ≡ true))

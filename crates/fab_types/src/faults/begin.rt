@@ -111,7 +111,8 @@ pub enum MmioFault {
     /// The function is not of this domain.
     #[error("the function is not of this domain")]
     NotYours,
-    /// The offset is no multiple of 4, or the access is not of 1 to 64 DW, or passes byte 4,096.
+    /// The access is not 1 to 64 DW of the register page.
+    /// Its offset is no multiple of 4, or it is not of 1 to 64 DW, or it passes byte 4,096.
     #[error("the access is not 1 to 64 DW of the register page")]
     Range,
     /// A read, with all 32 host tags open.
@@ -156,10 +157,13 @@ impl MmioFault {
 /// Why a begin was refused: the fault of the call that it is.
 #[derive(Clone, Copy, Debug, PartialEq, Eq, Error)]
 pub enum BeginFault {
+    /// A submit was refused.
     #[error(transparent)]
     Submit(SubmitFault),
+    /// A tick was refused.
     #[error(transparent)]
     Tick(TickFault),
+    /// An access of the host was refused.
     #[error(transparent)]
     Mmio(MmioFault),
 }

@@ -47,7 +47,8 @@ pub enum LayoutCause {
     /// Memory was refused.
     #[error("out of memory")]
     NoMemory,
-    /// An egress control vector lets requests through to a port that isn't one of the same owner with a function below.
+    /// An egress control vector lets requests through to a foreign port.
+    /// Foreign is each port that isn't one of the same owner with a function below.
     #[error("the vector lets requests through to a foreign port")]
     EgressForeign,
 }
@@ -102,8 +103,9 @@ impl LayoutCause {
 #[derive(Clone, Copy, Debug, PartialEq, Eq, Error)]
 #[error("line {line}: {cause}")]
 pub struct LayoutFault {
+    /// What is wrong with the line.
     pub cause: LayoutCause,
-    /// Counted from 1.
+    /// The number of the line, counted from 1.
     pub line: u32,
 }
 

@@ -14,7 +14,9 @@ pub enum Malformed {
     /// Fmt and Type together name no kind (PCIe 4.0, 2.2.1).
     #[error("format and type name no kind of packet")]
     Kind,
-    /// The bytes are not header and payload, or the payload is too large, or the kind does not allow this Length.
+    /// The length does not fit the packet.
+    /// The bytes are not header and payload, or the payload is too large, or the kind does not allow this
+    /// Length.
     #[error("the length does not fit the packet")]
     Size,
     /// The byte enables break the rules of a memory request (PCIe 4.0, 2.2.5).
@@ -23,7 +25,8 @@ pub enum Malformed {
     /// A memory request crosses a boundary of 4,096 bytes (PCIe 4.0, 2.2.7).
     #[error("the request crosses a 4 KB boundary")]
     Crosses,
-    /// A memory request has a header of 4 DW for an address below 4 GB (PCIe 4.0, 2.2.4.1).
+    /// A 4 DW header has an address below 4 GB (PCIe 4.0, 2.2.4.1).
+    /// The packet is a memory request.
     #[error("a 4 DW header has an address below 4 GB")]
     HighForm,
     /// A field has a value that this profile does not allow.

@@ -42,8 +42,9 @@ impl ScriptCause {
 #[derive(Clone, Copy, Debug, PartialEq, Eq, Error)]
 #[error("line {line}: {cause}")]
 pub struct ScriptFault {
+    /// What is wrong with the line.
     pub cause: ScriptCause,
-    /// Counted from 1.
+    /// The number of the line, counted from 1.
     pub line: u32,
 }
 
