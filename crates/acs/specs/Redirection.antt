@@ -1,4 +1,5 @@
--- What a downstream port makes of the route of a packet that comes up (PCIe 4.0, 6.12.1.1).
+-- What a downstream port makes of the route of a packet that comes up (PCIe 4.0, 6.12.1.1): how redirection and egress
+-- control go together is 6.12.3, why Relaxed Ordering decides for completions 6.12.5.
 use Rattle.std.specs.Prelude.{◌≡◌, ℕ, Bool, true, false, ◌&&◌, ◌||◌, not, Result, Ok, Err, if◌then◌else◌}
 use Rattle.fab_types.specs.Controls.{controls_egress, redirects_requests, redirects_completions, forwards_upstream}
 use Rattle.fab_types.specs.declared.head.Header.{Header}
@@ -47,11 +48,11 @@ is_peer_request port route header = is_to_port route && is_request header && not
 abbrev pub request_goes_up : DownstreamPort → Route → Header → Bool
 request_goes_up port route header = redirects_requests port.controls && is_peer_request port route header
 
--- ACS P2P Egress Control, where such requests aren't redirected
+-- ACS P2P Egress Control, where such requests aren't redirected (PCIe 4.0, 6.12.3)
 abbrev pub is_blocked : DownstreamPort → Route → Header → Bool
 is_blocked port route header = controls_egress port.controls && not (redirects_requests port.controls) && is_peer_request port route header
 
--- ACS P2P Completion Redirect
+-- ACS P2P Completion Redirect; with Relaxed Ordering set a completion isn't redirected (PCIe 4.0, 6.12.5)
 abbrev pub completion_goes_up : DownstreamPort → Route → Header → Bool
 completion_goes_up port route header = redirects_completions port.controls && is_to_port route && is_strict_completion header
 

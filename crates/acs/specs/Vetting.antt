@@ -28,7 +28,7 @@ abbrev pub is_outside : DownstreamPort → Option ℕ → Bool
 is_outside port None = false
 is_outside port (Some requester) = not (holds_bus port (bus_of requester))
 
--- any AT field but that of an untranslated address (10.2.1)
+-- any AT field but that of an untranslated address (PCIe 4.0, 10.2.1)
 abbrev pub is_translated : AddressType → Bool
 is_translated Untranslated = false
 is_translated TranslationRequest = true

@@ -46,11 +46,11 @@ const ACS_CAPABILITY_WITH_EGRESS: u16 = ACS_CAPABILITY
     | ACS_P2P_EGRESS_CONTROL
     | EGRESS_CONTROL_VECTOR_SIZE;
 
-/// The ACS Extended Capability of a downstream port (PCIe 4.0, 7.7.8), the last one of its list. A
-/// contract sees the controls that are set.
+/// The ACS Extended Capability of a downstream port (PCIe 4.0, 7.7.8).
+/// It is the last one of the port's list. A contract sees the controls that are set.
 ///
-/// Direct Translated P2P is left out: the capability register is 1Fh, where that of a real downstream
-/// port, which has it, is 5Fh.
+/// Direct Translated P2P is left out: the capability register is 1Fh, where that of a real downstream port,
+/// which has it, is 5Fh.
 #[derive(Clone, Copy, Debug, PartialEq, Eq)]
 pub struct AcsBlock {
     control: AcsControl,

@@ -37,7 +37,8 @@ fn is_request(header: &Header) -> bool
     requester_of(header).is_some()
 }
 
-/// Is it of a completion that may not pass other packets, Relaxed Ordering being clear?
+/// Is it of a completion with Relaxed Ordering clear? One that has it set isn't redirected (PCIe 4.0, 6.12.5). In a queue it
+/// lets no packet pass another.
 fn is_strict_completion(header: &Header) -> bool
     ensures { result ≡ is_strict_completion header.now }
 {
@@ -105,16 +106,19 @@ fn goes_up(port: &DownstreamPort, route: &Route, header: &Header) -> bool
         || own_goes_up(port, route)
 }
 
-/// Where a packet goes that came up to a downstream port and has this route (PCIe 4.0, 6.12.1.1), by
-/// the controls that are set there. P2P Request Redirect sends a request up that is for another port
-/// of the switch, unless P2P Egress Control is set and the vector's bit for that port is 0; P2P
-/// Completion Redirect such a completion with Relaxed Ordering clear; and Upstream Forwarding every
-/// packet that is for the port's own egress.
+/// Where a packet goes that came up to a downstream port (PCIe 4.0, 6.12.1.1).
+/// It goes by this route, unless a control that is set there sends it up:
+///
+/// - P2P Request Redirect: a request for another port of the switch, unless P2P Egress Control is set and the
+///   vector's bit for that port is 0 (PCIe 4.0, 6.12.3).
+/// - P2P Completion Redirect: a completion for another port of the switch with Relaxed Ordering clear (PCIe
+///   4.0, 6.12.5).
+/// - Upstream Forwarding: every packet that is for the port's own egress.
 ///
 /// # Errors
 ///
-/// A violation of P2P Egress Control: a request for another port of the switch for which the vector's
-/// bit is 1, where requests aren't redirected.
+/// A violation of P2P Egress Control: a request for another port of the switch for which the vector's bit is 1,
+/// where requests aren't redirected.
 pub fn redirect(port: &DownstreamPort, route: Route, header: &Header) -> Result<Route, Verdict>
     ensures { result ≡ redirected port.now route header.now }
 {

@@ -70,10 +70,11 @@ fn fails_translation(port: &DownstreamPort, header: &Header) -> bool
     port.controls.blocks_translated() && claims_translation(header)
 }
 
-/// Tests a packet that comes up to a downstream port (PCIe 4.0, 6.12.1.1), by the controls that are
-/// set there: first Source Validation, of each request, then Translation Blocking, of memory reads
-/// and writes and FetchAdds alone, which is this project's own. Completions pass. Malformed packets pass too: they
-/// are discarded before this test.
+/// Tests a packet that comes up to a downstream port (PCIe 4.0, 6.12.1.1).
+/// The controls that are set there say which tests are made. Source Validation is the first, of each request.
+/// Translation Blocking is the second, of memory reads and writes and FetchAdds alone; that is this project's
+/// own, as the standard tests every memory request. Completions pass. Malformed packets pass too: they are
+/// discarded before this test.
 pub fn vet(port: &DownstreamPort, header: &Header) -> Verdict
     ensures { result ≡ verdict_of port.now header.now }
 {

@@ -113,8 +113,9 @@ impl Bridge {
         self.switches.at(switch).map(|switch| switch.bus_table())
     }
 
-    /// Where a packet with this header goes that came into a switch at `ingress`, a downstream port or
-    /// the upstream port of the switch. A port that the layout hasn't sends it to nobody.
+    /// Where a packet with this header goes that came into a switch.
+    /// It came in at `ingress`, a downstream port or the upstream port of the switch. A port that the layout
+    /// hasn't sends it to nobody.
     pub fn route(&self, ingress: PortId, header: &Header) -> Route
         ensures exact { result ≡ route_of self.now.switches self.now.ports ingress header.now }
 
@@ -136,8 +137,9 @@ impl Bridge {
         self.ports.owner(id)
     }
 
-    /// Does a request of this sender for this address go directly to this function, since a port above the sender lets it
-    /// through to another port of its switch, by ACS P2P Egress Control (PCIe 4.0, 6.12.1.1)?
+    /// Does a request of this sender for this address go directly to this function?
+    /// It does where a port above the sender lets it through to another port of its switch, by ACS P2P Egress
+    /// Control (PCIe 4.0, 6.12.1.1).
     pub fn goes_directly(&self, sender: Bdf, address: u64, function: Bdf) -> bool
         ensures { result ≡ goes_directly self.now.ports sender address function }
     {

@@ -118,8 +118,8 @@ impl Function {
         }
     }
 
-    /// A memory write to the page, or a read of at most 64 DW of it, which is answered. The address
-    /// counts modulo 4,096.
+    /// A memory write to the page, or a read of it, which is answered.
+    /// A read is of at most 64 DW. The address counts modulo 4,096.
     pub fn access(&mut self, request: &TlpView) -> Option<CplBuf>
         requires { IsAccess request.now }
         ensures page { self.new ≡ (self.old.0, accessed self.old.1 request.now) }

@@ -19,8 +19,8 @@ pub fn fixed_bytes_stay()
         slice_index (closed_by page usage status payload) i ≡ slice_index page i }
 {}
 
-/// A read line takes the lowest Tag of 0 to 7 that the function doesn't have open, and waits only
-/// where all are open.
+/// A read line takes the lowest free Tag of 0 to 7.
+/// Free is each that the function doesn't have open. The line waits only where all are open.
 pub fn lowest_free_tag_is_taken()
     ensures { (tags : List OpenTag) (function : ℕ) → IsLowest tags function (free_tag tags function) }
 {}

@@ -10,16 +10,19 @@ use fab_types::{Bdf, Origin, same_origin};
 pub enum TagUse {
     /// A submitted packet.
     Raw,
-    /// A read line of a DMA program, whose data go to this offset of the buffer (bytes), with this
-    /// count (DW).
+    /// A read line of a DMA program.
+    /// Its data go to this offset of the buffer (bytes), with this count (DW).
     Line(u16, u8),
 }
 
 /// A Tag that a function or a domain's host has open: a completion is awaited (PCIe 4.0, 2.2.6.2).
 #[derive(Clone, Copy, Debug, PartialEq, Eq)]
 pub struct OpenTag {
+    /// The function or host that has it open.
     pub owner: Origin,
+    /// The Tag.
     pub tag: u8,
+    /// What it was opened for.
     pub usage: TagUse,
 }
 

@@ -82,7 +82,8 @@ impl HostMemory {
         }
     }
 
-    /// The bytes of this range in this frame, if the frame is of the domain and has the range.
+    /// The bytes of this range in this frame.
+    /// There are none where the frame isn't of the domain, or hasn't the range.
     pub fn part(&self, frame: u16, range: Range<usize>) -> Option<&[u8]>
         ensures part { option_copied result ≡ part_of self.now frame range.start range.end }
         ensures size { IfSome result (λ part. length part.now + range.start ≡ range.end) }
@@ -91,8 +92,9 @@ impl HostMemory {
         page.get(range)
     }
 
-    /// Lends the bytes of this range in this frame to be written, if the frame is of the domain and has
-    /// the range. No clause says what the memory then is: who has to know calls `known_part_mut`.
+    /// Lends the bytes of this range in this frame to be written.
+    /// There are none where the frame isn't of the domain, or hasn't the range. No clause says what the memory
+    /// then is: who has to know calls `known_part_mut`.
     pub fn part_mut(&mut self, frame: u16, range: Range<usize>) -> Option<&mut [u8]>
         ensures part { option_copied_mut result ≡ part_of self.old frame range.start range.end }
         ensures size { IfSome result (λ part. length part.now + range.start ≡ range.end) }
@@ -104,8 +106,8 @@ impl HostMemory {
         }
     }
 
-    /// Lends the bytes of this range in this frame to be written, where `part` gives them to be read.
-    /// All other bytes stay.
+    /// Lends the bytes of this range in this frame to be written.
+    /// It may be called where `part` gives them to be read. All other bytes stay.
     pub fn known_part_mut(&mut self, frame: u16, range: Range<usize>) -> &mut [u8]
         requires { IsSome (part_of self.old frame range.start range.end) }
         ensures* writes_back { sem 𝓛 (LendsPart self.entry frame range.start result) }
@@ -116,8 +118,9 @@ impl HostMemory {
         self.pages[at].part_mut(range.start, range.end)
     }
 
-    /// Adds an operand of 4 or 8 bytes, the lowest first, to the bytes from `offset` on, if the frame is of the domain.
-    /// What goes over is lost.
+    /// Adds an operand of 4 or 8 bytes to the bytes from `offset` on.
+    /// The lowest byte comes first, and what goes over is lost. Where the frame isn't of the domain nothing
+    /// changes.
     pub fn fetch_add(&mut self, frame: u16, offset: usize, operand: &[u8])
         requires size { is_operand (length operand.now) ≡ true }
         requires within { offset + length operand.now ≤ 4096 }

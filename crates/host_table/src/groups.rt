@@ -14,8 +14,8 @@ use std::marker::Model;
 /// How many pages a group has: 2 MB of a requester's addresses.
 const GROUP_PAGES: u64 = 512;
 
-/// The map lines of one requester whose pages lie in one group of 512, by rising page. A contract sees
-/// the group's number and its lines.
+/// The map lines of one requester whose pages lie in one group.
+/// A group has 512 pages. The lines stand by rising page. A contract sees the group's number and its lines.
 #[derive(Debug, Drop)]
 pub struct Group {
     number: u64,

@@ -7,8 +7,8 @@ ghost use Rattle.layout.specs.Tables.{target_of, fits};
 
 use crate::table::HostTable;
 
-/// The target of an access is that of the one line of the table that fits, wherever it stands. This is
-/// proved, and does nothing.
+/// The target of an access is that of the one line that fits.
+/// That holds wherever in the table the line stands. This is proved, and does nothing.
 pub fn lookup_is_membership(table: &HostTable)
     ensures { (requester page : ℕ) (access : Access) (target : MapTarget)
         → (target_of table.now requester page access ≡ Some target)

@@ -18,8 +18,9 @@ fn has_bit(vector: Option<u32>, device: u8) -> bool
 }
 
 impl DownstreamPort {
-    /// May a request from below this port go directly to the other port of its switch that has this ID? That is so where
-    /// ACS P2P Egress Control is set and the vector's bit for that port is 0 (PCIe 4.0, 6.12.1.1).
+    /// May a request from below this port go directly to the other port?
+    /// That is the port of its switch that has this ID. It may where ACS P2P Egress Control is set and the
+    /// vector's bit for that port is 0 (PCIe 4.0, 6.12.1.1).
     pub fn lets_through(&self, other: PortId) -> bool
         ensures { result ≡ lets_through self.now other }
     {
@@ -73,8 +74,9 @@ fn direct_above(
     }
 }
 
-/// The function to which a request of this function for this address goes directly, if a port above it lets it through to
-/// another port of its switch: the function below that.
+/// The function to which a request of this function goes directly, if any.
+/// A port above the sender lets the request for this address through to another port of its switch; the answer
+/// is the function below that.
 pub fn direct_to(ports: &[DownstreamPort], function: Bdf, address: u64) -> Option<Bdf>
     ensures { result ≡ direct_to ports.now function address }
 {

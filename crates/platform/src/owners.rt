@@ -34,12 +34,14 @@ fn owner_of_bus(ports: &[DownstreamPort], bus: u8) -> Option<DomainId>
         .map(|port| port.owner)
 }
 
+/// The first of these ports with this secondary bus number.
 pub fn port_with_secondary(ports: &[DownstreamPort], bus: u8) -> Option<&DownstreamPort>
     ensures { option_copied result ≡ find (λ port. port.secondary == bus) ports.now }
 {
     ports.iter().find(|port| port.secondary == bus)
 }
 
+/// Is one of these functions the one of this ID?
 pub fn is_function(functions: &[EndpointFunction], id: Bdf) -> bool
     ensures { result ≡ is_function functions.now id }
 {

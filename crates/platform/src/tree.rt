@@ -64,7 +64,8 @@ pub fn internal_bus(switch: &Switch) -> u16
     u16::from(switch.id.bus()) + 1
 }
 
-/// Is it a port on this bus, and so one of the switch whose internal bus that is?
+/// Is it a port on this bus?
+/// Then it is one of the switch whose internal bus that is.
 pub fn is_on_bus(bus: u16, port: &DownstreamPort) -> bool
     ensures { result ≡ is_on_bus bus port.now }
 {

@@ -1,4 +1,5 @@
--- The completions by which ports and the host answer (PCIe 4.0, 2.3.1).
+-- The completions by which ports and the host answer (PCIe 4.0, 2.2.9 and 2.3.1). That a locked read (MRdLk) is refused by a
+-- Cpl, where the standard has CplLk, is this project's own choice.
 use Rattle.std.specs.Prelude.{◌≡◌, ℕ, ◌+◌, ◌*◌, ◌/◌, ◌%◌, ◌==◌, Bool, false, ◌&&◌, List, Option, Some, None, option_map, unwrap_or, replicate, if◌then◌else◌}
 use Rattle.std.specs.List.{find}
 use Rattle.fab_types.specs.declared.head.Answerer.{Answerer}

@@ -1,5 +1,6 @@
--- What the first port of a function does with what the function sends (PCIe 4.0, 6.12.1). That translation blocking tests
--- no kinds but memory reads and writes and FetchAdds is this project's own.
+-- What the first port of a function does with what the function sends: the ACS tests are those of PCIe 4.0, 6.12.1.1, and a
+-- violation is answered Completer Abort, or discarded (6.12.4). That translation blocking tests no kinds but memory reads and
+-- writes and FetchAdds is this project's own, and so is that a locked read (MRdLk) is answered UR by a Cpl and no CplLk.
 use Rattle.std.specs.Prelude.{ℕ, Bool, true, false, ◌&&◌, ◌||◌, not, List, Option, Some, None, unwrap_or, if◌then◌else◌}
 use Rattle.fab_types.specs.Id.{bus_of}
 use Rattle.fab_types.specs.Controls.{validates_source, blocks_translated, controls_egress, forwards_upstream, redirects_requests}

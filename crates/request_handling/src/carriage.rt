@@ -258,8 +258,8 @@ fn carriage_past(
     }
 }
 
-/// What the host does with these bytes that a function sent, or the function to which they go directly;
-/// `None` where a port stops them, or nothing of the kind is carried.
+/// What the host, or the function to which they go directly, does with these bytes.
+/// A function sent them. `None` where a port stops them, or nothing of the kind is carried.
 pub fn carriage_up(
     start: &Start,
     table: &HostTable,
@@ -296,8 +296,8 @@ pub(crate) fn access_of(
     }
 }
 
-/// What a function does with these bytes of the host; `None` exactly where it isn't one of these
-/// functions.
+/// What a function does with these bytes of the host.
+/// `None` exactly where it isn't one of these functions.
 pub fn carriage_to_function(
     start: &Start,
     functions: &[Function],

@@ -9,7 +9,8 @@ use layout::Start;
 use platform::{DownstreamPort, direct_to, holder_beside};
 use tlp_view::TlpView;
 
-/// What the first port of a function does with what the function sends (PCIe 4.0, 6.12.1).
+/// What the first port of a function does with what that sends.
+/// The ACS tests are those of PCIe 4.0, 6.12.1.1; a violation is answered as in 6.12.4.
 #[derive(Clone, Copy, Debug, PartialEq, Eq)]
 pub enum Fate {
     /// It is discarded.
@@ -18,7 +19,8 @@ pub enum Fate {
     Refused(Status),
     /// It goes on to the host.
     ToHost,
-    /// It goes directly to this function, below another port of a switch that it comes to.
+    /// It goes directly to this function.
+    /// That is below another port of a switch that it comes to.
     Direct(Bdf),
 }
 

@@ -14,8 +14,8 @@ fn position_of(functions: &[Function], id: Bdf) -> Option<usize>
     functions.iter().position(|function| function.id() == id)
 }
 
-/// Where this function stands among these, and its register page; `None` exactly where it isn't one of
-/// them.
+/// Where this function stands among these, and its register page.
+/// `None` exactly where it isn't one of them.
 pub fn place(functions: &[Function], id: Bdf) -> Option<usize>
     ensures place { result ≡ position (λ page. page.0 == id) functions.now }
     ensures id { IfSome result (λ at. (slice_index_or functions.now at (0, [])).0 ≡ id) }

@@ -72,9 +72,9 @@ fn is_returned(start: &Start, answerer: Answerer, view: &TlpView) -> bool
     }
 }
 
-/// How a completion ends at the first port of the function that made it, if it ends there: with Upstream
-/// Forwarding clear the port discards what is for a bus below it (PCIe 4.0, 6.12.1.1). Completions of
-/// ports and of the host come to no such port.
+/// How a completion of a function ends at its first port, if it ends there.
+/// That is the first port of the function that made it. With Upstream Forwarding clear the port discards what
+/// is for a bus below it (PCIe 4.0, 6.12.1.1). Completions of ports and of the host come to no such port.
 pub fn refusal_of_completion(start: &Start, answerer: Answerer, bytes: &[u8]) -> Option<Handling>
     ensures { result ≡ answer_refusal start.now (malformed bytes.now) answerer (packet_of bytes.now) }
 {

@@ -96,7 +96,8 @@ fn by_number(start: &Start, memory: &HostMemory, view: &TlpView) -> Handling
     }
 }
 
-/// What the host does with a request that is alien there (PCIe 4.0, 10.2.1 has the AT field).
+/// What the host does with a request that is alien there.
+/// PCIe 4.0, 10.2.1 has the AT field.
 pub fn request_at_host(
     start: &Start,
     table: &HostTable,
@@ -133,7 +134,8 @@ fn is_access(view: &TlpView) -> bool
     view.kind().is_memory() && (is_write(view.kind()) || view.dw_length() <= 64)
 }
 
-/// What a function does with a request that came to it directly, or is alien there.
+/// What a function does with a request that came to it.
+/// The request came directly, or is alien there.
 #[tactic(auto, using(crate::proofs::WellMadeLemmas::is_an_access))]
 pub fn request_at_function(
     start: &Start,

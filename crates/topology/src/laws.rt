@@ -20,7 +20,8 @@ ghost use Rattle.topology.specs.Links.{link_at, links_of, sending_end, sender_of
 ghost use Rattle.topology.specs.Nodes.{downstream_end, ports_on, upstream_end};
 ghost use Rattle.topology.specs.Places.{downstream_place, place_at, places_of, upstream_place};
 
-/// Each link of a platform is the one of its lower ID, and no two directions are sent from one end.
+/// Each link of a platform is the one of its lower ID.
+/// No two directions are sent from one end.
 pub fn links_have_ends_of_their_own()
     ensures found { (platform : Platform) (link : Link) → IsPlatform platform → Contains (links_of platform) link → link_at (links_of platform) link.lower ≡ Some link }
     ensures apart { (platform : Platform) (one other : Link) (way other_way : Way) → IsPlatform platform → Contains (links_of platform) one → Contains (links_of platform) other
@@ -78,8 +79,8 @@ pub fn places_are_found()
         → position (λ place. place.id == (slice_index_or (places_of platform) k d).id) (places_of platform) ≡ Some k }
 {}
 
-/// The root port sends down to the top switch, 01:00.0, by the one output of node 0; that switch is node 1, and sends
-/// up by its output 0.
+/// The root port sends down to the top switch, 01:00.0.
+/// It does so by the one output of node 0. That switch is node 1, and sends up by its output 0.
 pub fn root_sends_down()
     ensures down { (platform : Platform) → IsPlatform platform → has_root platform.switches ≡ true
         → sender_of (links_of platform) (record { lower = 0x0100; way = Down }) ≡ Some (record { node = 0; output = 0 }) }

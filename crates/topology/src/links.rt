@@ -10,7 +10,8 @@ use layout::Layout;
 use platform::{DownstreamPort, EndpointFunction, Switch, port_above, port_leading_to};
 use std::alloc::Global;
 
-/// A link, which joins a function, or the upstream port of a switch, to the port above it.
+/// A link of the tree, with the ends that send on it.
+/// It joins a function, or the upstream port of a switch, to the port above it.
 #[derive(Clone, Copy, Debug, PartialEq, Eq)]
 pub struct Link {
     /// The function or upstream port at its lower end.

@@ -15,7 +15,9 @@ use platform::{DownstreamPort, EndpointFunction, Switch, internal_bus, is_on_bus
 /// function have output 0 alone; out of a switch output 0 leads up, and the outputs from 1 on lead down.
 #[derive(Clone, Copy, Debug, PartialEq, Eq)]
 pub struct LinkEnd {
+    /// The number of the node.
     pub node: usize,
+    /// The number of the output.
     pub output: usize,
 }
 

@@ -13,6 +13,7 @@ use std::alloc::Global;
 /// Where a port of a switch stands.
 #[derive(Clone, Copy, Debug, PartialEq, Eq)]
 pub struct PortPlace {
+    /// The ID of the port.
     pub id: PortId,
     /// The node of its switch, whose outputs it puts packets into.
     pub node: usize,

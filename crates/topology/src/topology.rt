@@ -166,7 +166,8 @@ impl Topology {
         self.places_by_slot.first(slot_of(id))
     }
 
-    /// The link of which this ID is the lower end, if it is a function or an upstream port.
+    /// The link of which this ID is the lower end.
+    /// There is one if the ID is a function or an upstream port.
     pub fn link(&self, lower: Bdf) -> Option<Link>
         ensures { result ≡ link_at self.now.links lower }
     {
@@ -181,7 +182,8 @@ impl Topology {
         Some(self.link(direction.lower)?.sending_end(direction.way))
     }
 
-    /// The number of the port of this ID among `places`, if it is one of a switch.
+    /// The number of the port of this ID among `places`.
+    /// It has one if it is a port of a switch.
     pub fn place_number(&self, id: PortId) -> Option<usize>
         ensures value { result ≡ position (λ place. place.id == id) self.now.places }
         ensures within { IfSome result (λ i. i < length self.now.places) }
