@@ -28,8 +28,8 @@ use std::alloc::Global;
 use std::marker::Model;
 use std::sync::Wait;
 
-/// The domains of a fabric, and an outbox of each of their functions and hosts, with a place for each packet
-/// that it may ever emit. A contract sees an `AgentsView`.
+/// The domains of a fabric, and an outbox of each of their functions and hosts.
+/// Each outbox has a place for each packet that may ever be put into it. A contract sees an `AgentsView`.
 #[derive(Drop)]
 pub struct Agents {
     pub(crate) domains: Domains,
@@ -51,8 +51,8 @@ impl Model for Agents {
 impl Agents {
     ghost use Rattle.domain.specs.declared.entry.Entry.TheVariants.{Carry, Deliver, Refuse, Tick};
 
-    /// Each domain that owns a port in the layout, at its start, with empty outboxes of its functions and its
-    /// host. It answers `NoMemory` where memory was refused.
+    /// Each domain that owns a port in the layout, at its start.
+    /// The outboxes of its functions and its host are empty. It answers `NoMemory` where memory was refused.
     pub fn new(alloc: Global, layout: &Layout) -> Result<Agents, NoMemory>
         ensures start { IfOk result (λ agents. agents ≡ agents_of layout.now) }
         ensures settled { IfOk result (λ agents. IsSettled agents) }
@@ -100,7 +100,8 @@ impl Agents {
         Ok(())
     }
 
-    /// The program of a function does its next line; what it sends, if anything, waits in its outbox.
+    /// The program of a function does its next line.
+    /// What it sends, if anything, waits in the function's outbox.
     pub fn tick<R: Wait>(&mut self, rt: &R, function: Bdf) -> Result<(), TickFault>
         ensures ok { OnOk result (ticked self.old function ≡ Some self.new) }
         ensures refused { (fault : TickFault) → tick_refusal self.old.domains function ≡ Some fault → result ≡ Err fault }
@@ -115,7 +116,8 @@ impl Agents {
         Ok(())
     }
 
-    /// The host of a domain reads or writes the register page of a function; the request waits in its outbox.
+    /// The host of a domain reads or writes the register page of a function.
+    /// The request waits in the host's outbox.
     pub fn mmio<R: Wait>(
         &mut self,
         rt: &R,
@@ -132,7 +134,8 @@ impl Agents {
         Ok(())
     }
 
-    /// The host takes a request of its home; what answers it, if anything, waits in the host's outbox.
+    /// The host takes a request of its home.
+    /// What answers it, if anything, waits in the host's outbox.
     pub fn carry_by_host<R: Wait>(&mut self, rt: &R, frame: Frame) -> Result<(), FrameFault>
         ensures ok { OnOk result (carried_by_host self.old frame ≡ Some self.new) }
         ensures fault { IfErr result (λ fault. IsGivenBack (made self.old.domains frame.domain (Carry frame.number)) frame fault) }
@@ -146,8 +149,9 @@ impl Agents {
         Ok(())
     }
 
-    /// A function takes a request of its own domain; what answers it, if anything, waits in its outbox.
-    /// `Stray` where the function is not one of the request's home.
+    /// A function takes a request of its own domain.
+    /// What answers it, if anything, waits in the function's outbox. `Stray` where the function is not one of
+    /// the request's home.
     pub fn carry_by_function<R: Wait>(
         &mut self,
         rt: &R,
@@ -228,7 +232,8 @@ impl Agents {
         self.outboxes.origins(alloc)
     }
 
-    /// All packets that an origin has waiting, in no order that a caller may rely on. Where there is no such outbox, none.
+    /// All packets that an origin has waiting.
+    /// No caller may rely on their order. Where there is no such outbox, there are none.
     pub fn all(&self, alloc: Global, origin: Origin) -> Result<Vec<&Frame>, NoMemory>
         ensures { IfOk result (λ all. IsPermutation (map (λ frame. frame.now) all.items) (waiting_of self.now.outboxes origin)) }
     {

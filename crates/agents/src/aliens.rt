@@ -63,10 +63,11 @@ fn enter<R: Wait>(
 }
 
 impl Agents {
-    /// The host took a packet that its home has no case for, as only in layouts that aren't guarded: the domain of
-    /// this number gets the entry, and what answers it waits of that domain's host. The packet's own frame ends here,
-    /// while its number stays in flight at its home. It is `Stray` where there is no such entry. Memory may be
-    /// refused to any such entry.
+    /// The host took a packet that its home has no case for.
+    /// That happens only in layouts that aren't guarded. The domain of this number gets the entry, and what
+    /// answers it waits in the outbox of that domain's host. The packet's own frame ends here, while its number
+    /// stays in flight at its home. It is `Stray` where there is no such entry. Memory may be refused to any
+    /// such entry.
     pub fn alien_at_host<R: Wait>(
         &mut self,
         rt: &R,
@@ -150,7 +151,8 @@ impl Agents {
         )
     }
 
-    /// Has the home of a packet an entry for it, as one that nobody at this place has a case for?
+    /// Has the home of a packet an entry for it as an alien?
+    /// An alien is one that nobody at this place has a case for.
     pub fn has_alien(&self, place: Place, frame: &Frame) -> bool
         ensures { result ≡ is_some (aliened self.now.domains frame.now.domain place frame.now) }
     {

@@ -27,7 +27,7 @@ IsCompletion (Memory requester address_type address) = ⊥
 IsCompletion (OtherRequest requester) = ⊥
 IsCompletion (Completion target relaxed_ordering) = ⊤
 
--- all but a completion with Relaxed Ordering, which ports may send another way than up (6.12.1.1)
+-- all but a completion with Relaxed Ordering, which ports may send another way than up (PCIe 4.0, 6.12.5)
 abbrev pub IsUnrelaxed : Header → Type 0
 IsUnrelaxed Malformed = ⊤
 IsUnrelaxed (Memory requester address_type address) = ⊤

@@ -77,12 +77,12 @@ impl Domain {
         Ok(sent)
     }
 
-    /// A packet was taken where its home's machine has no case, as only in layouts that aren't guarded:
-    /// at this place, and these are its bytes, as its home lends them. This is the domain that gets the
-    /// entry: the owner of the Requester ID, of the frame, of the host or of the function that takes it,
-    /// or its home. The frame that follows is the result, if one does. The packet's own frame ends here,
-    /// while its number stays in flight at its home for ever. It answers `NoMemory` alone, where memory
-    /// was refused; then nothing changes, and the frame is given back.
+    /// A packet was taken where its home's machine has no case.
+    /// That happens only in layouts that aren't guarded. It was taken at this place, and these are its bytes,
+    /// as its home lends them. This is the domain that gets the entry: the owner of the Requester ID, of the
+    /// frame, of the host or of the function that takes it, or its home. The frame that follows is the result,
+    /// if one does. The packet's own frame ends here, while its number stays in flight at its home for ever. It
+    /// answers `NoMemory` alone, where memory was refused; then nothing changes, and the frame is given back.
     pub fn alien<R: Wait>(
         &mut self,
         rt: &R,
@@ -105,8 +105,9 @@ impl Domain {
         }
     }
 
-    /// May this domain have the entry that a packet of these bytes was taken at this place, whoever sent
-    /// it? Where it may, `alien` can be called.
+    /// May this domain have an entry of a packet of these bytes as alien?
+    /// The entry says that it was taken at this place, whoever sent it. Where there may be one, `alien` can be
+    /// called.
     pub fn has_alien(&self, place: Place, bytes: &[u8]) -> bool
         ensures legal { (sender : Parties) → result ≡ is_some (change self.now.share self.now.state (Alien place sender bytes.now)) }
         ensures unguarded { result ≡ true → is_guarded self.now.share ≡ false }

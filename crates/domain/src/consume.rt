@@ -200,8 +200,8 @@ impl Domain {
         }
     }
 
-    /// The same as `deliver`, but it answers only whether there is a record, which is the last one then: so the
-    /// completion's bytes are copied once.
+    /// The same as `deliver`, but it answers only whether there is a record.
+    /// The record is the last one then. So the completion's bytes are copied once.
     pub fn complete(&mut self, frame: Frame) -> Result<bool, FrameFault>
         ensures ok { OnOk result ((frame.domain ≡ (self.old.share).domain) × Makes self.old (Deliver frame.number) self.new None) }
         ensures delivery { IfOk result (λ is_recorded. Arrives self.old frame.number self.new is_recorded) }

@@ -51,6 +51,7 @@ impl Record {
         self.tag
     }
 
+    /// The status of the completion (PCIe 4.0, 2.2.9).
     pub fn status(&self) -> Status
         ensures { result ≡ self.now.status }
     {

@@ -83,6 +83,7 @@ impl Domain {
         same_journals(&self.journal, &other.journal)
     }
 
+    /// How many begins were accepted, requests blocked, and completions unexpected.
     pub fn counts(&self) -> Counts
         ensures { result ≡ self.now.state.counts }
     {

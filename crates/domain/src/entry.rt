@@ -16,7 +16,7 @@ pub enum Entry {
     Carry(u64),
     /// The completion of this number reached the function or host that it answers.
     Deliver(u64),
-    /// At this place a packet was taken that the journal of its home has no entry for: who made it and
-    /// for whom, and its bytes.
+    /// A packet was taken that the journal of its home has no entry for.
+    /// It was taken at this place. The entry also has who made it and for whom, and its bytes.
     Alien(Place, Parties, PacketBytes),
 }

@@ -30,8 +30,8 @@ pub fn equal_journals_leave_equal_states(one: &Domain, other: &Domain)
     let _ = other.journal();
 }
 
-/// In a guarded layout, where all five ACS controls are set on each downstream port (PCIe 4.0, 6.12.1), no
-/// entry of a journal is of an alien packet.
+/// In a guarded layout no entry of a journal is of an alien packet.
+/// Guarded: all five ACS controls are set on each downstream port (PCIe 4.0, 6.12.1).
 pub fn guarded_journals_have_no_alien_entry(domain: &Domain)
     requires { is_guarded domain.now.share ≡ true }
     ensures { aliens_in domain.now.journal ≡ 0 }
@@ -47,7 +47,8 @@ pub fn begins_bound_what_is_emitted()
     ensures begins { (share : Share) (journal : List Entry) (state : Alone) → replay share journal ≡ Some state → state.counts.begins ≤ share.budget }
 {}
 
-/// What answers an alien packet at a port, if anything does, is a completion (PCIe 4.0, 2.2.9).
+/// What answers an alien packet at a port is a completion (PCIe 4.0, 2.2.9).
+/// It may be that nothing answers it.
 pub fn ports_answer_by_completions()
     ensures { (share : Share) (state : Alone) (place : Place) (sender : Parties) (bytes : List ℕ) (made : Change) → is_at_port share place ≡ true → change share state (Alien place sender bytes) ≡ Some made → IfSome made.emission (λ e. (cost_of e.bytes).class ≡ Completion) }
 {}
@@ -64,10 +65,13 @@ pub fn sent_packets_are_those_in_flight()
     ensures { (share : Share) (journal : List Entry) (state : Alone) → replay share journal ≡ Some state → AreSent share journal state }
 {}
 
-/// What one entry more leaves of the packets that were sent, and of the order in which two are consumed: `sent`,
-/// what it sends stands behind all others; `later`, two packets stay in order unless it consumes the second, and
-/// neither it nor an entry before consumed the first; `new`, they are in order while nothing consumed the second;
-/// `needs`, it consumes only what is in flight.
+/// What one entry more leaves of the packets sent and of their order.
+///
+/// - `sent`: what it sends stands behind all others that were sent.
+/// - `later`: two packets stay in the order in which they are consumed, unless it consumes the second, and
+///   neither it nor an entry before consumed the first.
+/// - `new`: they are in order while nothing consumed the second.
+/// - `needs`: it consumes only what is in flight.
 pub fn order_is_kept_entry_by_entry()
     ensures sent { (share : Share) (journal : List Entry) (state : Alone) (entry : Entry) (made : Change) → replay share journal ≡ Some state → change share state entry ≡ Some made → sent share (journal ++ entry ∷ []) ≡ sent share journal ++ sent_by_entry share state entry (Some made) }
     ensures later { (n m : ℕ) (journal : List Entry) (entry : Entry) → is_in_order n m journal ≡ true → (consumes m entry ≡ true → consumes n entry ≡ false → 1 ≤ times_consumed n journal) → is_in_order n m (journal ++ entry ∷ []) ≡ true }
@@ -75,8 +79,8 @@ pub fn order_is_kept_entry_by_entry()
     ensures needs { (share : Share) (state : Alone) (entry : Entry) (made : Change) (n : ℕ) → change share state entry ≡ Some made → consumes n entry ≡ true → IsSome (item_at state.flight n) }
 {}
 
-/// Two packets that keep their order on the way (PCIe 4.0, 2.4.1) were put in one outbox, and the first is a posted
-/// one.
+/// Two packets that keep their order were put in one outbox (PCIe 4.0, 2.4.1).
+/// The order is that on the way. The first is a posted one.
 pub fn packets_in_order_left_one_outbox()
     ensures outbox { (ports : List DownstreamPort) (domain : ℕ) (first second : Sent) → KeepOrder ports domain first second → first.source ≡ second.source }
     ensures posted { (ports : List DownstreamPort) (domain : ℕ) (first second : Sent) → KeepOrder ports domain first second → IsPosted first.emission }

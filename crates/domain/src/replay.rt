@@ -79,7 +79,7 @@ impl Domain {
         ensures state { IfOk result (λ domain. replay start.now entries.now ≡ Some domain.state) }
         ensures journal { IfOk result (λ domain. (domain.journal ≡ entries.now) × (domain.share ≡ start.now)) }
 
-        // A journal is refused only at its first illegal entry; a legal one only for want of memory.
+        // A journal is refused only at its first illegal entry; a legal one only where memory was refused.
         ensures illegal { (i : ℕ) → result ≡ Err (Illegal i) → IsFirstIllegal start.now entries.now i }
         ensures legal { (s : Alone) → replay start.now entries.now ≡ Some s → IsOkUnless result ReplayFault.NoMemory }
     {

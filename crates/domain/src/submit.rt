@@ -50,10 +50,10 @@ impl Domain {
         }
     }
 
-    /// A function of this domain submits a packet of at most 272 bytes, which may be malformed. A
-    /// well-formed non-posted request opens its Tag. It is refused with the first fault that applies:
-    /// `NoFunction`, `TooLong`, `Completion`, `TagBusy`, `BudgetSpent`; or `NoMemory` where memory was
-    /// refused. Then nothing changes.
+    /// A function of this domain submits a packet of at most 272 bytes.
+    /// The packet may be malformed. A well-formed non-posted request opens its Tag. It is refused with the
+    /// first fault that applies: `NoFunction`, `TooLong`, `Completion`, `TagBusy`, `BudgetSpent`; or `NoMemory`
+    /// where memory was refused. Then nothing changes.
     pub fn submit<R: Wait>(
         &mut self,
         rt: &R,

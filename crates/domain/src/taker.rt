@@ -8,15 +8,16 @@ use fab_types::Place;
 use request_handling::{Taker, taker_of};
 
 impl Domain {
-    /// May an entry of this domain say that an alien packet was taken at this place? It may at the
-    /// host, at a function of the domain, and at any port.
+    /// May this domain have an entry of an alien packet at this place?
+    /// It may at the host, at a function of the domain, and at any port.
     pub fn takes(&self, place: Place) -> bool
         ensures { result ≡ takes self.now.share place }
     {
         taker_of(&self.start, place).is_some()
     }
 
-    /// Does a port take what waits at this place, and neither the host nor a function of the domain?
+    /// Does a port take what waits at this place?
+    /// Then neither the host nor a function of the domain does.
     pub fn is_at_port(&self, place: Place) -> bool
         ensures { result ≡ is_at_port self.now.share place }
     {

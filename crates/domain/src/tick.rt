@@ -30,10 +30,10 @@ impl Domain {
         }
     }
 
-    /// The program of a function of this domain does its next line, if it runs; a tick in which nothing
-    /// happens is a begin too. The frame is that of the request which the line sends, if it sends one. It
-    /// is refused with the first fault that applies: `NoFunction`, `BudgetSpent`; or `NoMemory` where
-    /// memory was refused to a line that sends. Then nothing changes.
+    /// The program of a function of this domain does its next line.
+    /// It does so if it runs; a tick in which nothing happens is a begin too. The frame is that of the request
+    /// which the line sends, if it sends one. It is refused with the first fault that applies: `NoFunction`,
+    /// `BudgetSpent`; or `NoMemory` where memory was refused to a line that sends. Then nothing changes.
     pub fn tick<R: Wait>(&mut self, rt: &R, function: Bdf) -> Result<Option<Frame>, TickFault>
         ensures ok { IfOk result (λ sent. Makes self.old (Tick function) self.new sent) }
 

@@ -26,8 +26,11 @@ fn write_runs(memory: &mut HostMemory, frame: u16, first: usize, view: &TlpView)
 /// What the end of a packet may change, beside what is in flight and open.
 #[derive(Drop)]
 pub struct Contents {
+    /// The domain's frames of host memory.
     pub memory: HostMemory,
+    /// The register pages of its functions.
     pub registers: Vec<Function>,
+    /// What it counts.
     pub counts: Counts,
 }
 

@@ -20,9 +20,9 @@ struct InFlight {
     token: Token,
 }
 
-/// The packets in flight by their numbers, and the log that has their bytes, which others may share. A contract sees
-/// the list. The place of a packet that ended stays, empty, since no number is given out twice: so what is in flight
-/// stands in a box of its own, and a place is small.
+/// The packets in flight by their numbers, and the log that has their bytes.
+/// Others may share the log. A contract sees the list. The place of a packet that ended stays, empty, since no
+/// number is given out twice: so what is in flight stands in a box of its own, and a place is small.
 #[derive(Drop)]
 pub struct Flight {
     alloc: Global,

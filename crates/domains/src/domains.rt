@@ -218,10 +218,11 @@ impl Domains {
         }
     }
 
-    /// A packet was taken where its home has no case, as only in layouts that aren't guarded: at this
-    /// place, and the domain of this number gets the entry, with the bytes that the packet's home has in
-    /// flight. The packet's own frame ends here, while its number stays in flight at its home. It is
-    /// `Stray` where there is no such entry. Memory may be refused to any such entry.
+    /// A packet was taken where its home has no case.
+    /// That happens only in layouts that aren't guarded. It was taken at this place, and the domain of this
+    /// number gets the entry, with the bytes that the packet's home has in flight. The packet's own frame ends
+    /// here, while its number stays in flight at its home. It is `Stray` where there is no such entry. Memory
+    /// may be refused to any such entry.
     pub fn alien<R: Wait>(
         &mut self,
         rt: &R,

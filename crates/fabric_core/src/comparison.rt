@@ -62,13 +62,13 @@ fn has_same_journal(one: &Fabric, other: &Fabric, domain: DomainId) -> bool
     }
 }
 
-/// Runs two lists of events, each in a fresh fabric of the layout, and compares the journals of one domain after them.
-/// It answers both fabrics. Where the journals are equal, so is all that the domain's state holds, since that is what
-/// its machine alone makes of its journal.
+/// Runs two lists of events, and compares one domain's journals after them.
+/// Each list is run in a fresh fabric of the layout. It answers both fabrics. Where the journals are equal, so
+/// is all that the domain's state holds, since that is what its machine alone makes of its journal.
 ///
-/// `NoDomain` where the domain owns no port of the layout, which is tested before anything else; `NoMemory` where memory
-/// was refused to the fabrics or to the lists of their outcomes. An event to which memory was refused changed nothing, and
-/// the run went on.
+/// `NoDomain` where the domain owns no port of the layout, which is tested before anything else; `NoMemory`
+/// where memory was refused to the fabrics or to the lists of their outcomes. An event to which memory was
+/// refused changed nothing, and the run went on.
 pub fn compare_runs<R: Wait>(
     rt: &R,
     alloc: Global,

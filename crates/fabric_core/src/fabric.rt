@@ -66,14 +66,15 @@ impl Model for Fabric {
 }
 
 impl Fabric {
-    /// The fabric of a layout, in which nothing was begun. It answers `NoMemory` where memory was refused. It is
-    /// guarded where each downstream port of the layout has all five ACS controls set.
+    /// The fabric of a layout, in which nothing was begun. It answers `NoMemory` where memory was refused. It
+    /// is guarded where each downstream port of the layout has all five ACS controls set.
     ///
-    /// In a guarded fabric no domain can tell the others from none. Take any list of events that is run from this start,
-    /// whatever functions and hosts of other domains submit, spoof or address, and take all out that other domains do,
-    /// and all that moves nothing: without want of memory each event of the domain moves in a run of what is left,
-    /// and the domain ends with the same journal and state (memory, registers, records of completions, open Tags, counts,
-    /// what is in flight), the same packets at the same places, and the same violations by its functions.
+    /// In a guarded fabric no domain can tell the others from none. Take any list of events that is run from
+    /// this start, whatever functions and hosts of other domains submit, spoof or address, and take all out
+    /// that other domains do, and all that moves nothing. In a run of what is left, if no memory is refused to
+    /// it, each event of the domain moves, and the domain ends with the same journal and state (memory,
+    /// registers, records of completions, open Tags, counts, what is in flight), the same packets at the same
+    /// places, and the same violations by its functions.
     pub fn new(alloc: Global, layout: &Layout) -> Result<Fabric, NoMemory>
         ensures start { IfOk result (λ fabric. fabric ≡ world_of layout.now) }
         ensures guarded { IfOk result (λ fabric. is_guarded fabric ≡ list_all is_guarded_port layout.now.ports) }
@@ -104,17 +105,18 @@ impl Fabric {
         self.agents.domains()
     }
 
-    /// The violations that ports reported (PCIe 4.0, 6.12.1), in the order of the events.
+    /// The violations that ports reported (PCIe 4.0, 6.12.4), in the order of the events.
     pub fn violations(&self) -> &[Violation]
         ensures { result.now ≡ self.now.violations }
     {
         self.reports.violations()
     }
 
-    /// The credits that the sender of a direction knows to be left (PCIe 4.0, 2.6.1), if the layout has such a link.
+    /// The credits that a direction's sender knows to be left (PCIe 4.0, 2.6.1).
+    /// There are none where the layout has no such link.
     ///
-    /// Whatever was done before: of each kind they are within the receiver's start, so no counter is misread, and at
-    /// most 127 packets of a class travel to the receiver and wait there.
+    /// Whatever was done before: of each kind they are within the receiver's start, so no counter is misread,
+    /// and at most 127 packets of a class travel to the receiver and wait there.
     pub fn credits(&self, direction: Direction) -> Option<Limits>
         ensures value { result ≡ option_map (λ channel. channel.left) (channel_of self.now direction) }
         ensures bounded { HasCredits self.now direction }

@@ -32,12 +32,14 @@ pub fn every_event_keeps_the_invariant()
     ensures { (old new : World) (event : Event) → IsConsistent old → effect old event ≡ Some new → IsConsistent new }
 {}
 
-/// A packet that its home has refused at a port is answered only where it is a non-posted request, and by a completion.
+/// Of what a port stops, only non-posted requests are answered, and by completions.
+/// What a port stops is what its home has refused there.
 pub fn only_non_posted_are_answered()
     ensures { (domains : List DomainView) (frame : Descriptor) (m : Made) → IsFlown domains frame → made domains frame.domain (Refuse frame.number) ≡ Some m → (answer : Descriptor) → m.sent ≡ Some answer → (class_of frame ≡ NonPosted) × (class_of answer ≡ Completion) }
 {}
 
-/// A guarded layout's fabric is a guarded fabric at its start, in which nothing is on its way.
+/// A guarded layout's fabric is a guarded fabric at its start.
+/// Nothing is on its way in it.
 pub fn fabrics_start_sound()
     ensures { (platform : Platform) → IsGuarded platform → IsGuardedFabric (world_of platform) }
 {}
@@ -48,21 +50,26 @@ pub fn guarded_fabrics_stay_sound()
     ensures { (old new : World) (event : Event) → IsConsistent old → IsGuardedFabric old → effect old event ≡ Some new → IsGuardedFabric new }
 {}
 
-/// In a guarded fabric every event leaves each domain that it is foreign to as it was: its state, its journal, and the
-/// place of each of its packets. In its own domain it makes at most one entry.
+/// In a guarded fabric every event leaves foreign domains as they were.
+/// Of each domain that it is foreign to these stay: the state, the journal, and the place of each packet. In
+/// its own domain it makes at most one entry.
 pub fn events_leave_other_domains_alone()
     ensures { (old new : World) (event : Event) → IsFabric old → is_guarded old ≡ true → effect old event ≡ Some new → IsApart old event new }
 {}
 
-/// In a guarded fabric each packet that a domain made is in flight, and stands in exactly one place with the head that
-/// its bytes give; or exactly one entry of its domain's journal consumed it, and it stands nowhere.
+/// In a guarded fabric each packet has one place, or was consumed.
+/// Of each packet that a domain made one of these holds:
+///
+/// - It is in flight, and stands in exactly one place with the head that its bytes give.
+/// - Exactly one entry of its domain's journal consumed it, and it stands nowhere.
 pub fn packets_have_one_place()
     ensures { (w : World) → IsFabric w → is_guarded w ≡ true → HaveOnePlace w }
 {}
 
-/// Two packets of a domain that keep their order (PCIe 4.0, 2.4.1), and stand in turn on the way that they go, do so after
-/// every event of a guarded fabric while the first is in flight: wherever either moves, the second never passes the first.
-/// No entry of the domain's journal consumes the second before one consumes the first.
+/// Two packets that keep their order stay in turn (PCIe 4.0, 2.4.1).
+/// They are of one domain, and stand in turn on the way that they go. So they do after every event of a guarded
+/// fabric while the first is in flight: wherever either moves, the second never passes the first. No entry of
+/// the domain's journal consumes the second before one consumes the first.
 pub fn packets_keep_their_order()
     ensures { (old new : World) (event : Event) (fabric : IsFabric old) (guarded : is_guarded old ≡ true) → effect old event ≡ Some new
         → (place : ℕ) (d d' : DomainView) → slice_get old.agents.domains place ≡ Some d → slice_get new.agents.domains place ≡ Some d'
@@ -70,8 +77,8 @@ pub fn packets_keep_their_order()
         → OrderOf old d places n m → is_in_order n m d.journal ≡ true → StayOrdered new d' places n m }
 {}
 
-/// A posted packet that stands on its way, and nowhere else, does so after every event of a guarded fabric while it is in
-/// flight.
+/// A posted packet that stands on its way stays on it.
+/// It stands there, and nowhere else. So it does after every event of a guarded fabric while it is in flight.
 pub fn posted_packets_keep_to_their_way()
     ensures { (old new : World) (event : Event) (fabric : IsFabric old) (guarded : is_guarded old ≡ true) → effect old event ≡ Some new
         → (place : ℕ) (d d' : DomainView) → slice_get old.agents.domains place ≡ Some d → slice_get new.agents.domains place ≡ Some d'
@@ -80,8 +87,9 @@ pub fn posted_packets_keep_to_their_way()
         → IsSome (item_at d'.state.flight n) → KeepsToWay new d' places n }
 {}
 
-/// A packet that a domain makes, and that is to keep its order behind a posted one which stands on its way, stands in turn
-/// with it from the event on that makes it.
+/// A new packet stands in turn with a posted one before it.
+/// A domain makes it, it is to keep its order behind that posted one, and that stands on its way. They stand in
+/// turn from the event on that makes it.
 pub fn new_packets_stand_behind()
     ensures { (old new : World) (event : Event) (fabric : IsFabric old) (guarded : is_guarded old ≡ true) → effect old event ≡ Some new
         → (place : ℕ) (d d' : DomainView) → slice_get old.agents.domains place ≡ Some d → slice_get new.agents.domains place ≡ Some d'
@@ -96,9 +104,10 @@ pub fn every_event_keeps_a_fabric()
     ensures { (old new : World) (event : Event) → IsFabric old → effect old event ≡ Some new → IsFabric new }
 {}
 
-/// In the fabric of a guarded layout the events of other domains can be taken out of any run: where a domain's events that
-/// moved are run alone, with those that tell credits, each of them moves again, and the domain has the same state, journal,
-/// packets and violations in the end. Want of memory aside, it can't tell the other domains from none.
+/// In a guarded fabric other domains' events can be taken out of any run.
+/// The fabric is that of a guarded layout. A domain's events that moved are run alone, with those that tell
+/// credits. If no memory is refused to that second run, each of them moves again, and the domain has the same
+/// state, journal, packets and violations in the end: it can't tell the other domains from none.
 pub fn other_domains_can_be_taken_out()
     ensures { (platform : Platform) → IsGuarded platform → (events : List Event) (outcomes : List Outcome) (first : World)
         → Run (world_of platform) events outcomes first → (d : ℕ) → CannotTell d (world_of platform) events outcomes first }

@@ -50,16 +50,17 @@ fn advance<R: Wait>(
     Ok(())
 }
 
-/// Runs a list of events in a fresh fabric of the layout, and what is left of it in another one: the events that tell
-/// credits, and of the others those of the domain that moved. It answers both fabrics.
+/// Runs a list of events, and then what is left of it.
+/// Each is run in a fresh fabric of the layout. The events are left that tell credits, and of the others those
+/// of the domain that moved. It answers both fabrics.
 ///
-/// In a guarded layout each event that is left moves in the second run too, but that one that tells credits may find
-/// nothing to tell; and the domain has the same in both fabrics: its state, its journal, the place of each of its
-/// packets, and the violations by its functions. So it can't tell the other domains' events from none.
+/// In a guarded layout each event that is left moves in the second run too, but that one that tells credits may
+/// find nothing to tell; and the domain has the same in both fabrics: its state, its journal, the place of each
+/// of its packets, and the violations by its functions. So it can't tell the other domains' events from none.
 ///
-/// `NoDomain` where the domain owns no port of the layout, which is tested before anything else; `NoMemory` where memory
-/// was refused to the fabrics, or to an event of the second run. An event of the first run to which memory was refused
-/// changed nothing, and isn't left.
+/// `NoDomain` where the domain owns no port of the layout, which is tested before anything else; `NoMemory`
+/// where memory was refused to the fabrics, or to an event of the second run. An event of the first run to
+/// which memory was refused changed nothing, and isn't left.
 pub fn purge_run<R: Wait>(
     rt: &R,
     alloc: Global,

@@ -13,7 +13,8 @@ use fab_types::{Bdf, Class, Direction, DomainId, Origin, PortId};
 pub enum Station {
     /// The outbox of this function, from which packets enter its link.
     FunctionOutbox(Bdf),
-    /// The outbox of the host of this domain, from which packets enter the link to the top switch.
+    /// The outbox of the host of this domain.
+    /// From it packets enter the link to the top switch.
     HostOutbox(DomainId),
     /// This port, by which the packets pass that came into it.
     Port(PortId),

@@ -44,19 +44,22 @@ ghost use Rattle.guarded_routes.specs.Sound.{IsSound, is_reply};
 ghost use Rattle.guarded_routes.specs.Ways.{Passes, PassesDown, direction_out};
 ghost use Rattle.guarded_routes.specs.FirstPorts.{IsGuardedFirst, by_fate, report_at, sent_by};
 
+/// A downstream port and its sender's machine test alike (PCIe 4.0, 6.12.1.1).
 /// In every layout, what a downstream port tests of a packet's header is what the machine of the sender's
-/// domain tests of the packet: Source Validation, and Translation Blocking, of whatever is no completion
-/// (PCIe 4.0, 6.12.1.1).
+/// domain tests of the packet: Source Validation, and Translation Blocking, of whatever is no completion.
 pub fn ports_and_machines_test_alike()
     ensures source { (port : DownstreamPort) (parties : Parties) (t : Packet) → is_completion t.kind ≡ false → ports.fails_source port (packet_header parties t) ≡ fates.fails_source port t }
     ensures translation { (port : DownstreamPort) (parties : Parties) (t : Packet) → is_completion t.kind ≡ false → ports.fails_translation port (packet_header parties t) ≡ fates.fails_translation port t }
 {}
 
-/// A port with all five controls set does with each request of the function below it, and with all
-/// bytes that spell no packet, what the machine of the function's domain alone says: what has the host
-/// as its fate goes up, what goes directly to another function goes by the route that the port leaves it,
-/// and anything else is stopped there; and a request that fails a test of the port is reported. In a
-/// guarded layout the port directly above a function is such a port.
+/// A guarded first port does what the machine of the function's domain says.
+/// It is a port with all five controls set; in a guarded layout the port directly above a function is such a
+/// port. It does so with each request of the function below it, and with all bytes that spell no packet, by
+/// what that machine alone says:
+///
+/// - What has the host as its fate goes up.
+/// - What goes directly to another function goes by the route that the port leaves it.
+/// - Anything else is stopped there; and a request that fails a test of the port is reported.
 pub fn guarded_ports_do_what_fates_say()
     ensures fate { (tree : Routes) (config : Config) (line : DownstreamPort) (function : ℕ) (bytes : List ℕ)
         → IsGuardedFirst tree.ports config line function
@@ -66,11 +69,16 @@ pub fn guarded_ports_do_what_fates_say()
         → IsGuardedFirst platform.ports (downstream_config platform line) line (id_below line) }
 {}
 
-/// At a downstream port a packet that is sound on the link below it goes on to where it is sound: up, if
-/// the port doesn't let it through to another port of its switch; there, directly to the function below
-/// that, if it does, or as a completion with Relaxed Ordering; or the port is the first one above the
-/// function that sent it, and stops it. It is never stray. What goes on may go on: its requester, if it
-/// has one, is of its domain. What is stopped has a case as refused.
+/// At a downstream port a sound packet stays sound, or is stopped.
+/// It is sound on the link below the port. One of these happens:
+///
+/// - It goes on up, where it is sound, if the port doesn't let it through to another port of its switch.
+/// - It goes on there, directly to the function below that, where it is sound: if the port lets it through, or
+///   as a completion with Relaxed Ordering.
+/// - The port is the first one above the function that sent it, and stops it.
+///
+/// It is never stray. What goes on may go on: its requester, if it has one, is of its domain. What is stopped
+/// has a case as refused.
 pub fn ports_pass()
     ensures passes { (platform : Platform) (line : DownstreamPort) (frame : Descriptor) → IsGuarded platform → port_at platform.ports line.id ≡ Some line
         → IsSound platform (record { lower = id_below line; way = Up }) frame
@@ -81,17 +89,18 @@ pub fn ports_pass()
         → Flies state frame → IsLegal platform state frame (Refuse frame.number) }
 {}
 
-/// At the upstream port of a switch a packet that is sound on the link above it goes on down, to where
-/// it is sound.
+/// At the upstream port of a switch a sound packet goes on down.
+/// It is sound on the link above the port, and on the link that it goes on to.
 pub fn upstream_ports_pass()
     ensures { (platform : Platform) (switch : Switch) (frame : Descriptor) → IsGuarded platform → switch_at platform.switches switch.id ≡ Some switch
         → IsSound platform (record { lower = switch.id; way = Down }) frame
         → PassesDown platform switch frame (course_of (of_platform platform) (upstream_config platform switch) frame.head) }
 {}
 
-/// At the host a sound request is a memory request of a function of its domain, in the name of an ID of
-/// that domain, goes directly to no other function, and has a case as carried. A sound completion that goes to bus 00 goes to the host of its
-/// domain, and has a case as delivered. One that goes to another bus is sound on the way down.
+/// What a sound packet is at the host.
+/// A request is a memory request of a function of its domain, in the name of an ID of that domain, goes
+/// directly to no other function, and has a case as carried. A completion that goes to bus 00 goes to the host
+/// of its domain, and has a case as delivered. One that goes to another bus is sound on the way down.
 pub fn host_takes()
     ensures request { (platform : Platform) (frame : Descriptor) → IsGuarded platform → IsSound platform (record { lower = top_id; way = Up }) frame
         → is_reply frame.head.header ≡ false → IsOwnRequest platform frame }
@@ -181,15 +190,17 @@ pub fn one_link_below()
         → link_above platform one ≡ Some above → link_above platform other ≡ Some above → is_below platform one function ≡ true → is_below platform other function ≡ true → one ≡ other }
 {}
 
-/// What goes up from a downstream port goes on to the link above that below the port.
+/// What goes up from a downstream port keeps to the way.
+/// It goes on to the link above that below the port.
 pub fn what_goes_up_keeps_to_the_way()
     ensures { (platform : Platform) (line : DownstreamPort) (switch : Switch) (direction : Direction) → IsGuarded platform → port_at platform.ports line.id ≡ Some line
         → switch_on platform.switches (bus_of line.id) ≡ Some switch → direction_out platform switch 0 ≡ Some direction
         → (direction.way ≡ Up) × (link_above platform (id_below line) ≡ Some direction.lower) }
 {}
 
-/// What goes down from a switch goes on to a link that has the switch's own link above it: from the upstream
-/// port, and also from another downstream port.
+/// What goes down from a switch keeps to the way.
+/// It goes on to a link that has the switch's own link above it: from the upstream port, and also from another
+/// downstream port.
 pub fn what_goes_down_keeps_to_the_way()
     ensures down { (platform : Platform) (switch : Switch) (place : ℕ) (direction : Direction) → IsGuarded platform → switch_at platform.switches switch.id ≡ Some switch
         → direction_out platform switch (suc place) ≡ Some direction → (direction.way ≡ Down) × (link_above platform direction.lower ≡ Some switch.id) }

@@ -44,8 +44,9 @@ fn no_credits() -> Limits
     }
 }
 
-/// What each receiver of the link with this lower end advertises at the start (PCIe 4.0, 2.6.1), in credits: of headers,
-/// and of payload in units of four DW. Below a port without a link no credits are ever there.
+/// What each receiver of a link advertises at the start (PCIe 4.0, 2.6.1).
+/// The link is that with this lower end. It advertises credits: of headers, and of payload in units of four DW.
+/// Below a port without a link no credits are ever there.
 pub fn first_credits(layout: &Layout, lower: Bdf) -> Limits
     ensures value { result ≡ first_credits (credits_of layout.now lower) }
     ensures start { MayStart result }

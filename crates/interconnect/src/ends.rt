@@ -46,7 +46,7 @@ impl Interconnect {
         credits_at(&self.nodes, end)
     }
 
-    /// The domain that made the eligible packet of a class at the sender of this end.
+    /// The domain that made a class's eligible packet at the sender of this end.
     pub fn home_sent_at(&self, end: LinkEnd, class: Class) -> Option<DomainId>
         requires { IsEnd (self.now.tree).outputs end }
         ensures { result ≡ option_map (λ taken. taken.0.domain) (eligible class (channel_at (channels self.now) end).egress) }
@@ -54,7 +54,8 @@ impl Interconnect {
         home_sent_at(&self.nodes, end, class)
     }
 
-    /// The domain that made the oldest packet on the wire of the direction that is sent from this end.
+    /// The domain that made the oldest packet on the wire.
+    /// The wire is that of the direction that is sent from this end.
     pub fn home_travelling_at(&self, end: LinkEnd) -> Option<DomainId>
         requires { IsEnd (self.now.tree).outputs end }
         ensures { result ≡ option_map (λ frame. frame.domain) (slice_get (channel_at (channels self.now) end).wire 0) }
@@ -62,7 +63,8 @@ impl Interconnect {
         home_travelling_at(&self.nodes, end)
     }
 
-    /// The domain that made the eligible packet of a class that waits at the receiver of that direction.
+    /// The domain that made the eligible packet of a class at the receiver.
+    /// The packet waits at the receiver of the direction that is sent from this end.
     pub fn home_received_at(&self, end: LinkEnd, class: Class) -> Option<DomainId>
         requires { IsEnd (self.now.tree).outputs end }
         ensures { result ≡ option_map (λ taken. taken.0.domain) (eligible class (channel_at (channels self.now) end).ingress) }
@@ -70,8 +72,8 @@ impl Interconnect {
         home_received_at(&self.nodes, end, class)
     }
 
-    /// What ports read of the eligible packet of a class that waits at the receiver of the direction that
-    /// is sent from this end.
+    /// What ports read of the eligible packet of a class at the receiver.
+    /// The packet waits at the receiver of the direction that is sent from this end.
     pub fn head_at(&mut self, end: LinkEnd, class: Class) -> Option<Head>
         requires { IsEnd (self.old.tree).outputs end }
         ensures found { result ≡ option_map (λ taken. taken.0.head) (eligible class (channel_at (channels self.old) end).ingress) }
@@ -112,7 +114,8 @@ impl Interconnect {
         is_full_at(&mut self.nodes, end, class)
     }
 
-    /// Puts a packet behind the others of the sender at this end, which has a place for it.
+    /// Puts a packet behind the others of the sender at this end.
+    /// The sender has a place for it.
     pub fn put_at(&mut self, end: LinkEnd, frame: Frame)
         requires end { IsEnd (self.old.tree).outputs end }
         requires place { is_full (class_of frame) (channel_at (channels self.old) end) ≡ false }

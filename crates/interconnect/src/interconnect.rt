@@ -80,7 +80,8 @@ impl Interconnect {
         self.bridge.owner(id)
     }
 
-    /// Does a request of this sender for this address go directly to this function, as `Bridge::goes_directly`?
+    /// Does a request of this sender for this address go directly to this function?
+    /// The answer is that of `Bridge::goes_directly`.
     pub fn goes_directly(&self, sender: Bdf, address: u64, function: Bdf) -> bool
         ensures { result ≡ goes_directly (self.now.routes).ports sender address function }
     {
@@ -109,9 +110,9 @@ impl Interconnect {
         self.topology.sender(direction)
     }
 
-    /// Puts the eligible packet of a class on the wire of a direction, and spends its credits (PCIe 4.0,
-    /// 2.6.1.2). It answers false, and changes nothing, where no packet is eligible, where there are too few
-    /// credits, and where there is no such link.
+    /// Puts the eligible packet of a class on the wire of a direction.
+    /// That spends its credits (PCIe 4.0, 2.6.1). It answers false, and changes nothing, where no packet is
+    /// eligible, where there are too few credits, and where there is no such link.
     pub fn send(&mut self, direction: Direction, class: Class) -> bool
         ensures moved { MatchBool result (on_channel (channels self.old) (sender_of (self.old.tree).links direction) (send class) ≡ Some (channels self.new))
             ((on_channel (channels self.old) (sender_of (self.old.tree).links direction) (send class) ≡ None) × (channels self.new ≡ channels self.old)) }
@@ -149,9 +150,9 @@ impl Interconnect {
         }
     }
 
-    /// Can nothing happen on this direction, before a packet is put at its sender or taken at its receiver? No packet
-    /// may be sent, whatever its class, none travels, and the sender knows the receiver's present credits; or there is
-    /// no such link.
+    /// Can nothing happen on this direction by itself?
+    /// That is, before a packet is put at its sender or taken at its receiver. No packet may be sent, whatever
+    /// its class, none travels, and the sender knows the receiver's present credits; or there is no such link.
     pub fn is_quiet(&self, direction: Direction) -> bool
         ensures { result ≡ is_quiet_at (channels self.now) (sender_of (self.now.tree).links direction) }
     {
@@ -172,8 +173,9 @@ impl Interconnect {
         }
     }
 
-    /// Did nothing come into the port of this ID that may leave its queue, whatever its class? So it is too where there
-    /// is no such port, and where nothing stands at the other end of its link.
+    /// Did nothing come into this port that may leave its queue?
+    /// That is asked of all classes. So it is too where there is no port of this ID, and where nothing stands
+    /// at the other end of its link.
     pub fn has_none_passing(&self, id: PortId) -> bool
         ensures { result ≡ none_received_at (channels self.now) (input_of (self.now.tree).places id) }
     {

@@ -6,6 +6,7 @@ use std::marker::Model;
 /// The root complex, a switch or a function, with the directions of links that lead out of it, by output.
 #[derive(Drop)]
 pub(crate) struct Node {
+    /// The directions that lead out of it, by the number of the output.
     pub outputs: Vec<Simplex>,
 }
 

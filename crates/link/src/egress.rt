@@ -20,8 +20,9 @@ use std::alloc::Global;
 use std::marker::Model;
 use vetted::VettedFrame;
 
-/// What waits at the sender of a direction, at most 16 packets of each class, and the credits that the sender knows,
-/// which bound what may leave. It is the lane out of the port that sends. A contract sees an `EgressView`.
+/// What waits at the sender of a direction, and the credits that it knows.
+/// At most 16 packets of each class wait. The credits bound what may leave. It is the lane out of the port that
+/// sends. A contract sees an `EgressView`.
 #[derive(Drop)]
 pub struct Egress {
     queue: FrameQueue<16>,
@@ -52,8 +53,9 @@ impl Egress {
         })
     }
 
-    /// Puts a packet behind the others of its class, as a function or the host sends it. Where 16 packets of that class wait
-    /// it is given back, and that is counted.
+    /// Puts a packet behind the others of its class.
+    /// A function or the host sends it so. Where 16 packets of that class wait it is given back, and that is
+    /// counted.
     pub fn put(&mut self, frame: Frame) -> Result<(), Frame>
         ensures put { MatchResult result
             (λ _. (frames_of self.new.queue.queue.waiting ≡ frames_of self.old.queue.queue.waiting ++ frame ∷ []) × (self.new.queue.refusals ≡ self.old.queue.refusals))

@@ -18,8 +18,9 @@ use port_queue::LeavingClasses;
 use std::alloc::Global;
 use std::marker::Model;
 
-/// What waits at the receiver of a direction, at most 127 packets of each class, and the credits that it gave. Those of
-/// a packet that leaves are free. It is the lane in of the port that receives. A contract sees an `IngressView`.
+/// What waits at the receiver of a direction, and the credits that it gave.
+/// At most 127 packets of each class wait. The credits of a packet that leaves are free. It is the lane in of
+/// the port that receives. A contract sees an `IngressView`.
 #[derive(Drop)]
 pub struct Ingress {
     queue: FrameQueue<127>,

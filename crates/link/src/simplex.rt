@@ -70,8 +70,8 @@ impl Simplex {
         })
     }
 
-    /// Puts a packet behind the others of its class at the sender, as a function or the host sends it, where fewer than 16
-    /// packets of that class wait.
+    /// Puts a packet behind the others of its class at the sender.
+    /// A function or the host sends it so. It may be called where fewer than 16 packets of that class wait.
     pub fn put(&mut self, frame: Frame)
         requires { is_full (class_of frame) (channel self.old) ≡ false }
         ensures { channel self.new ≡ with_egress (channel self.old) ((channel self.old).egress ++ frame ∷ []) }
@@ -89,8 +89,8 @@ impl Simplex {
         transmit(&mut self.egress, &mut self.wire, class)
     }
 
-    /// The oldest packet of the wire reaches the receiver, where there always is a place for it. It
-    /// answers false where the wire is empty.
+    /// The oldest packet of the wire reaches the receiver.
+    /// There always is a place for it. It answers false where the wire is empty.
     pub fn deliver(&mut self) -> bool
         ensures { MatchBool result (deliver (channel self.old) ≡ Some (channel self.new)) ((deliver (channel self.old) ≡ None) × (channel self.new ≡ channel self.old)) }
     {
@@ -145,8 +145,8 @@ impl Simplex {
         self.ingress.leaving()
     }
 
-    /// The domain that made the eligible packet of a class at the sender, which the next `send` takes if there are
-    /// credits for it.
+    /// The domain that made the eligible packet of a class at the sender.
+    /// The next `send` takes that packet if there are credits for it.
     pub fn home_sent(&self, class: Class) -> Option<DomainId>
         ensures { result ≡ option_map (λ taken. taken.0.domain) (eligible class (channel self.now).egress) }
     {
@@ -196,9 +196,9 @@ impl Simplex {
         self.ingress.has_none_eligible()
     }
 
-    /// Can nothing happen on this direction, before a packet is put at its sender or taken at its receiver? No packet at
-    /// the sender is eligible, whatever its class, none is on the wire, and the sender knows the receiver's present
-    /// credits.
+    /// Can nothing happen on this direction by itself?
+    /// That is, before a packet is put at its sender or taken at its receiver. No packet at the sender is
+    /// eligible, whatever its class, none is on the wire, and the sender knows the receiver's present credits.
     pub fn is_quiet(&self) -> bool
         ensures { result ≡ is_quiet (channel self.now) }
     {

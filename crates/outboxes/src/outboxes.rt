@@ -49,8 +49,9 @@ fn origins_of(alloc: Global, boxes: &[OriginBox]) -> Result<Vec<Origin>, AllocEr
 }
 
 impl Outboxes {
-    /// An empty box for each function of a layout, and for the host of each domain that owns a port. In all each
-    /// takes three times its domain's budget of each class. It answers `NoMemory` where memory was refused.
+    /// An empty box for each function of a layout, and for each domain's host.
+    /// The domains are those that own a port. In all each box takes three times its domain's budget of each
+    /// class. It answers `NoMemory` where memory was refused.
     pub fn new(alloc: Global, layout: &Layout) -> Result<Outboxes, NoMemory>
         ensures { IfOk result (λ outboxes. outboxes ≡ boxes_of layout.now) }
     {
@@ -97,7 +98,8 @@ impl Outboxes {
         Ok(origins_of(alloc, &self.boxes)?)
     }
 
-    /// All packets of this origin that wait, in no order that a caller may rely on. Where there is no such origin, none.
+    /// All packets of this origin that wait.
+    /// No caller may rely on their order. Where there is no such origin, there are none.
     pub fn all(&self, alloc: Global, origin: Origin) -> Result<Vec<&Frame>, NoMemory>
         ensures { IfOk result (λ all. IsPermutation (map (λ frame. frame.now) all.items) (waiting_of self.now origin)) }
     {
@@ -145,7 +147,8 @@ impl Outboxes {
         take_at(&mut self.boxes, place, class)
     }
 
-    /// Is there a box of this origin, and were fewer than its places put of the class?
+    /// Has the box of this origin a place for a packet of the class?
+    /// It has if there is such a box, and fewer than its places were put of the class.
     pub fn has_place(&self, origin: Origin, class: Class) -> bool
         ensures { result ≡ has_place self.now origin class }
     {

@@ -49,7 +49,7 @@ is_posted Posted = true
 is_posted NonPosted = false
 is_posted Completion = false
 
--- the report of a request that failed a test
+-- the report of a request that failed a test (PCIe 4.0, 6.12.4)
 abbrev pub report_of : DownstreamPort → Head → ℕ → Check → ℕ → Violation
 report_of line head sender check requester =
     record { port = line.id; check = check; sender = sender; requester = requester; posted = is_posted head.cost.class }

@@ -14,6 +14,7 @@ use std::alloc::Global;
 /// A way out of a switch through one of its downstream ports.
 #[derive(Clone, Copy, Debug, PartialEq, Eq)]
 pub struct Exit {
+    /// The downstream port.
     pub port: PortId,
     /// Does a function or a switch stand below the port?
     pub leads_on: bool,

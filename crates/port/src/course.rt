@@ -17,7 +17,8 @@ use platform::{DownstreamPort, id_below};
 pub enum Forwarding {
     /// It goes down this lane of the switch: 0 out of the upstream port, then the downstream ports.
     To(usize),
-    /// The domain that made it refuses it at this port; a violation of ACS is reported.
+    /// The domain that made it refuses it at this port.
+    /// A violation of ACS is reported (PCIe 4.0, 6.12.4).
     Stop(Option<Violation>),
     /// The port has no case for it.
     NoCase,
@@ -203,10 +204,12 @@ impl Port {
         }
     }
 
-    /// What becomes of a packet with this head that came into the port. Up through a downstream port:
-    /// what fails an ACS test, is malformed, or is a request of a kind that no port takes is stopped, if
-    /// its sender is the function below; the rest goes by its route and the port's redirections. Down
-    /// through the upstream port: by its route alone (PCIe 4.0, 6.12.1.1).
+    /// What becomes of a packet with this head that came into the port.
+    ///
+    /// - Up through a downstream port: what fails an ACS test, is malformed, or is a request of a kind that no
+    ///   port takes is stopped, if its sender is the function below; the rest goes by its route and the port's
+    ///   redirections (PCIe 4.0, 6.12.1.1).
+    /// - Down through the upstream port: it goes by its route alone.
     pub fn course(&self, bridge: &Bridge, head: &Head) -> Forwarding
         ensures value { result ≡ course_of bridge.now self.now.config head.now }
         ensures lane { IsWithin (length self.now.config.exits) result }
@@ -217,9 +220,9 @@ impl Port {
         }
     }
 
-    /// What the port reports of a packet with this head that another than the first port above its sender
-    /// refuses: a request by a function that fails an ACS test of this port is a violation (PCIe 4.0,
-    /// 6.12.1.1). An upstream port tests nothing.
+    /// What the port reports, where it isn't the first port above the sender.
+    /// The packet has this head, and is refused here. A request by a function that fails an ACS test of this
+    /// port is a violation (PCIe 4.0, 6.12.1.1). An upstream port tests nothing.
     pub fn report_elsewhere(&self, bridge: &Bridge, head: &Head) -> Option<Violation>
         ensures { result ≡ report_elsewhere bridge.now self.now.config head.now }
     {

@@ -15,12 +15,13 @@ use fab_types::{Head, Place, Violation};
 pub struct Loss {
     /// Where it waits, as an entry names it.
     pub place: Place,
-    /// The violation that the port finds, if it finds one (PCIe 4.0, 6.12.1.1).
+    /// The ACS violation that the port finds, if it finds one (PCIe 4.0, 6.12.1.1).
     pub report: Option<Violation>,
 }
 
 impl Port {
-    /// What is lost of a packet with this head that came into the port, if the port has no case for it.
+    /// What is lost of a packet that the port has no case for.
+    /// The packet came into the port with this head. There is none where the port has a case for it.
     pub fn loss(&self, bridge: &Bridge, head: &Head) -> Option<Loss>
         ensures { result ≡ loss_of bridge.now self.now.config head.now (course_of bridge.now self.now.config head.now) }
     {

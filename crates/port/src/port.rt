@@ -131,7 +131,8 @@ impl Port {
         }
     }
 
-    /// The packets that came and that the port had no case for, in the order in which they came.
+    /// The packets that came and that the port had no case for.
+    /// They stand in the order in which they came.
     pub fn strays(&self) -> &[Frame]
         ensures { result.now ≡ self.now.strays }
     {

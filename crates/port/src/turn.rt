@@ -24,10 +24,15 @@ use std::sync::Wait;
 /// and tells.
 #[derive(Drop)]
 pub struct TurnParts<'a, I, O, D, R> {
+    /// The switches of the layout.
     pub bridge: &'a Bridge,
+    /// The lane in.
     pub input: &'a mut I,
+    /// The lanes out of the switch.
     pub outs: &'a mut [O],
+    /// Whom the port asks to refuse a packet.
     pub desk: &'a mut D,
+    /// Whom the port tells of violations.
     pub reporter: &'a mut R,
 }
 

@@ -46,8 +46,8 @@ fn links_of(alloc: Global, layout: &Layout) -> Result<Vec<Bdf>, AllocError>
     rising(ids)
 }
 
-/// Each place of a layout's fabric where packets wait or travel, once, in the order of a sweep. The domains are those of
-/// the fabric, by rising number.
+/// Each place where packets wait or travel, once, in the order of a sweep.
+/// The places are those of a layout's fabric. The domains are those of the fabric, by rising number.
 pub fn stations(
     alloc: Global,
     layout: &Layout,

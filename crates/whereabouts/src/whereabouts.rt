@@ -52,8 +52,9 @@ fn with_places(
     Ok(named)
 }
 
-/// The number of each packet that a domain made and that stands in an outbox, in a queue or on a wire, with the place where
-/// it stands, by rising numbers. No packet waits in an outbox but that which is found by its origin.
+/// Where each packet of a domain stands, by rising numbers.
+/// Of each packet that the domain made and that stands in an outbox, in a queue or on a wire, it has the
+/// number, and the place where it stands. No packet waits in an outbox but that which is found by its origin.
 pub fn whereabouts_of(
     interconnect: &Interconnect,
     agents: &Agents,
