@@ -46,7 +46,8 @@ pub enum Request<'a> {
     First {
         packet: &'a str,
     },
-    /// To run the fabric of a layout by a script, and to print what it ends in.
+    /// To run the fabric of a layout by a script.
+    /// What it ends in is printed.
     Run {
         files: Files<'a>,
     },
@@ -66,7 +67,8 @@ pub enum Request<'a> {
         journal: &'a str,
         domain: u32,
     },
-    /// To run the fabric on threads, each of which makes so many turns, 1 to 1,000,000.
+    /// To run the fabric on threads.
+    /// Each of them makes so many turns, 1 to 1,000,000.
     Threads {
         files: Files<'a>,
         turns: u32,
@@ -76,12 +78,14 @@ pub enum Request<'a> {
 /// The names of the files of a run.
 #[derive(Clone, Copy, Debug, PartialEq, Eq)]
 pub struct Files<'a> {
+    /// The name of the layout's file.
     pub layout: &'a str,
+    /// The name of the script's file.
     pub script: &'a str,
 }
 
-/// Reads the words of the command line, without the program's name. Words that ask for a command are refused
-/// only for want of memory.
+/// Reads the words of the command line, without the program's name.
+/// Words that ask for a command are refused only where memory was refused.
 pub fn read_request<'a, S: AsStr>(alloc: Global, words: &'a [S]) -> Result<Request<'a>, WordsFault>
     ensures asked { (asked : Asked) → Ask (map S.text words.entry.now) asked → MatchResult result (λ request. IsAsked request asked) (λ fault. fault ≡ WordsFault.NoMemory) }
 {

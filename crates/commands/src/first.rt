@@ -36,8 +36,8 @@ const FUNCTION: u16 = 0x0300;
 /// How many sweeps may follow.
 const SWEEPS: u32 = 1000;
 
-/// Submits the packet that the word stands for, lets the fabric carry it, and writes the rows of the
-/// memory of domain 1, or why the packet was refused.
+/// Submits the packet that the word stands for, and lets the fabric carry it.
+/// It writes the rows of the memory of domain 1, or why the packet was refused.
 pub fn first<'a, R: Wait, W: Write>(
     rt: &R,
     alloc: Global,

@@ -10,8 +10,8 @@ use std::alloc::Global;
 use std::io::Write;
 use std::sync::Wait;
 
-/// Replays the journal in a file from what the layout gives this domain, and writes the part of the report of the
-/// domain.
+/// Replays the journal in a file from what the layout gives this domain.
+/// It writes the part of the report of the domain.
 pub fn replay<'a, R: Wait, F: FileGiver, W: Write>(
     rt: &R,
     alloc: Global,

@@ -17,8 +17,8 @@ use std::io;
 use std::io::Write;
 use std::sync::Wait;
 
-/// Runs the fabric of a layout by a script, and writes the begins that were refused and what the run ends
-/// in.
+/// Runs the fabric of a layout by a script.
+/// It writes the begins that were refused, and what the run ends in.
 pub fn run<'a, R: Wait, F: FileGiver, W: Write>(
     rt: &R,
     alloc: Global,
@@ -35,7 +35,8 @@ pub fn run<'a, R: Wait, F: FileGiver, W: Write>(
     Ok(())
 }
 
-/// Runs the same, and writes the part of the report of this domain, as the replay of its journal leaves it.
+/// Runs the same, and writes the part of the report of this domain.
+/// That is of the domain as the replay of its journal leaves it.
 pub fn alone<'a, R: Wait, F: FileGiver, W: Write>(
     rt: &R,
     alloc: Global,

@@ -48,9 +48,10 @@ pub fn end_all<W: Work + Drop + Send + 'static>(
     }
 }
 
-/// Starts a thread for one worker, which makes its turns as in `run`. `NoMemory`: the gate or the flag is shared too
-/// often to be shared once more. `NoThread`: a thread could not be made, for want of memory or by the system's limits.
-/// After either the worker is let go, and has made no turn.
+/// Starts a thread for one worker, which makes its turns as in `run`.
+/// `NoMemory`: the gate or the flag is shared too often to be shared once more. `NoThread`: a thread could not
+/// be made, since memory was refused or by the system's limits. After either the worker is let go, and has made
+/// no turn.
 pub fn start_one<W, G, R>(
     rt: R,
     worker: W,
@@ -81,9 +82,10 @@ where
     Ok(handle)
 }
 
-/// Starts a thread for each worker, in their order, all over one gate and one stop flag. Each makes its turns as in
-/// `run`. The faults are those of `start_one`, and `NoMemory` where memory for the list of handles was refused. After a
-/// fault no worker runs: it sets the stop flag, waits until those that had begun have ended, and lets all workers go.
+/// Starts a thread for each worker, all over one gate and one stop flag.
+/// They start in the order of the workers. Each makes its turns as in `run`. The faults are those of
+/// `start_one`, and `NoMemory` where memory for the list of handles was refused. After a fault no worker runs:
+/// it sets the stop flag, waits until those that had begun have ended, and lets all workers go.
 pub fn start<W, G, R>(
     rt: R,
     alloc: Global,
@@ -115,8 +117,9 @@ where
     Ok(handles)
 }
 
-/// Waits until all of these workers have ended, and gives them back in the order of their handles, each with what no
-/// turn changes. Where memory for the list is refused it waits for them all the same, and lets them go.
+/// Waits until all of these workers have ended, and gives them back.
+/// They stand in the order of their handles, each with what no turn changes. Where memory for the list is
+/// refused it waits for them all the same, and lets them go.
 pub fn join_all<W: Work + Drop + Send + 'static>(
     rt: &impl Threads,
     alloc: Global,

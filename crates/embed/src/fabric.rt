@@ -52,12 +52,16 @@ impl Gate for Open {
 /// Why there is nothing to print.
 #[derive(Debug, Drop, Error)]
 pub enum EmbedFault {
+    /// The text of the layout was refused.
     #[error("the layout is faulty")]
     Layout,
+    /// Memory was refused, or the fabric was not given back as it stopped.
     #[error("out of memory")]
     NoMemory,
+    /// The workers did not start.
     #[error("the workers don't start")]
     Start,
+    /// A function was not answered.
     #[error("a function was not answered")]
     NoRecord,
 }
@@ -65,7 +69,9 @@ pub enum EmbedFault {
 /// What the program's threads took, and what is left of the domains.
 #[derive(Drop)]
 pub struct Ran {
+    /// The completion that each of the two threads took.
     pub records: Vec<Record>,
+    /// The domains after the stop, by rising number.
     pub domains: Vec<Domain>,
 }
 

@@ -8,7 +8,9 @@ use std::time::{Clock, Duration};
 /// A function, by its bus, and the four bytes that it writes.
 #[derive(Clone, Copy)]
 pub struct Writer {
+    /// The bus of the function.
     pub bus: u8,
+    /// The bytes that it writes, from the lowest address on.
     pub data: [u8; 4],
 }
 

@@ -43,10 +43,10 @@ fn take<R: Wait>(
     Ok(())
 }
 
-/// A packet was just taken at this place, and its home has no case for it. The domain of this number gets the entry, if
-/// it may have one, and what follows waits in the outbox, which gets places for it first. Else the packet is kept among the
-/// strays, and where memory was refused it is given back. It may have to wait for another thread; what is said holds if
-/// it returns.
+/// A packet was just taken at this place, where its home has no case.
+/// The domain of this number gets the entry, if it may have one, and what follows waits in the outbox, which
+/// gets places for it first. Else the packet is kept among the strays, and where memory was refused it is given
+/// back. It may have to wait for another thread; what is said holds if it returns.
 pub fn end_alien<R: Wait>(
     rt: &R,
     locks: &Locks,

@@ -5,7 +5,8 @@ ghost use Rattle.end_parts.specs.Endings.{has_moved};
 
 use frame_log::Frame;
 
-/// What the home of a packet has to do with it where it is taken (PCIe 4.0, 2.2.9 and 2.3.1).
+/// What a packet's home has to do with it where it is taken.
+/// Completions are those of PCIe 4.0, 2.2.9, requests are handled as in 2.3.1.
 #[derive(Clone, Copy, Debug, PartialEq, Eq)]
 pub enum Receipt {
     /// A request reached its completer.
@@ -21,7 +22,8 @@ pub enum Receipt {
 pub enum Ending {
     /// Its home has an entry of it.
     Own,
-    /// Its home had no case for it, and the domain of that place has an entry of it.
+    /// The domain of that place has an entry of it.
+    /// Its home had no case for it.
     Alien,
     /// Nobody had a case for it, and it is kept.
     Stray,

@@ -81,11 +81,13 @@ fn serve_there<R: Wait>(
     }
 }
 
-/// The domain of this number has the next begin of a ring, if there is one, under its lock. What that emits waits behind the
-/// others in the outbox, which gets places for it first. A begin that is refused is counted; one to whose call memory is
-/// refused is held, and is the next one again. `Waits` may also be answered where there is none: the outbox is asked first.
-/// `Idle` too where there is no lock of that number. It may have to wait for another thread; what is said holds if it
-/// returns.
+/// The domain of this number has the next begin of a ring, under its lock.
+/// There may be none. What the begin emits waits behind the others in the outbox, which gets places for it
+/// first. A begin that is refused is counted; one to whose call memory is refused is held, and is the next one
+/// again. It may have to wait for another thread; what is said holds if it returns.
+///
+/// - `Waits` may also be answered where there is no begin: the outbox is asked first.
+/// - `Idle` comes too where there is no lock of that number.
 pub fn serve_begin<R: Wait>(
     rt: &R,
     locks: &Locks,

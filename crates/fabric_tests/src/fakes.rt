@@ -15,6 +15,7 @@ use vetted::VettedFrame;
 /// A desk with one domain.
 #[derive(Drop)]
 pub struct OneDomain {
+    /// The domain that refuses.
     pub domain: Domain,
 }
 
@@ -39,11 +40,15 @@ impl Desk for OneDomain {
     }
 }
 
-/// A lane that takes this many packets, and gives all others back without having said that it is full.
+/// A lane that takes so many packets, and gives all others back.
+/// It never says before that it is full.
 #[derive(Drop)]
 pub struct Giving {
+    /// The packets that it took.
     pub queue: FrameQueue<16>,
+    /// How many more it takes.
     pub left: u64,
+    /// How many it gave back, in a number that wraps.
     pub refused: u64,
 }
 
@@ -80,8 +85,11 @@ impl LaneOut for Giving {
 /// A reporter that has a place, or has none.
 #[derive(Drop)]
 pub struct Place {
+    /// The reports that it took.
     pub reports: Reports,
+    /// Has it a place?
     pub is_free: bool,
+    /// How many reports it gave back, in a number that wraps.
     pub refused: u64,
 }
 

@@ -47,8 +47,9 @@ impl Model for FunctionWork {
 }
 
 impl FunctionWork {
-    /// The work of a function of this domain, with its outbox and the other ends of its injector's rings, at this side of its
-    /// link, over the switches of its layout and the domains under locks. It has no strays. It takes no memory.
+    /// The work of a function, at this side of its link.
+    /// The function is of this domain. It has its outbox and the other ends of its injector's rings, and stands
+    /// over the switches of its layout and the domains under locks. It has no strays. It takes no memory.
     pub fn new(
         alloc: Global,
         function: Bdf,

@@ -9,6 +9,7 @@ use outboxes::OriginBox;
 /// All that was a function's own while its worker ran. What is still in it was made, and ended nowhere.
 #[derive(Drop)]
 pub struct FunctionParts {
+    /// Which function it was.
     pub function: Bdf,
     /// What the function emitted, and its link didn't take.
     pub outbox: OriginBox,

@@ -21,6 +21,7 @@ pub enum Ask {
 pub struct Begin {
     /// How many begins went into the ring before it.
     pub number: u64,
+    /// What is asked of the domain.
     pub what: Ask,
 }
 

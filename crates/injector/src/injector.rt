@@ -14,8 +14,9 @@ use thiserror::Error;
 /// How many begins wait in a ring at most.
 const BEGINS: usize = 16_384;
 
-/// What a program has of a function or of a domain's host while the workers run: it asks for begins, and takes records
-/// of completions. No call waits for another thread or takes memory. A contract sees an `InjectorView`.
+/// What a program has of a function or a host while the workers run.
+/// The host is a domain's. The program asks for begins, and takes records of completions. No call waits for
+/// another thread or takes memory. A contract sees an `InjectorView`.
 #[derive(Drop)]
 pub struct Injector {
     origin: Origin,
@@ -40,7 +41,9 @@ impl Model for Injector {
 /// The other ends of an injector's rings, which the worker of its origin serves.
 #[derive(Drop)]
 pub struct WorkerEnds {
+    /// The end of the ring of begins.
     pub begins: BeginRing,
+    /// The end of the ring of records.
     pub records: RecordRing,
 }
 
@@ -48,6 +51,7 @@ pub struct WorkerEnds {
 #[derive(Debug, Drop, Error)]
 #[error("{fault}")]
 pub struct RefusedAccess {
+    /// Why the access was not taken.
     pub fault: InjectorFault,
     /// The access, to be asked for again.
     pub access: HostAccess,

@@ -7,8 +7,9 @@ use domain::Record;
 use rtrb::{Producer, PushError};
 use std::marker::Model;
 
-/// The records that go out, and the one that found no place in the ring, if there is one. Only `settle` adds one. A
-/// contract sees a `RecordRingView`.
+/// The records that go out, and the one that found no place.
+/// The latter is there only where the ring was full. Only `settle` adds one. A contract sees a
+/// `RecordRingView`.
 #[derive(Drop)]
 pub struct RecordRing {
     producer: Producer<Record>,

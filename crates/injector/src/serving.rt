@@ -49,14 +49,16 @@ fn is_memory_fault(fault: &BeginFault) -> bool
     )
 }
 
-/// Takes the begin that is held, or else the oldest of the ring, and makes the one call of the domain that it names, with
-/// its inputs. What it emits is the result; a tick may emit nothing and is accepted all the same. Without a begin nothing
-/// happens. The call that emits may have to wait for another thread; what is said holds if it returns.
+/// Makes the one call of the domain that the next begin names.
+/// The next begin is the one that is held, or else the oldest of the ring, which is taken out. The call is made
+/// with the begin's inputs. What it emits is the result; a tick may emit nothing and is accepted all the same.
+/// Without a begin nothing happens. The call that emits may have to wait for another thread; what is said holds
+/// if it returns.
 ///
 /// # Errors
 ///
-/// The fault of that call, after which the domain is as it was. The begin is counted as refused; but where memory was
-/// refused it is held, and the next `serve` makes the same call again.
+/// The fault of that call, after which the domain is as it was. The begin is counted as refused; but where
+/// memory was refused it is held, and the next `serve` makes the same call again.
 pub fn serve<R: Wait>(
     rt: &R,
     domain: &mut Domain,

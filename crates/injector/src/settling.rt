@@ -32,8 +32,8 @@ pub fn settle(domain: &mut Domain, frame: Frame, ring: &mut RecordRing) -> Resul
     Ok(())
 }
 
-/// Puts the record that is held, if one is, into the ring; where the ring is full it stays held. None is lost, doubled or
-/// overtaken.
+/// Puts the record that is held, if one is, into the ring.
+/// Where the ring is full it stays held. None is lost, doubled or overtaken.
 pub fn flush(ring: &mut RecordRing)
     ensures ring { SameProducer ring.old.producer ring.new.producer }
     ensures kept { given_out ring.new ≡ given_out ring.old }

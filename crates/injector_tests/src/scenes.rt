@@ -20,8 +20,11 @@ map 03:00.0 1 frame 0 rw
 /// A domain, and the ends of the rings of one of its origins.
 #[derive(Drop)]
 pub struct Scene {
+    /// The domain.
     pub domain: Domain,
+    /// The injector of the origin.
     pub injector: Injector,
+    /// The other ends of its rings.
     pub ends: WorkerEnds,
 }
 
@@ -56,10 +59,12 @@ pub fn access() -> HostAccess {
     }
 }
 
+/// The function as an origin.
 pub fn function() -> Origin {
     Origin::Function(requester())
 }
 
+/// The host of domain 1 as an origin.
 pub fn host() -> Option<Origin> {
     Some(Origin::Host(DomainId::new(1)?))
 }
@@ -128,7 +133,8 @@ fn domain_of(alloc: Global) -> Option<Domain> {
     Domain::new(alloc, &start, log).ok()
 }
 
-/// The domain at its start, and the rings of this origin, with room for so many records.
+/// The domain at its start, and the rings of this origin.
+/// They have room for so many records.
 pub fn started(alloc: Global, origin: Origin, records: u32) -> Option<Scene> {
     let domain = domain_of(alloc)?;
     let (injector, ends) = Injector::open(alloc, origin, records).ok()?;

@@ -17,8 +17,11 @@ use thiserror::Error;
 /// How the program ended.
 #[derive(Clone, Copy, Debug, PartialEq, Eq)]
 pub enum ExitStatus {
+    /// All is done: exit status 0.
     Done,
+    /// It stopped before all was done: exit status 1.
     Stopped,
+    /// Memory was refused: exit status 2.
     NoMemory,
 }
 

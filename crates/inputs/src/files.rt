@@ -5,6 +5,7 @@ ghost use Rattle.std.specs.Prelude.{◌≡◌, ℕ, List, IfErr, IfOk};
 /// Why a file's bytes did not come.
 #[derive(Clone, Copy, Debug, PartialEq, Eq)]
 pub enum FileFault {
+    /// The file cannot be read.
     Unreadable,
     /// Memory was refused.
     NoMemory,

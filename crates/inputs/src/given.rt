@@ -16,7 +16,9 @@ use std::alloc::Global;
 /// What `alone` and `journal` are given.
 #[derive(Drop)]
 pub struct Inputs {
+    /// The layout that was read.
     pub layout: Layout,
+    /// The script that was read.
     pub script: Script,
     /// What the domain that was asked for starts from.
     pub start: Start,

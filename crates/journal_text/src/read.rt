@@ -18,8 +18,9 @@ const LAST_LINE: u32 = 16_777_216;
 /// A line of a journal's text that is an entry.
 #[derive(Debug, Drop)]
 pub struct JournalLine {
-    /// Counted from 1, comments too.
+    /// The number of the line, counted from 1, comments too.
     pub number: u32,
+    /// The entry that the line spells.
     pub entry: Entry,
 }
 

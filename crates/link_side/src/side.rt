@@ -65,8 +65,9 @@ impl LinkSide {
         })
     }
 
-    /// Takes the oldest limits out of the ring and tells them to the sender, which drops those that can't be its receiver's.
-    /// Where the ring has none, nothing changes, and it answers false.
+    /// Takes the oldest limits out of the ring and tells them to the sender.
+    /// The sender drops those that can't be its receiver's. Where the ring has none, nothing changes, and it
+    /// answers false.
     pub fn hear(&mut self, credits: &mut Ends<Limits>) -> bool
         ensures heard { result ≡ true → Hears self.old.egress.sender credits.old self.new.egress.sender credits.new }
         ensures none { result ≡ false → oldest credits.new ≡ None }
@@ -87,8 +88,9 @@ impl LinkSide {
         true
     }
 
-    /// Sends the eligible packet of the class, if there are the credits for it and the ring has a place. Else nothing
-    /// changes, and it answers false.
+    /// Sends the eligible packet of the class.
+    /// It does so if there are the credits for it and the ring has a place. Else nothing changes, and it
+    /// answers false.
     pub fn send(&mut self, class: Class, links: &mut Ends<Frame>) -> bool
         ensures sent { result ≡ true → SendsOn class self.old links.old self.new links.new }
         ensures stuck { result ≡ false → HasPlace links.new → IsStuck class (leaving self.old) self.old.egress.sender }
@@ -134,8 +136,9 @@ impl LinkSide {
         posted | non_posted | completion
     }
 
-    /// Takes the oldest packet out of the ring, to wait behind all others, if its class has a place. Else it stays in the
-    /// ring, nothing changes, and it answers false.
+    /// Takes the oldest packet out of the ring, to wait behind all others.
+    /// It does so if that packet's class has a place. Else the packet stays in the ring, nothing changes, and
+    /// it answers false.
     pub fn land(&mut self, links: &mut Ends<Frame>) -> bool
         ensures landed { result ≡ true → Lands self.old links.old self.new links.new }
         ensures stuck { result ≡ false → (frame : Descriptor) → oldest links.new ≡ Some frame → count_in (class_of frame) (landed self.old) ≡ 127 }
@@ -157,8 +160,9 @@ impl LinkSide {
         true
     }
 
-    /// Puts the receiver's limits into the ring, if they aren't those that the other side was told last and the ring has a
-    /// place. Else nothing changes, and it answers false.
+    /// Puts the receiver's limits into the ring.
+    /// It does so if they aren't those that the other side was told last, and the ring has a place. Else
+    /// nothing changes, and it answers false.
     pub fn tell(&mut self, credits: &mut Ends<Limits>) -> bool
         ensures told { result ≡ true → Tells self.old credits.old self.new credits.new }
         ensures known { result ≡ false → HasPlace credits.new → self.old.ingress.receiver.credits_allocated ≡ self.old.told }

@@ -23,17 +23,22 @@ map 04:00.0 1 frame 1 rw
 /// A domain, the bus of its function, and the bus of the other's.
 #[derive(Clone, Copy)]
 pub struct Side {
+    /// The number of the domain.
     pub number: u8,
+    /// The bus of its function.
     pub bus: u8,
+    /// The bus of the other's function.
     pub other: u8,
 }
 
+/// Domain 1, with function 03:00.0.
 pub const FIRST: Side = Side {
     number: 1,
     bus: 3,
     other: 4,
 };
 
+/// Domain 2, with function 04:00.0.
 pub const SECOND: Side = Side {
     number: 2,
     bus: 4,

@@ -43,15 +43,16 @@ fn alien_there<R: Wait>(
 }
 
 impl Locks {
-    /// A packet was taken at this place, where its home has no case, as only in layouts that aren't guarded: the domain
-    /// of this number gets the entry, as `Domain::alien`, with these bytes, which are those that `bytes_of` copies. What
-    /// follows is the result. The packet's number stays in flight at its home for ever. It may have to wait for another
-    /// thread; what is said holds if it returns.
+    /// A packet was taken at this place, where its home has no case.
+    /// That happens only in layouts that aren't guarded. The domain of this number gets the entry, as
+    /// `Domain::alien`, with these bytes, which are those that `bytes_of` copies. What follows is the result.
+    /// The packet's number stays in flight at its home for ever. It may have to wait for another thread; what
+    /// is said holds if it returns.
     ///
     /// # Errors
     ///
-    /// `Stray`: there is no lock of that number, or that domain may have no such entry. `NoMemory`: memory was refused.
-    /// After either the frame is given back, and the domain has no entry of it.
+    /// `Stray`: there is no lock of that number, or that domain may have no such entry. `NoMemory`: memory was
+    /// refused. After either the frame is given back, and the domain has no entry of it.
     pub fn alien<R: Wait>(
         &self,
         rt: &R,

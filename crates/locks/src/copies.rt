@@ -25,9 +25,10 @@ fn bytes_there(domain: &Domain, frame: &Frame) -> Option<ArrayVec<u8, 272>>
 }
 
 impl Locks {
-    /// A copy of the bytes that its home has in flight under a packet's number, if it has any and there is a lock of its
-    /// number. So they can be given to another domain while no lock is held: no thread needs two at once. It takes no
-    /// memory. It may have to wait for another thread; what is said holds if it returns.
+    /// A copy of the bytes that a packet's home has in flight under its number.
+    /// There is none where the home has none, or where there is no lock of its number. So the bytes can be
+    /// given to another domain while no lock is held: no thread needs two at once. It takes no memory. It may
+    /// have to wait for another thread; what is said holds if it returns.
     pub fn bytes_of<R: Wait>(&self, rt: &R, frame: &Frame) -> Option<ArrayVec<u8, 272>>
         ensures value { MatchOption result
             (IsSome (place_of self.now frame.now.domain) → AbsentThere frame.now)

@@ -10,6 +10,7 @@ use std::sync::{Arc, Wait};
 /// A worker's way to the domains that all workers share.
 #[derive(Drop)]
 pub struct LockedDesk {
+    /// The domains under locks.
     pub locks: Arc<Locks, Global>,
 }
 

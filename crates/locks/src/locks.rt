@@ -9,8 +9,9 @@ use std::alloc::Global;
 use std::marker::Model;
 use std::sync::Mutex;
 
-/// The domains of a fabric, each under a lock of its own, which bears the domain's number. Threads share it by
-/// reference. A contract sees the list of the numbers, which never changes.
+/// The domains of a fabric, each under a lock of its own.
+/// A lock bears its domain's number. Threads share the value by reference. A contract sees the list of the
+/// numbers, which never changes.
 #[derive(Drop)]
 pub struct Locks {
     /// The number of each lock, apart from the domains: so looking for one touches no domain.
@@ -38,8 +39,9 @@ fn place_of(numbers: &[DomainId], number: DomainId) -> Option<usize>
 }
 
 impl Locks {
-    /// Each of these domains under a lock, which bears the number of its share, in their order. It answers `NoMemory`
-    /// where memory was refused; then the domains are let go.
+    /// Each of these domains under a lock, in their order.
+    /// A lock bears the number of its domain's share. It answers `NoMemory` where memory was refused; then the
+    /// domains are let go.
     pub fn new(alloc: Global, domains: Vec<Domain>) -> Result<Locks, NoMemory>
         ensures { IfOk result (λ locks. locks ≡ map (λ d. d.share.domain) domains.items) }
     {
@@ -62,8 +64,9 @@ impl Locks {
         place_of(&self.numbers, number).is_some()
     }
 
-    /// The lock of this number, if there is one, for calls that this crate has not: begins, and what reads a domain.
-    /// Whoever has taken it and calls for the same domain here waits for itself, for ever.
+    /// The lock of this number, if there is one.
+    /// It is for calls that this crate has not: begins, and what reads a domain. Whoever has taken it and calls
+    /// for the same domain here waits for itself, for ever.
     pub fn lock_of(&self, number: DomainId) -> Option<&Mutex<Domain>>
         ensures { MatchOption result (place_of self.now number ≡ None) (λ _. IsSome (place_of self.now number)) }
     {
@@ -71,8 +74,9 @@ impl Locks {
         Some(&self.domains[place])
     }
 
-    /// The domains without their locks, in the order of these, once no other thread has the value. It answers
-    /// `NoMemory` where memory for the list was refused; then the domains are let go.
+    /// The domains without their locks, in the order of these.
+    /// It can be called once no other thread has the value. It answers `NoMemory` where memory for the list was
+    /// refused; then the domains are let go.
     pub fn into_domains(self, alloc: Global) -> Result<Vec<Domain>, NoMemory>
         ensures { IfOk result (λ domains. vec_len domains ≡ length self) }
     {

@@ -1,4 +1,4 @@
-//! Reports of ACS violations: the queue in which they wait for the monitor, and their lines.
+//! Reports of ACS violations (PCIe 4.0, 6.12.4): the queue in which they wait for the monitor, and their lines.
 #![tactic(auto)]
 
 mod queue;

@@ -15,18 +15,26 @@ pub struct Report {
     pub seat: u64,
     /// Its number among the reports of that port, from 0.
     pub number: u64,
+    /// The violation itself.
     pub violation: Violation,
 }
 
 /// What a pass of the queue knows: a port's, its seat and what it reported; the monitor's, how many
 /// seats it gave, what it took, and what each port that has ended reported. No value of it is made.
 pub(crate) struct View {
+    /// Is the pass a port's?
     pub is_port: bool,
+    /// Of a port's: its seat.
     pub seat: u64,
+    /// Of a port's: what it reported, in its order.
     pub reported: LinkedList<Report>,
+    /// Is the pass the monitor's?
     pub is_monitor: bool,
+    /// Of the monitor's: how many seats it gave.
     pub seats: u64,
+    /// Of the monitor's: what it took, in its order.
     pub taken: LinkedList<Report>,
+    /// Of the monitor's: what each port that has ended reported, from the first seat on.
     pub ended: LinkedList<LinkedList<Report>>,
 }
 

@@ -22,10 +22,10 @@ fn class_word(posted: bool) -> &'static str
     if posted { "posted" } else { "nonposted" }
 }
 
-/// The line of a violation: the port that refused the request, the test that it failed (`V` for Source
-/// Validation, `B` for Translation Blocking), the function that sent it, the Requester ID that it
-/// bore, and whether it was posted. It has no line feed. It answers `NoMemory` where memory was
-/// refused.
+/// The line of a violation, without a line feed.
+/// It has the port that refused the request, the test that it failed (`V` for Source Validation, `B` for
+/// Translation Blocking, `E` for Egress Control), the function that sent it, the Requester ID that it bore, and
+/// whether it was posted. It answers `NoMemory` where memory was refused.
 pub fn line(alloc: Global, violation: &Violation) -> Result<String, NoMemory>
     ensures { IfOk result (λ text. string_bytes text ≡ violation_line violation.now) }
 {

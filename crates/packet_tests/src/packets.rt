@@ -2,12 +2,12 @@ use fab_types::{AddressType, Bdf, Class, Status};
 use std::test::Fail;
 use tlp_view::{Enables, Kind, TlpView, cost};
 
-// A memory write of one DW to 1000h, by 03:00.0.
+/// A memory write of one DW to 1000h, by 03:00.0.
 pub const WRITE: [u8; 16] = [
     0x40, 0, 0, 1, 3, 0, 0x2f, 0x0f, 0, 0, 0x10, 0, 0x11, 0x22, 0x33, 0x44,
 ];
 
-// A memory read of one DW at 1000h, by 03:00.0 with Tag 20h.
+/// A memory read of one DW at 1000h, by 03:00.0 with Tag 20h.
 pub const READ: [u8; 12] = [0, 0, 0, 1, 3, 0, 0x20, 0x0f, 0, 0, 0x10, 0];
 
 /// The number of the cause for which bytes are malformed, or 0.

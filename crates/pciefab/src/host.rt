@@ -5,7 +5,8 @@ use std::io::{BufWriter, ErrorKind, Printer};
 use std::rt::{Env, Files};
 use std::{env, fs, io};
 
-/// The words of the command line without the program's name, and a buffer before standard output.
+/// The words of the command line, and a buffer before standard output.
+/// The program's name is not among the words.
 pub fn words_and_output<R: Env + Print + AllocGlobal>(
     rt: &R,
 ) -> Result<(Vec<String>, BufWriter<Printer<'_, R>>), Fault> {
@@ -26,6 +27,7 @@ pub struct HostFiles<'a, R> {
 }
 
 impl<'a, R: Files + AllocGlobal> HostFiles<'a, R> {
+    /// The files of this host.
     pub fn new(rt: &'a R) -> HostFiles<'a, R> {
         HostFiles { rt }
     }

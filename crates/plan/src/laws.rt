@@ -39,8 +39,9 @@ pub fn routes_go_along_links()
     ensures upper { (platform : Platform) → IsPlatform platform → map (λ link. worker_at platform link.above) (links_of platform) ≡ map (λ r. Some r.to) (up_routes platform) }
 {}
 
-/// Each direction of each link has one ring for its packets and one for its credits: for the link of number i, the packets
-/// that go up have that of number 2 i, and those that go down the next. Their credits go the other way.
+/// Each direction of each link has a ring for packets and one for credits.
+/// For the link of number i, the packets that go up have that of number 2 i, and those that go down the next.
+/// Their credits go the other way.
 pub fn each_direction_has_its_rings()
     ensures links { (platform : Platform) → length (plan_of platform).links ≡ 2 * length (links_of platform) }
     ensures credits { (platform : Platform) → length (plan_of platform).credits ≡ 2 * length (links_of platform) }
@@ -54,8 +55,9 @@ pub fn each_direction_has_its_rings()
         → route_of (workers_of platform) (slice_index_or (plan_of platform).credits (2 * i + 1) w) ≡ slice_index_or (up_routes platform) i r }
 {}
 
-/// From the worker of a port there are as many rings to ports as lanes lead out of its switch: one to each port of the
-/// switch, in the order of the lanes. Into it lead as many, in the same order.
+/// A port's worker has as many rings to ports as lanes leave its switch.
+/// One leads to each port of the switch, in the order of the lanes. Into the worker lead as many, in the same
+/// order.
 pub fn a_port_has_rings_for_its_lanes()
     ensures from { (platform : Platform) (switch : Switch) (worker : WorkerId) (n : ℕ) → IsPlatform platform → IsWellPlaced platform → IsPortOf platform switch worker n
         → routes_of platform (wires_from n (plan_of platform).pairs) ≡ routes_from (lanes_of platform switch) worker }
@@ -67,8 +69,8 @@ pub fn a_port_has_rings_for_its_lanes()
         → length (wires_into n (plan_of platform).pairs) ≡ outputs_of_switch platform.ports switch }
 {}
 
-/// Whatever rings are laid for `pairs`, the worker of a port is dealt as many ends to put into, and as many to take from,
-/// as outputs lead out of its switch.
+/// A port's worker is dealt as many ends as outputs leave its switch.
+/// It is so many to put into, and so many to take from, whatever rings are laid for `pairs`.
 pub fn a_port_is_dealt_an_end_for_each_lane()
     ensures outs { (platform : Platform) (switch : Switch) (worker : WorkerId) (n : ℕ) (table : List (Wire × RingName)) → IsPlatform platform → IsWellPlaced platform → IsPortOf platform switch worker n
         → map (λ r. r.0) table ≡ (plan_of platform).pairs → length (slice_index_or (dealt (length (workers_of platform)) table) n no_tags).outs ≡ outputs_of_switch platform.ports switch }

@@ -22,7 +22,8 @@ const LINK_PLACES: usize = 381;
 // How many credit updates may be on the way, and how many packets between two ports of a switch.
 const SHORT_PLACES: usize = 16;
 
-/// Which workers the fabric of a layout has, and which rings lead from one to another. A contract sees `Tables`.
+/// Which workers the fabric of a layout has, and which rings.
+/// A ring leads from one worker to another. A contract sees `Tables`.
 #[derive(Drop)]
 pub struct Plan {
     workers: Vec<WorkerId>,

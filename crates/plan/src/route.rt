@@ -10,11 +10,14 @@ use std::alloc::Global;
 /// Who puts items into a ring, and who takes them out.
 #[derive(Clone, Copy, Debug, PartialEq, Eq)]
 pub(crate) struct Route {
+    /// The worker that puts items in.
     pub from: WorkerId,
+    /// The worker that takes them out.
     pub to: WorkerId,
 }
 
 impl Route {
+    /// The route from the first worker to the second.
     pub fn between(from: &WorkerId, to: &WorkerId) -> Route
         ensures { result ≡ route from.now to.now }
     {

@@ -14,7 +14,9 @@ use std::sync::Wait;
 /// What the monitor took, and the ports' ends of the queue as they were at the end.
 #[derive(Drop)]
 pub(crate) struct Reported {
+    /// The reports that the monitor took.
     pub list: Vec<Report>,
+    /// The ports' ends of the queue as they were at the end, by their seats.
     pub ports: Vec<Snapshot<QueueReporter>>,
 }
 

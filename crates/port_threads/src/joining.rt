@@ -17,9 +17,13 @@ use workers::Post;
 /// Workers in one order, and the ends of each in the same.
 #[derive(Drop)]
 pub(crate) struct Pieces {
+    /// The workers, without their ends.
     pub posts: Vec<Post>,
+    /// Their ends of the rings of packets on links.
     pub links: Vec<Ends<Frame>>,
+    /// Their ends of the rings of credits.
     pub credits: Vec<Ends<Limits>>,
+    /// Their ends of the rings between the ports of switches.
     pub pairs: Vec<Ends<VettedFrame>>,
 }
 

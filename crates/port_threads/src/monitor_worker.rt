@@ -10,6 +10,7 @@ use std::sync::Wait;
 /// The monitor, with its end of the queue of violations.
 #[derive(Drop)]
 pub(crate) struct Monitor {
+    /// The monitor's end of the queue.
     pub watch: Watch,
 }
 

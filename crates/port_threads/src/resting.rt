@@ -18,13 +18,21 @@ use wiring::Laid;
 /// the rings as they were laid. A contract sees a `FabricView`.
 #[derive(Drop)]
 pub(crate) struct Resting {
+    /// Which workers there are, and which rings lead between them.
     pub plan: Plan,
+    /// The workers of the plan, with their ends of rings.
     pub workers: Vec<Worker>,
+    /// The worker that collects violations.
     pub monitor: Monitor,
+    /// The domains under locks.
     pub locks: Arc<Locks, Global>,
+    /// The injectors of functions and hosts.
     pub injectors: Vec<Injector>,
+    /// The rings of packets on links as they were laid.
     pub links: Snapshot<Vec<Laid<Frame>>>,
+    /// The rings of credits as they were laid.
     pub credits: Snapshot<Vec<Laid<Limits>>>,
+    /// The rings between the ports of switches as they were laid.
     pub pairs: Snapshot<Vec<Laid<VettedFrame>>>,
 }
 

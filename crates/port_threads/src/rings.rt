@@ -17,15 +17,20 @@ use wiring::{Ends, Laid, Wire, deal, lay};
 /// The rings of one table: the ends of each worker, and the rings as they were laid, for contracts alone.
 #[derive(Drop)]
 pub(crate) struct Strand<T: Drop> {
+    /// The ends of each worker, by its number.
     pub ends: Vec<Ends<T>>,
+    /// The rings as they were laid, for contracts alone.
     pub made: Snapshot<Vec<Laid<T>>>,
 }
 
 /// The rings of the three tables of a plan.
 #[derive(Drop)]
 pub(crate) struct Rings {
+    /// The rings of packets on links.
     pub links: Strand<Frame>,
+    /// The rings of credits.
     pub credits: Strand<Limits>,
+    /// The rings between the ports of switches.
     pub pairs: Strand<VettedFrame>,
 }
 

@@ -17,8 +17,9 @@ use std::thread::PromisedHandle;
 use vetted::VettedFrame;
 use wiring::Laid;
 
-/// The fabric of a layout whose workers run, each port, each function, the root complex and the monitor in a thread of its
-/// own. It can't be let go but by `stop`, so that no thread is left. A contract sees a `FabricView`.
+/// The fabric of a layout whose workers run.
+/// Each port, each function, the root complex and the monitor runs in a thread of its own. The value can't be
+/// let go but by `stop`, so that no thread is left. A contract sees a `FabricView`.
 pub struct Running {
     pub(crate) plan: Plan,
     pub(crate) workers: Vec<PromisedHandle<Worker, Keeps<Worker>>>,

@@ -22,8 +22,8 @@ pub struct Stopped {
     pub pairs: ToldTable<VettedFrame>,
     /// All violations that were reported.
     pub list: Vec<Report>,
-    /// The ports' ends of the queue of violations as they were at the end, for contracts alone, by their seats: upstream
-    /// ports, and then downstream ports.
+    /// The ports' ends of the queue of violations, for contracts alone.
+    /// They are as they were at the end, by their seats: upstream ports, and then downstream ports.
     pub ports: Vec<Snapshot<QueueReporter>>,
     /// What is left of each worker, by its number in the plan.
     pub remains: Vec<Remains>,

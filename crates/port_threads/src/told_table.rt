@@ -10,6 +10,7 @@ use wiring::{Ends, Told};
 /// All rings of one table of the plan, the last first: of each, what was put in and taken, and what was left.
 #[derive(Drop)]
 pub struct ToldTable<T: Drop> {
+    /// What became of each ring, the last of the table first.
     pub rings: Vec<Told<T>>,
     /// The ends as the workers gave them back, for contracts alone. What each worker had put in and taken by each of its ends
     /// is what the rings tell.

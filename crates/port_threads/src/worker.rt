@@ -14,9 +14,13 @@ use workers::Post;
 /// A worker with the ends of its rings: those of its link, of the credits of that, and of the pairs of ports of its switch.
 #[derive(Drop)]
 pub(crate) struct Worker {
+    /// Which worker it is, and its work.
     pub post: Post,
+    /// The ends of the rings of its link's packets.
     pub links: Ends<Frame>,
+    /// The ends of the rings of its link's credits.
     pub credits: Ends<Limits>,
+    /// The ends of the rings between it and the ports of its switch.
     pub pairs: Ends<VettedFrame>,
 }
 

@@ -7,7 +7,8 @@ use port::Port;
 /// All that was a port's own while its worker ran. What is still in it was made, and ended nowhere.
 #[derive(Drop)]
 pub struct PortParts {
-    /// The port, with the report and the answer that came back to it, and its strays.
+    /// The port, with what came back to it, and its strays.
+    /// A report and an answer can have come back.
     pub port: Port,
     /// What waits to be sent, and what came and wasn't taken.
     pub side: LinkSide,

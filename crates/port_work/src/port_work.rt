@@ -48,8 +48,9 @@ impl Model for PortWork {
 }
 
 impl PortWork {
-    /// The work of a port that is at this side of a link, over the switches of its layout, with its way to the domains
-    /// and its end of the queue of violations.
+    /// The work of a port that is at this side of a link.
+    /// It stands over the switches of its layout, with its way to the domains and its end of the queue of
+    /// violations.
     pub fn new(
         port: Port,
         bridge: Arc<Bridge, Global>,

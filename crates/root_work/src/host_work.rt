@@ -7,6 +7,8 @@ use outboxes::OriginBox;
 /// injector's rings.
 #[derive(Drop)]
 pub struct HostWork {
+    /// What the host emitted, and the link hasn't taken yet.
     pub outbox: OriginBox,
+    /// The worker's ends of its injector's rings.
     pub ends: WorkerEnds,
 }

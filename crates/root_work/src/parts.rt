@@ -7,7 +7,8 @@ use link_side::LinkSide;
 /// All that was the root complex's own while its worker ran. What is still in it was made, and ended nowhere.
 #[derive(Drop)]
 pub struct RootParts {
-    /// Of each host what it emitted and the link didn't take, and the worker's ends of its injector's rings.
+    /// Of each host its outbox, and the worker's ends of its injector's rings.
+    /// The outbox has what the host emitted and the link didn't take.
     pub hosts: Vec<HostWork>,
     /// What waits to be sent, and what came and wasn't taken.
     pub side: LinkSide,

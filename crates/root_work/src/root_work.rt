@@ -50,8 +50,9 @@ impl Model for RootWork {
 }
 
 impl RootWork {
-    /// The work of the root complex with these hosts, at this side of the link to the top switch, over the switches of its
-    /// layout and the domains under locks. It has no strays. It takes no memory.
+    /// The work of the root complex with these hosts.
+    /// It is at this side of the link to the top switch, and stands over the switches of its layout and the
+    /// domains under locks. It has no strays. It takes no memory.
     pub fn new(
         alloc: Global,
         hosts: Vec<HostWork>,

@@ -18,7 +18,8 @@ pub enum Command {
 /// A line of a script that is no comment.
 #[derive(Debug, Drop)]
 pub struct Line {
-    /// Counted from 1, comments too.
+    /// The number of the line, counted from 1, comments too.
     pub number: u32,
+    /// What the line asks for.
     pub command: Command,
 }

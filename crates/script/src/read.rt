@@ -66,7 +66,8 @@ impl Script {
         &self.lines
     }
 
-    /// The same, for whoever has no more use of the script than to do what it asks for.
+    /// The same lines, taken out of the script.
+    /// This is for whoever has no more use of the script than to do what it asks for.
     pub fn into_lines(self) -> Vec<Line>
         ensures { result.items ≡ self }
     {

@@ -24,7 +24,8 @@ fn injector(running: &mut Running) -> Option<Injector> {
     running.injector(Origin::Function(Bdf::from_bits(0x0300)))
 }
 
-/// The first byte of data of the first completion, for which it looks at most 20,000 times, a millisecond apart.
+/// The first byte of data of the first completion.
+/// It looks for that at most 20,000 times, a millisecond apart.
 pub fn first_byte<C: Clock>(clock: &C, injector: &mut Injector) -> Option<u8> {
     for _ in 0..20_000 {
         if let Some(record) = injector.take_record() {

@@ -19,6 +19,7 @@ impl Gate for Open {
 /// Counts the turns that it lets through.
 #[derive(Drop)]
 pub struct Counting {
+    /// How many turns it let through.
     pub turns: AtomicU64,
 }
 
@@ -33,8 +34,11 @@ impl Gate for Counting {
 /// other has come, and counts as met if so.
 #[derive(Drop)]
 pub struct Meeting<C: Clock + Drop> {
+    /// The clock of its waits.
     pub clock: C,
+    /// How many ports have come.
     pub come: AtomicU64,
+    /// How many ports met the other.
     pub met: AtomicU64,
 }
 

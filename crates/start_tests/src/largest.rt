@@ -1,6 +1,7 @@
 //! A layout as large as one may be.
 
-/// Eight switches of eight ports each, seven of them below the first, and 57 functions of eight domains, each with a page of
+/// A layout of eight switches of eight ports each.
+/// Seven of the switches stand below the first. There are 57 functions of eight domains, each with a page of
 /// memory of its own.
 pub const LARGEST: &str = "pciefab 1
 frames 57

@@ -22,12 +22,19 @@ map 04:00.0 1 frame 1 rw
 /// How many there are of what is left of a fabric.
 #[derive(Clone, Copy, Debug, PartialEq, Eq)]
 pub struct Counts {
+    /// What is left of workers.
     pub workers: usize,
+    /// The ports' ends of the queue of violations.
     pub ports: usize,
+    /// Domains.
     pub domains: usize,
+    /// Rings of packets on links.
     pub links: usize,
+    /// Rings of credits.
     pub credits: usize,
+    /// Rings between the ports of switches.
     pub pairs: usize,
+    /// Violations that were reported.
     pub violations: usize,
 }
 

@@ -12,7 +12,7 @@ use std::sync::{Arc, Wait};
 use std::thread::Threads;
 use std::time::Clock;
 
-// What is left of the fabric of `SMALL`.
+/// What is left of the fabric of `SMALL`.
 pub const SMALL_COUNTS: Counts = Counts {
     workers: 6,
     ports: 3,

@@ -10,8 +10,11 @@ use std::time::{Clock, Duration};
 /// Counts its turns, for itself and for all.
 #[derive(Drop)]
 pub struct Counter {
+    /// Which worker it is.
     pub id: WorkerId,
+    /// How many turns it made.
     pub turns: u32,
+    /// How many turns all made.
     pub all: Arc<AtomicU64, Global>,
 }
 
@@ -45,7 +48,9 @@ impl Gate for OddTurns {
 /// Lets a turn through once two workers have come. It looks at most 1,000 times, a millisecond apart, and then skips it.
 #[derive(Drop)]
 pub struct Meeting<C: Clock + Drop> {
+    /// The clock of its waits.
     pub clock: C,
+    /// How many workers have come.
     pub come: AtomicU64,
 }
 

@@ -23,11 +23,14 @@ use std::time::Clock;
 /// no injector took.
 #[derive(Drop)]
 pub(crate) struct Begun {
+    /// The injectors that begins went by, in the order of their first use.
     pub injectors: Vec<Injector>,
+    /// How many begins no injector took, by the ID of function or host.
     pub refusals: Refusals,
 }
 
 impl Begun {
+    /// None was begun yet.
     pub fn new(alloc: Global) -> Begun
         ensures injectors { result.injectors.items ≡ [] }
         ensures refusals { result.refusals ≡ [] }

@@ -86,14 +86,15 @@ where
     driven(rt, alloc, running, &gate, lines)
 }
 
-/// Runs the fabric of a layout on threads of its own, each of which makes so many turns, and has it begin what a script
-/// asks for; its sweeps are passed over, since the workers move packets by themselves. Writes how many begins of each
-/// function and host were refused, and what the run ends in.
+/// Runs the fabric of a layout on threads of its own.
+/// Each of them makes so many turns. The fabric begins what a script asks for; the script's sweeps are passed
+/// over, since the workers move packets by themselves. It writes how many begins of each function and host were
+/// refused, and what the run ends in.
 ///
 /// # Errors
 ///
-/// As `run`, and `ThreadsFailed` where a thread can't be made, or a ring of begins stays full for a second while its worker
-/// makes turns. Whatever it answers, no thread is left.
+/// As `run`, and `ThreadsFailed` where a thread can't be made, or a ring of begins stays full for a second
+/// while its worker makes turns. Whatever it answers, no thread is left.
 pub fn threads<'a, R, F: FileGiver, W: Write>(
     rt: &R,
     alloc: Global,

@@ -30,6 +30,7 @@ impl Model for Refusals {
 }
 
 impl Refusals {
+    /// No refusal of any function or host.
     pub fn new(alloc: Global) -> Refusals
         ensures { result ≡ [] }
     {

@@ -74,9 +74,10 @@ fn deal_one<T: Drop>(
     give_in(workers, to, number, input)
 }
 
-/// Deals the ends of all rings out to so many workers, in the order of the table: the end to put into to the worker that
-/// its wire leads from, the other to the one that it leads to. A worker's lists have its ends in that order. Where memory
-/// was refused, all rings are let go.
+/// Deals the ends of all rings out to so many workers.
+/// It does so in the order of the table: the end to put into goes to the worker that its wire leads from, the
+/// other to the one that it leads to. A worker's lists have its ends in that order. Where memory was refused,
+/// all rings are let go.
 pub fn deal<T: Drop>(
     alloc: Global,
     count: usize,

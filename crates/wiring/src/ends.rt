@@ -90,7 +90,8 @@ impl<T: Drop> Ends<T> {
         }
     }
 
-    /// Takes the oldest item from the ring of the end at a place of `ins`, if there is such an end and an item waits.
+    /// Takes the oldest item from the ring of an end.
+    /// That is the end at this place of `ins`. Nothing is taken where there is no such end, or no item waits.
     #[tactic(auto, using(crate::proofs::Used::same_ins, crate::proofs::Used::same_received, crate::proofs::Used::pulled_at, crate::proofs::Used::has_items))]
     pub fn pull(&mut self, end: usize) -> Option<T>
         ensures tags { tags_of self.new ≡ tags_of self.old }

@@ -5,8 +5,9 @@ ghost use Rattle.wiring.specs.Names.{RingName};
 ghost use Rattle.wiring.specs.Wired.{AreWithin, dealt, no_tags, numbered, rows_from, rows_to, tag_of};
 ghost use Rattle.wiring.specs.declared.wire.Wire.{Wire};
 
-/// Of the rings of a table a worker is dealt an end to put into of each that leads from it, and an end to take from of
-/// each that leads to it, in the order of the table: so as many as there are such wires.
+/// A worker is dealt the ends of its wires, and no others.
+/// Of the rings of a table it is dealt an end to put into of each that leads from it, and an end to take from
+/// of each that leads to it, in the order of the table: so as many as there are such wires.
 pub fn a_worker_has_the_ends_of_its_wires()
     ensures outs { (count worker : ℕ) (table : List (Wire × RingName)) → AreWithin count (map (λ r. r.0) table)
         → (slice_index_or (dealt count table) worker no_tags).outs ≡ map tag_of (rows_from worker (numbered table)) }

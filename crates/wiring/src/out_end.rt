@@ -35,7 +35,8 @@ impl<T: Drop> OutEnd<T> {
         !is_full
     }
 
-    /// Puts an item behind the others, or gives it back where the ring is full, and counts that.
+    /// Puts an item behind the others, or gives it back.
+    /// It gives it back where the ring is full, and counts that.
     pub fn put(&mut self, item: T) -> Result<(), T>
         ensures tag { out_tag self.new ≡ out_tag self.old }
         ensures put { MatchResult result

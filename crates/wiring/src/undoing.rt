@@ -67,12 +67,14 @@ fn take_both<T: Drop>(workers: &mut Vec<Ends<T>>, from: usize, to: usize) -> (Ou
     (out, input)
 }
 
-/// Takes the ends of all rings back from the workers to which `deal` gave them, each end still in its place, and tells
-/// each ring, the last of the table first. `made` is a snapshot of the rings as they were laid, before they were dealt
-/// out. Whatever the workers put and took meanwhile, no ring is left out.
+/// Takes the ends of all rings back from the workers, and tells each ring.
+/// The workers are those to which `deal` gave them, each end still in its place. Of the rings the last of the
+/// table comes first. `made` is a snapshot of the rings as they were laid, before they were dealt out. Whatever
+/// the workers put and took meanwhile, no ring is left out.
 ///
-/// It answers an error where memory was refused, for the list of rings or for what is left in one. Then all rings are let
-/// go with what is in them, those too that had been told; the table and the snapshot are as they were.
+/// It answers an error where memory was refused, for the list of rings or for what is left in one. Then all
+/// rings are let go with what is in them, those too that had been told; the table and the snapshot are as they
+/// were.
 pub fn undo<T: Drop>(
     alloc: Global,
     made: &Snapshot<Vec<Laid<T>>>,

@@ -16,8 +16,11 @@ use wiring::Ends;
 /// The work of a port, of a function or of the root complex.
 #[derive(Drop)]
 pub enum Job {
+    /// The work of a port of a switch.
     Port(PortWork),
+    /// The work of a function.
     Function(FunctionWork),
+    /// The work of the root complex.
     Root(RootWork),
 }
 

@@ -6,6 +6,8 @@ use crew::WorkerId;
 /// Which worker it is, and its work.
 #[derive(Drop)]
 pub struct Post {
+    /// Which worker it is.
     pub id: WorkerId,
+    /// Its work.
     pub job: Job,
 }

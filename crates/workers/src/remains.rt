@@ -24,15 +24,20 @@ use std::alloc::Global;
 /// there.
 #[derive(Drop)]
 pub struct PortRemains {
+    /// The port, with its strays and what it holds.
     pub port: Port,
+    /// Its side of its link, with what waits there.
     pub side: LinkSide,
 }
 
 /// What is left of a worker's work.
 #[derive(Drop)]
 pub enum Parts {
+    /// Of a port's worker.
     Port(PortRemains),
+    /// Of a function's worker.
     Function(FunctionParts),
+    /// Of the worker of the root complex.
     Root(RootParts),
 }
 
@@ -41,13 +46,17 @@ pub enum Parts {
 pub struct Remains {
     /// Which worker it was.
     pub id: WorkerId,
+    /// What is left of its work.
     pub parts: Parts,
 }
 
-/// What is left of workers, and the ends of the queue of violations of the ports among them.
+/// What is left of workers, with the ends of the ports among them.
+/// These are ends of the queue of violations.
 #[derive(Drop)]
 pub struct AllRemains {
+    /// What is left of each worker, in their order.
     pub remains: Vec<Remains>,
+    /// The ends of the ports among them, in their order.
     pub reporters: Vec<QueueReporter>,
 }
 

@@ -12,7 +12,9 @@ use std::sync::Arc;
 /// The switches of the layout, which never change, and the domains, each under its lock.
 #[derive(Drop)]
 pub struct Shared {
+    /// The switches of the layout.
     pub bridge: Arc<Bridge, Global>,
+    /// The domains, each under its lock.
     pub locks: Arc<Locks, Global>,
 }
 

@@ -22,9 +22,9 @@ use std::alloc::Global;
 use std::marker::Model;
 use std::sync::Arc;
 
-/// Workers without the ends of their rings, and the monitor's end of the queue of violations, at which the ports among
-/// them have their seats. A contract sees of
-/// each worker what no turn changes, a `PostKept`.
+/// Workers without the ends of their rings, and the monitor's end.
+/// That is the end of the queue of violations, at which the ports among them have their seats. A contract sees
+/// of each worker what no turn changes, a `PostKept`.
 #[derive(Drop)]
 pub struct Staff {
     watch: Watch,

@@ -87,8 +87,9 @@ fn boxes_of(alloc: Global, layout: &Layout) -> Result<(Vec<OriginBox>, Vec<Origi
     Ok((boxes, hosts))
 }
 
-/// All workers of a layout, over what they share, and with what the layout gives each domain; and the injectors of its
-/// functions and hosts. It answers `NoMemory` where memory was refused.
+/// All workers of a layout, and the injectors of its functions and hosts.
+/// The workers stand over what they share, and have what the layout gives each domain. It answers `NoMemory`
+/// where memory was refused.
 pub fn staff_of(
     alloc: Global,
     layout: &Layout,
