@@ -90,8 +90,9 @@ impl AcsBlock {
         AcsBlock { control }
     }
 
-    /// The twelve bytes of the block of a port that controls egress (PCIe 4.0, 7.7.8.4): the header, the
-    /// capability register, the control register and the Egress Control Vector. Each is little-endian.
+    /// The twelve bytes of the block of a port that controls egress (PCIe 4.0, 7.7.8.4).
+    /// These are the header, the capability register, the control register and the Egress Control Vector. Each
+    /// is little-endian.
     pub fn with_egress(control: AcsControl, vector: u32) -> [u8; 12]
         ensures { result ≡ egress_block_bytes control vector }
     {
@@ -119,8 +120,9 @@ impl AcsBlock {
         ]
     }
 
-    /// The eight bytes of the block: the header, the capability register, and the control register,
-    /// which has just the bits that the capability has. Each is little-endian.
+    /// The eight bytes of the block (PCIe 4.0, 7.7.8).
+    /// These are the header, the capability register, and the control register, which has just the bits that
+    /// the capability has. Each is little-endian.
     pub fn bytes(&self) -> [u8; 8]
         ensures { result ≡ block_bytes self.now }
     {

@@ -95,8 +95,8 @@ impl Agents {
         Ok(())
     }
 
-    /// A function took a packet that its home has no case for: the function's domain gets the entry, and what
-    /// answers it waits of that function.
+    /// A function took a packet that its home has no case for.
+    /// The function's domain gets the entry, and what answers it waits in the function's outbox.
     pub fn alien_at_function<R: Wait>(
         &mut self,
         rt: &R,
@@ -127,8 +127,8 @@ impl Agents {
         Ok(())
     }
 
-    /// A port took a packet that it has no case for: the packet's home gets the entry. What answers it is the result,
-    /// and leaves by the port.
+    /// A port took a packet that it has no case for.
+    /// The packet's home gets the entry. What answers it is the result, and leaves by the port.
     pub fn alien_at_port<R: Wait>(
         &mut self,
         rt: &R,

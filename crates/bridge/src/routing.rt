@@ -104,9 +104,10 @@ impl Bridge {
         })
     }
 
-    /// Where the switch of this upstream port sends completions: at each of the 256 bus numbers, its downstream port whose
-    /// buses, from the secondary to the subordinate bus, have that number, if there is one (PCIe 4.0, 2.2.4.2 and 7.5.1.3).
-    /// None where the layout has no such switch.
+    /// Where the switch of this upstream port sends completions, by bus number.
+    /// At each of the 256 bus numbers is its downstream port whose buses, from the secondary to the subordinate
+    /// bus, have that number, if there is one (PCIe 4.0, 2.2.4.2 and 7.5.1.3). None where the layout has no
+    /// such switch.
     pub fn bus_table(&self, switch: PortId) -> Option<&[Option<PortId>]>
         ensures { option_copied result ≡ option_map (bus_table self.now.ports) (switch_at self.now.switches switch) }
     {
@@ -129,8 +130,9 @@ impl Bridge {
         route_among(&self.switches, ingress, Target::of(header))
     }
 
-    /// The domain that owns an ID: the domain whose host has it, if that owns a port, or the one that
-    /// owns the ports above its bus.
+    /// The domain that owns an ID, if any does.
+    /// It is the domain whose host has the ID, if that owns a port, or the one that owns the ports above its
+    /// bus.
     pub fn owner(&self, id: Bdf) -> Option<DomainId>
         ensures { result ≡ owner_of self.now.ports id }
     {

@@ -16,8 +16,9 @@ pub enum Target {
 }
 
 impl Target {
-    /// What a packet with this header is routed by: a memory request by its address, a completion by
-    /// the bus of the ID that it goes to. No other packet is routed.
+    /// What a packet with this header is routed by.
+    /// A memory request is by its address, a completion by the bus of the ID that it goes to. No other packet
+    /// is routed.
     pub fn of(header: &Header) -> Option<Target>
         ensures { result ≡ target_of header.now }
     {
@@ -29,7 +30,8 @@ impl Target {
         }
     }
 
-    /// Is it below this port: a bus among the port's buses, or an address in its window?
+    /// Is it below this port?
+    /// It is if it is a bus among the port's buses, or an address in its window.
     pub fn is_below(self, port: &DownstreamPort) -> bool
         ensures { result ≡ holds_target port.now self }
     {

@@ -12,8 +12,9 @@ use std::alloc::Global;
 use std::io;
 use std::io::Write;
 
-/// Writes what a fabric ends in: the violations that its ports reported, oldest first, and then each domain, by
-/// rising number. Where memory is refused before all of it stands ready, nothing is written.
+/// Writes what a fabric ends in.
+/// These are the violations that its ports reported, oldest first, and then each domain, by rising number.
+/// Where memory is refused before all of it stands ready, nothing is written.
 pub fn write_report<W: Write>(alloc: Global, out: &mut W, fabric: &Fabric) -> io::Result<()>
     ensures { OnOk result (Wrote (W.contents out.old) (W.contents out.new) (IsReport fabric.now)) }
 {

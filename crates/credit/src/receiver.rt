@@ -9,8 +9,8 @@ use crate::counters::{Counters, Limits};
 use fab_types::Cost;
 use std::marker::Model;
 
-/// What a receiver counts of one direction of a link: the credits of packets that it took, and the
-/// limit, which is the start and all that it freed.
+/// What a receiver counts of one direction of a link, in credits.
+/// It counts those of the packets that it took, and the limit, which is the start and all that it freed.
 #[derive(Clone, Copy, Debug, PartialEq, Eq)]
 pub struct Receiver {
     credits_received: Counters,

@@ -12,9 +12,9 @@ use crate::counters::{Counters, Credits, Limits};
 use fab_types::Cost;
 use std::marker::Model;
 
-/// What a sender counts of one direction of a link: the credits that it consumed, the limit that it was
-/// last told, and the limit at the start. Between the limit and what was sent there are never more
-/// credits than at the start, so no counter is ever misread.
+/// What a sender counts of one direction of a link, in credits.
+/// It counts those that it consumed, the limit that it was last told, and the limit at the start. Between the
+/// limit and what was sent there are never more credits than at the start, so no counter is ever misread.
 #[derive(Clone, Copy, Debug, PartialEq, Eq)]
 pub struct Sender {
     credits_consumed: Counters,
@@ -77,8 +77,9 @@ impl Sender {
         self.credits_consumed = self.credits_consumed.plus(cost);
     }
 
-    /// Takes the limits that the receiver tells, and answers whether they can be its limits: for each
-    /// kind no less than before, and no more beyond what was sent than at the start. Else nothing changes.
+    /// Takes the limits that the receiver tells, if they can be its limits.
+    /// They can be where for each kind they are no less than before, and no more beyond what was sent than at
+    /// the start. It answers whether they can; if not, nothing changes.
     pub fn update(&mut self, limits: Limits) -> bool
         ensures exact { IsTrue result ↔ IsUpdate self.old limits }
         ensures accepted { OnTrue result (self.new ≡ record self.old { credit_limit = limits }) }

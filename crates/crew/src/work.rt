@@ -23,8 +23,9 @@ pub trait Work {
         ensures { kept self.new ≡ kept self.old };
 }
 
-/// The promise of a worker's thread: the worker that comes back has what no turn changes. It holds the worker as it was
-/// when its thread began, for contracts alone, and has no bytes.
+/// The promise of a worker's thread.
+/// The worker that comes back has what no turn changes. The promise holds the worker as it was when its thread
+/// began, for contracts alone, and has no bytes.
 #[derive(Drop)]
 pub struct Keeps<W>(pub Snapshot<W>);
 

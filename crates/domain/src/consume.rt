@@ -133,11 +133,12 @@ impl Domain {
         Ok(is_recorded)
     }
 
-    /// A packet is stopped by its sender's first port: it leaves flight, and a non-posted request is
-    /// answered by that port with a completion for the sender, whose frame is the result. It is `Stray`
-    /// where the frame is not of this domain, or its packet is not in flight or not stopped there.
-    /// `NoMemory` comes only where an answer is made and memory was refused. Then nothing changes, and
-    /// the frame is given back. The port is the sender's first one, which the layout tells too.
+    /// A packet is stopped by its sender's first port.
+    /// It leaves flight, and a non-posted request is answered by that port with a completion for the sender,
+    /// whose frame is the result. It is `Stray` where the frame is not of this domain, or its packet is not in
+    /// flight or not stopped there. `NoMemory` comes only where an answer is made and memory was refused. Then
+    /// nothing changes, and the frame is given back. The port is the sender's first one, which the layout tells
+    /// too.
     pub fn refuse<R: Wait>(
         &mut self,
         rt: &R,

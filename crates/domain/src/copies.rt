@@ -4,7 +4,8 @@ ghost use Rattle.std.specs.Prelude.{◌≡◌, ◌≤◌, length};
 
 use arrayvec::ArrayVec;
 
-/// A copy of the bytes of a packet, which takes no memory but its own: no packet has more than 272.
+/// A copy of a packet's bytes, which takes no memory but its own.
+/// No packet has more than 272.
 pub fn copied(bytes: &[u8]) -> ArrayVec<u8, 272>
     requires { length bytes.now ≤ 272 }
     ensures { result.items ≡ bytes.now }

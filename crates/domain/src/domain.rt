@@ -20,8 +20,8 @@ use std::alloc::Global;
 use std::marker::Model;
 use std::sync::Arc;
 
-/// A domain (a tenant): its state, and the journal of what it did, of which the state is the replay.
-/// A contract sees a `DomainView`.
+/// A domain (a tenant): its state, and the journal of what it did.
+/// The state is the replay of the journal. A contract sees a `DomainView`.
 #[derive(Drop)]
 pub struct Domain {
     pub(crate) start: Start,
@@ -104,7 +104,8 @@ impl Domain {
         self.state.register_page(function)
     }
 
-    /// The bytes of the packet that is in flight under this number, if one is: at most 272.
+    /// The bytes of the packet that is in flight under this number.
+    /// There are at most 272, and none where no packet is in flight under it.
     pub fn bytes(&self, number: u64) -> Option<&[u8]>
         ensures short { IfSome result (λ bytes. length bytes.now ≤ 272) }
         ensures value { option_copied result ≡ option_map (λ e. e.bytes) (item_at self.now.state.flight number) }

@@ -1,7 +1,8 @@
 use fab_types::{Bdf, HostAccess, PacketBytes, Parties, Place};
 
-/// What a domain did, as its journal keeps it: a begin with its inputs, the end of a packet by its
-/// number alone, or what a packet did for which its home's journal has no entry.
+/// What a domain did, as its journal keeps it.
+/// It is a begin with its inputs, the end of a packet by its number alone, or what a packet did for which its
+/// home's journal has no entry.
 #[derive(Debug, Drop)]
 pub enum Entry {
     /// This function submitted these bytes.

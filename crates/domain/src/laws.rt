@@ -18,8 +18,8 @@ ghost use Rattle.request_handling.specs.Takers.{is_at_port};
 
 use crate::domain::Domain;
 
-/// Domains of one share whose journals are equal have equal states: memory, registers, records, open
-/// Tags, counts, and what is in flight.
+/// Domains of one share whose journals are equal have equal states.
+/// A state is memory, registers, records, open Tags, counts, and what is in flight.
 pub fn equal_journals_leave_equal_states(one: &Domain, other: &Domain)
     requires share { one.now.share ≡ other.now.share }
     requires journal { one.now.journal ≡ other.now.journal }
@@ -40,8 +40,9 @@ pub fn guarded_journals_have_no_alien_entry(domain: &Domain)
     let _ = domain.journal();
 }
 
-/// What a journal leads to, of any share that it replays for: at most three packets for each begin and two for
-/// each alien packet, and no more begins than the budget.
+/// How much a journal leads to, of any share that it replays for.
+/// There are at most three packets for each begin and two for each alien packet, and no more begins than the
+/// budget.
 pub fn begins_bound_what_is_emitted()
     ensures packets { (share : Share) (journal : List Entry) (state : Alone) → replay share journal ≡ Some state → length state.flight ≤ 3 * state.counts.begins + 2 * aliens_in journal }
     ensures begins { (share : Share) (journal : List Entry) (state : Alone) → replay share journal ≡ Some state → state.counts.begins ≤ share.budget }
@@ -53,14 +54,17 @@ pub fn ports_answer_by_completions()
     ensures { (share : Share) (state : Alone) (place : Place) (sender : Parties) (bytes : List ℕ) (made : Change) → is_at_port share place ≡ true → change share state (Alien place sender bytes) ≡ Some made → IfSome made.emission (λ e. (cost_of e.bytes).class ≡ Completion) }
 {}
 
-/// Of any journal that replays: each packet that the domain made is in flight, or exactly one entry of the journal
-/// consumed it, and never both. Nothing else was consumed.
+/// Each packet that a domain made is in flight, or was consumed once.
+/// That is of any journal that replays: it is in flight, or exactly one entry of the journal consumed it, and
+/// never both. Nothing else was consumed.
 pub fn emissions_are_consumed_once()
     ensures { (share : Share) (journal : List Entry) (state : Alone) → replay share journal ≡ Some state → AreConsumedOnce journal state }
 {}
 
-/// Of any journal that replays: the packets that it sent are as many as the domain made, what is in flight stands among
-/// them at the place of its number, and what stood in a function's outbox as sent by a function was sent by that one.
+/// The packets that a journal sent are those that its domain made.
+/// That is of any journal that replays: they are as many as the domain made, and what is in flight stands among
+/// them at the place of its number. What stood in a function's outbox as sent by a function was sent by that
+/// one.
 pub fn sent_packets_are_those_in_flight()
     ensures { (share : Share) (journal : List Entry) (state : Alone) → replay share journal ≡ Some state → AreSent share journal state }
 {}

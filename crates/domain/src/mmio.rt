@@ -49,12 +49,15 @@ impl Domain {
         Ok((tag, bar))
     }
 
-    /// The domain's host reads or writes the register page of a function: the request bears the host's
-    /// ID, all its bytes are enabled, and it goes to the function's BAR plus the offset. A read takes
-    /// the lowest free of the Tags 0 to 31, a write has Tag 0. It is refused with the first fault that
-    /// applies: `NotYours` (the domain has no such function), `Range` (the offset is no multiple of 4,
-    /// the size isn't 1 to 64 whole DW, or it passes the page's end), `NoTag` (a read, and all 32 are
-    /// open), `BudgetSpent`; or `NoMemory` where memory was refused. Then nothing changes.
+    /// The domain's host reads or writes the register page of a function.
+    /// The request bears the host's ID, all its bytes are enabled, and it goes to the function's BAR plus the
+    /// offset. A read takes the lowest free of the Tags 0 to 31, a write has Tag 0. It is refused with the
+    /// first fault that applies; then nothing changes:
+    ///
+    /// - `NotYours`: the domain has no such function.
+    /// - `Range`: the offset is no multiple of 4, the size isn't 1 to 64 whole DW, or it passes the page's end.
+    /// - `NoTag`: a read, and all 32 are open.
+    /// - `BudgetSpent`; or `NoMemory` where memory was refused.
     pub fn mmio<R: Wait>(&mut self, rt: &R, access: &HostAccess) -> Result<Frame, MmioFault>
         ensures ok { IfOk result (λ frame. Makes self.old (Mmio access.now) self.new (Some frame)) }
 

@@ -19,12 +19,13 @@ use std::sync::{Arc, Wait};
 impl Domain {
     ghost use Rattle.domain.specs.Replays.{Follows, IsFirstIllegal};
 
-    /// Does what an entry says, and adds it to the journal: one step of a replay.
+    /// Does what an entry says, and adds it to the journal.
+    /// That is one step of a replay.
     ///
     /// # Errors
     ///
-    /// `Illegal` where the machine has no such entry in this state, and `NoMemory` where memory was refused. Then
-    /// nothing changes.
+    /// `Illegal` where the machine has no such entry in this state, and `NoMemory` where memory was refused.
+    /// Then nothing changes.
     pub fn apply<R: Wait>(&mut self, rt: &R, entry: &Entry) -> Result<(), EntryFault>
         ensures ok { OnOk result (Follows self.old entry.now self.new) }
         ensures err { OnErr result (self.new ≡ self.old) }

@@ -23,7 +23,8 @@ pub fn size_of(operation: &Operation) -> u64
     }
 }
 
-/// May an access of so many bytes begin at this offset: whole DW, 1 to 64, within the page?
+/// May an access of so many bytes begin at this offset?
+/// It has to be of whole DW, 1 to 64, within the page.
 pub fn is_in_page(offset: u16, size: u64) -> bool
     ensures { result ≡ is_in_page offset size }
 {

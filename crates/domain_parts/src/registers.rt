@@ -51,7 +51,8 @@ pub(crate) fn access(functions: &mut [Function], id: Bdf, request: &TlpView)
     }
 }
 
-/// A completion closed a Tag of this owner: the data of a read line go to its function's page.
+/// A completion closed a Tag of this owner.
+/// The data of a read line go to its function's page.
 pub fn complete(
     functions: &mut [Function],
     owner: Origin,

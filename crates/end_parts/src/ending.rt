@@ -27,7 +27,8 @@ pub enum Ending {
     Alien,
     /// Nobody had a case for it, and it is kept.
     Stray,
-    /// It stands where it stood: memory was refused, or it is a completion, whose record would have no place.
+    /// It stands where it stood.
+    /// Memory was refused, or it is a completion, whose record would have no place.
     Waits,
     /// There was none.
     Idle,

@@ -22,7 +22,8 @@ pub enum Serving {
     Begun,
     /// The domain refused it, and it is counted.
     Refused,
-    /// Memory was refused, to its call or to places in the outbox: it is held, or stands where it stood.
+    /// Memory was refused, to its call or to places in the outbox.
+    /// It is held, or stands where it stood.
     Waits,
     /// There was none.
     Idle,

@@ -9,8 +9,9 @@ ghost use Rattle.fab_types.specs.Id.{id_of, bus_of, device_of, function_of, host
 use std::fmt;
 use std::marker::Model;
 
-/// The ID of a function or a port: bus (8 bits), device (5 bits) and function (3 bits), as the 16
-/// bits in which every header carries it (PCIe 4.0, 2.2.4.2 and 2.2.6.2). A contract sees the number.
+/// The ID of a function or a port (PCIe 4.0, 2.2.4.2 and 2.2.6.2).
+/// It is bus (8 bits), device (5 bits) and function (3 bits), as the 16 bits in which every header carries it.
+/// A contract sees the number.
 #[derive(Clone, Copy, Debug, PartialEq, Eq, PartialOrd, Ord, Hash)]
 pub struct Bdf(u16);
 
@@ -155,7 +156,8 @@ impl DomainId {
         number
     }
 
-    /// The ID under which the host of this domain makes requests: device `d` of bus 00.
+    /// The ID under which the host of this domain makes requests.
+    /// It is device `d` of bus 00.
     pub fn host(self) -> Bdf
         ensures { result ≡ host_of self }
     {

@@ -21,8 +21,8 @@ use std::sync::Wait;
 pub enum Comparison {
     /// The domain's journals differ.
     JournalsDiffer(Fabric, Fabric),
-    /// The domain's journals are equal, and with them all that its state holds: memory, registers, records, open
-    /// Tags, counts, and what is in flight.
+    /// The domain's journals are equal, and with them its states.
+    /// That is all that a state holds: memory, registers, records, open Tags, counts, and what is in flight.
     Equal(Fabric, Fabric),
 }
 

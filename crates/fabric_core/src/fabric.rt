@@ -42,8 +42,9 @@ use std::marker::Model;
 use std::sync::Wait;
 use whereabouts::whereabouts_of;
 
-/// A fabric: the links and switches of a layout, its domains with what they have emitted, the violations that
-/// its ports reported, and the packets that the host or a function has no case for. A contract sees a `World`.
+/// A fabric: the links and switches of a layout, and its domains.
+/// It also has what the domains have emitted, the violations that its ports reported, and the packets that the
+/// host or a function has no case for. A contract sees a `World`.
 #[derive(Drop)]
 pub struct Fabric {
     pub(crate) interconnect: Interconnect,
@@ -125,14 +126,16 @@ impl Fabric {
         Some(self.interconnect.credits_at(end))
     }
 
-    /// Where the packets of a domain stand: the number of each that waits in an outbox or at either end of a link, or is on
-    /// a wire, with that place, by rising numbers. Each of these is in flight. In a guarded fabric they are all that the
-    /// domain has in flight, and each stands at that place alone. In another a domain may have more in flight that stands at
-    /// no place: an entry of an alien packet took it, or nobody had a case for it.
+    /// Where the packets of a domain stand, by rising numbers.
+    /// It is the number of each that waits in an outbox or at either end of a link, or is on a wire, with that
+    /// place. Each of these is in flight. In a guarded fabric they are all that the domain has in flight, and
+    /// each stands at that place alone. In another a domain may have more in flight that stands at no place: an
+    /// entry of an alien packet took it, or nobody had a case for it.
     ///
     /// # Errors
     ///
-    /// `NoDomain` exactly where the domain owns no port of the layout; `NoMemory` where memory for the answer was refused.
+    /// `NoDomain` exactly where the domain owns no port of the layout; `NoMemory` where memory for the answer
+    /// was refused.
     pub fn places(&self, alloc: Global, domain: DomainId) -> Result<Vec<(u64, Place)>, PlacesFault>
         ensures domain { (result ≡ Err PlacesFault.NoDomain) ↔ (domain_of self.now domain ≡ None) }
         ensures places { IfOk result (λ named. AreWhereabouts (standing_at self.now) domain named.items) }
@@ -159,8 +162,9 @@ impl Fabric {
         home(&self.interconnect, &self.agents, event)
     }
 
-    /// Of which classes a packet may leave this station (PCIe 4.0, 2.4.1): its oldest of the class, unless an older posted
-    /// one waits there. An event that takes a packet of another class there would answer `Idle`.
+    /// Of which classes a packet may leave this station (PCIe 4.0, 2.4.1).
+    /// It is the station's oldest of the class, unless an older posted one waits there. An event that takes a
+    /// packet of another class there would answer `Idle`.
     pub fn leaving(&self, station: &Station) -> LeavingClasses
         ensures value { AreLeaving self.now station.now result }
         ensures idle { (class : Class) → has result class ≡ false → StepsTo self.now (taking station.now class) Idle self.now }

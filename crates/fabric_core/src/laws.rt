@@ -26,8 +26,9 @@ ghost use Rattle.fabric_core.specs.Soundness.{IsGuardedFabric};
 ghost use Rattle.fabric_core.specs.TakenOut.{CanBeLeft, CannotTell};
 ghost use Rattle.fabric_core.specs.World.{World, is_guarded, world_of};
 
-/// Every event keeps what a fabric keeps: each packet in flight stands in exactly one place, or was lost as an alien
-/// packet, which in a guarded layout none is.
+/// Every event keeps what a fabric keeps.
+/// Each packet in flight stands in exactly one place, or was lost as an alien packet, which in a guarded layout
+/// none is.
 pub fn every_event_keeps_the_invariant()
     ensures { (old new : World) (event : Event) → IsConsistent old → effect old event ≡ Some new → IsConsistent new }
 {}
@@ -44,8 +45,8 @@ pub fn fabrics_start_sound()
     ensures { (platform : Platform) → IsGuarded platform → IsGuardedFabric (world_of platform) }
 {}
 
-/// Every event keeps a guarded fabric: each packet goes on to where somebody has a case for it, and none is ever
-/// stray.
+/// Every event keeps a guarded fabric.
+/// Each packet goes on to where somebody has a case for it, and none is ever stray.
 pub fn guarded_fabrics_stay_sound()
     ensures { (old new : World) (event : Event) → IsConsistent old → IsGuardedFabric old → effect old event ≡ Some new → IsGuardedFabric new }
 {}
@@ -97,9 +98,10 @@ pub fn new_packets_stand_behind()
         → (places : List Place) → GoesBy (fabric.guarded guarded).platform d.share.domain pair.first places → KeepsToWay old d places n → OrderOf new d places n m }
 {}
 
-/// Every event keeps a fabric, of any layout: what `every_event_keeps_the_invariant` says, and in a guarded layout also that
-/// each packet is where somebody has a case for it, that each posted packet in flight stands on its way, and that two
-/// packets of a domain that keep their order are in turn there, and were consumed in it.
+/// Every event keeps a fabric, of any layout.
+/// It keeps what `every_event_keeps_the_invariant` says, and in a guarded layout also that each packet is where
+/// somebody has a case for it, that each posted packet in flight stands on its way, and that two packets of a
+/// domain that keep their order are in turn there, and were consumed in it.
 pub fn every_event_keeps_a_fabric()
     ensures { (old new : World) (event : Event) → IsFabric old → effect old event ≡ Some new → IsFabric new }
 {}
@@ -113,8 +115,8 @@ pub fn other_domains_can_be_taken_out()
         → Run (world_of platform) events outcomes first → (d : ℕ) → CannotTell d (world_of platform) events outcomes first }
 {}
 
-/// What `other_domains_can_be_taken_out` leaves of a run can be run: there is a run of it from the same start in which no
-/// event is refused memory.
+/// What `other_domains_can_be_taken_out` leaves of a run can be run.
+/// There is a run of it from the same start in which no event is refused memory.
 pub fn what_is_left_can_be_run()
     ensures { (platform : Platform) → IsGuarded platform → (events : List Event) (outcomes : List Outcome) (first : World)
         → Run (world_of platform) events outcomes first → (d : ℕ) → CanBeLeft d (world_of platform) events outcomes }

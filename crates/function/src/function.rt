@@ -16,8 +16,8 @@ use std::alloc::Global;
 use std::marker::Model;
 use tlp_view::{CplBuf, Kind, TlpView};
 
-/// A function: its ID and its register page of 4,096 bytes, in which a DMA program of 16 lines and
-/// its buffer stand. A contract sees the ID and the bytes.
+/// A function: its ID and its register page of 4,096 bytes.
+/// A DMA program of 16 lines and its buffer stand in the page. A contract sees the ID and the bytes.
 #[derive(Drop)]
 pub struct Function {
     id: Bdf,
@@ -106,8 +106,9 @@ impl Function {
         }
     }
 
-    /// What answers a request for the page: the completion of a read of at most 64 DW, and nothing
-    /// for a write. The address counts modulo 4,096.
+    /// What answers a request for the page, if anything does.
+    /// It is the completion of a read of at most 64 DW, and nothing for a write. The address counts modulo
+    /// 4,096.
     pub fn answer(&self, request: &TlpView) -> Option<CplBuf>
         requires { IsAccess request.now }
         ensures { result ≡ answer self.now.0 self.now.1 request.now }
@@ -132,8 +133,8 @@ impl Function {
         answer
     }
 
-    /// A completion has closed this Tag of the function: the data of a read line go to the buffer,
-    /// or the program ends.
+    /// A completion has closed this Tag of the function.
+    /// The data of a read line go to the buffer, or the program ends.
     pub fn completed(&mut self, tag: OpenTag, status: Status, payload: &[u8])
         ensures { self.new ≡ (self.old.0, closed_by self.old.1 tag.usage status payload.now) }
     {

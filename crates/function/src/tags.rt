@@ -15,7 +15,8 @@ pub enum TagUse {
     Line(u16, u8),
 }
 
-/// A Tag that a function or a domain's host has open: a completion is awaited (PCIe 4.0, 2.2.6.2).
+/// A Tag that a function or host has open (PCIe 4.0, 2.2.6.2).
+/// The host is a domain's. A completion is awaited.
 #[derive(Clone, Copy, Debug, PartialEq, Eq)]
 pub struct OpenTag {
     /// The function or host that has it open.

@@ -23,8 +23,9 @@ use wiring::Ends;
 // How often a turn goes round while something moves.
 const ROUNDS: usize = 16;
 
-/// A function with all that is its own: its outbox, its ends of its injector's rings, its side of its link, the switches of
-/// the layout, its way to the domains, and the packets that nobody had a case for. The ends of links' rings that it has are
+/// A function with all that is its own.
+/// It has its outbox, its ends of its injector's rings, its side of its link, the switches of the layout, its
+/// way to the domains, and the packets that nobody had a case for. The ends of links' rings that it has are
 /// lent to each call. A contract sees a `FunctionWorkView`: what no turn changes, and all that is its own.
 #[derive(Drop)]
 pub struct FunctionWork {

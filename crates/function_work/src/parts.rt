@@ -17,7 +17,8 @@ pub struct FunctionParts {
     pub side: LinkSide,
     /// The packets that nobody had a case for.
     pub strays: Vec<Frame>,
-    /// The worker's end of the ring of begins: how many were accepted and refused, and whether one is held.
+    /// The worker's end of the ring of begins.
+    /// It tells how many were accepted and refused, and whether one is held.
     pub begins: BeginRing,
     /// The worker's end of the ring of records.
     pub records: RecordRing,

@@ -130,11 +130,14 @@ pub fn functions_take()
         → is_reply frame.head.header ≡ false → replay (share_of_domain platform frame.domain) journal ≡ Some state → Flies state frame → IsLegal platform state frame (Carry frame.number) }
 {}
 
-/// What a domain's machine emits is sound on the link that it enters: what a function sends on its own
-/// link, up; an access of the host on the host's link, down; what answers a sound request at the host, or
-/// goes on to a function in its place, on the host's link, down; a function's answer to a sound request
-/// on its own link, up; and a port's answer to what it stopped on the link below it, down. Completions
-/// are answered by nothing. That what is made is well made, as a domain keeps it, is a premise.
+/// What a domain's machine emits is sound on the link that it enters.
+///
+/// - What a function sends is on its own link, up; and so is its answer to a sound request.
+/// - An access of the host is on the host's link, down; and so is what answers a sound request at the host, or
+///   goes on to a function in its place.
+/// - A port's answer to what it stopped is on the link below it, down.
+///
+/// Completions are answered by nothing. That what is made is well made, as a domain keeps it, is a premise.
 pub fn emissions_are_sound()
     ensures submitted { (platform : Platform) (domain function number : ℕ) (bytes : List ℕ) (state : Alone) (made : Change) (emission : Emission) → IsGuarded platform
         → change (share_of_domain platform domain) state (Submit function bytes) ≡ Some made → made.emission ≡ Some emission
@@ -160,17 +163,18 @@ pub fn emissions_are_sound()
     ensures delivered { (share : Share) (state : Alone) (number : ℕ) (made : Change) → change share state (Deliver number) ≡ Some made → made.emission ≡ None }
 {}
 
-/// Each function of a guarded layout has a way up to the host: the links from its own on, each followed
-/// by the one above it, up to that between the top switch and the host, which has none above it. Each
-/// link has one way at most.
+/// Each function of a guarded layout has a way up to the host.
+/// These are the links from its own on, each followed by the one above it, up to that between the top switch
+/// and the host, which has none above it. Each link has one way at most.
 pub fn functions_have_ways()
     ensures way { (platform : Platform) (domain function : ℕ) → IsGuarded platform → IsFunctionOf platform domain function → (links : List ℕ) × IsWay platform function links }
     ensures only { (platform : Platform) (lower : ℕ) (one other : List ℕ) → IsGuarded platform → IsWay platform lower one → IsWay platform lower other → one ≡ other }
     ensures top { (platform : Platform) → IsGuarded platform → link_above platform top_id ≡ None }
 {}
 
-/// A way has no link twice: of two of its links the later has the lower bus. It starts with the link that
-/// it is the way from, and behind its first comes the way from the link above.
+/// A way has no link twice.
+/// Of two of its links the later has the lower bus. It starts with the link that it is the way from, and behind
+/// its first comes the way from the link above.
 pub fn ways_are_simple()
     ensures falls { (platform : Platform) (lower first : ℕ) (links : List ℕ) → IsWay platform lower (first ∷ links) → All (λ (link : ℕ). bus_of link < bus_of first) links }
     ensures places { (platform : Platform) (lower : ℕ) (links : List ℕ) (earlier later one other : ℕ) → IsWay platform lower links → earlier < later → slice_get links earlier ≡ Some one → slice_get links later ≡ Some other → bus_of other < bus_of one }

@@ -63,7 +63,8 @@ impl HostTable {
         Ok(HostTable { lines, index })
     }
 
-    /// The lines of a requester in groups of 512 pages, by rising number: none where it has no line.
+    /// The lines of a requester in groups of 512 pages, by rising number.
+    /// There are none where it has no line.
     pub fn groups(&self, requester: Bdf) -> &[Group]
         ensures groups { AreGroups self.now requester result.now }
         ensures once { MapsOnce self.now }

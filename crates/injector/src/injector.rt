@@ -66,8 +66,9 @@ impl Injector {
     ghost use Rattle.injector.specs.Asks.{mmio_ask, submit_ask, tick_ask};
     ghost use Rattle.injector.specs.Injectors.{HasNoPlace, HasPlace, Injects, IsOpened, SameButRecords, SendsNothing};
 
-    /// Makes the rings of an origin: room for 16,384 begins, and for as many records as its domain's budget. It answers
-    /// `NoMemory` where memory was refused.
+    /// Makes the rings of an origin.
+    /// They have room for 16,384 begins, and for as many records as its domain's budget. It answers `NoMemory`
+    /// where memory was refused.
     pub fn open(
         alloc: Global,
         origin: Origin,
@@ -197,7 +198,8 @@ impl Injector {
         }
     }
 
-    /// The oldest record that waits, if one does: each is given once, in the order of the deliveries.
+    /// The oldest record that waits, if one does.
+    /// Each is given once, in the order of the deliveries.
     pub fn take_record(&mut self) -> Option<Record>
         ensures same { SameButRecords self.old self.new }
         ensures taken { MatchOption result

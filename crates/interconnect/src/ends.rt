@@ -24,7 +24,8 @@ use link::Simplex;
 use topology::LinkEnd;
 
 impl Interconnect {
-    /// The direction of a link that is sent from this end: what waits and travels there.
+    /// The direction of a link that is sent from this end.
+    /// It has what waits and travels there.
     pub fn direction_at(&self, end: LinkEnd) -> &Simplex
         requires { IsEnd (self.now.tree).outputs end }
         ensures { channel result.now ≡ channel_at (channels self.now) end }

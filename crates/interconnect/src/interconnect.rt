@@ -35,8 +35,9 @@ use std::marker::Model;
 use std::sync::Wait;
 use topology::{Link, LinkEnd, Topology};
 
-/// The links and switches of a layout (PCIe 4.0, 1.3): what waits and travels on each direction of each
-/// link, and the ports of the switches. A contract sees a `InterconnectView`.
+/// The links and switches of a layout (PCIe 4.0, 1.3).
+/// It has what waits and travels on each direction of each link, and the ports of the switches. A contract sees
+/// a `InterconnectView`.
 #[derive(Drop)]
 pub struct Interconnect {
     topology: Topology,
@@ -73,7 +74,9 @@ impl Interconnect {
         })
     }
 
-    /// The domain that owns an ID: as that of its host, if it owns a port, or by the ports above its bus.
+    /// The domain that owns an ID, if any does.
+    /// It is the domain whose host has the ID, if that owns a port, or the one that owns the ports above its
+    /// bus.
     pub fn owner(&self, id: Bdf) -> Option<DomainId>
         ensures { result ≡ owner_of (self.now.routes).ports id }
     {
@@ -195,9 +198,10 @@ impl Interconnect {
         self.topology.places()[index].input
     }
 
-    /// What the port of this ID is about to lose: the eligible packet of a class that came into it and that
-    /// it has no case for. None where the packet goes on or is stopped by the port, where no packet is
-    /// eligible, and where there is no such port or nothing comes into it.
+    /// What the port of this ID is about to lose, if anything.
+    /// That is the eligible packet of a class that came into it and that it has no case for. None where the
+    /// packet goes on or is stopped by the port, where no packet is eligible, and where there is no such port
+    /// or nothing comes into it.
     pub fn lost_at(&mut self, id: PortId, class: Class) -> Option<Lost>
         ensures value { result ≡ lost_at self.old id class }
         ensures input { IfSome result (λ lost. IsEnd (self.old.tree).outputs lost.input) }
@@ -214,9 +218,9 @@ impl Interconnect {
         lost_by(&self.ports[index], &self.bridge, place.node, input, &head)
     }
 
-    /// The turn of the port of this ID, as `Port::turn` does it: packets come into it from the receiver of
-    /// the direction that leads there, and go into the senders of its switch. `Idle` where there is no such
-    /// port, and where nothing stands at the other end of its link.
+    /// The turn of the port of this ID, as `Port::turn` does it.
+    /// Packets come into it from the receiver of the direction that leads there, and go into the senders of its
+    /// switch. `Idle` where there is no such port, and where nothing stands at the other end of its link.
     pub fn pass<W: Wait, D: Desk, R: Reporter>(
         &mut self,
         rt: &W,

@@ -16,8 +16,8 @@ pub fn entries_are_read_back()
     ensures { (domain : ℕ) (entry : Entry) → IsDomain domain → IsLegible entry → entry_of domain (entry_text domain entry) ≡ Some entry }
 {}
 
-/// A law: the text of a journal that can be replayed, and that has few enough entries, is read as that
-/// journal.
+/// A law: the text of a journal is read as that journal.
+/// The journal is one that can be replayed, and that has few enough entries.
 pub fn journals_are_read_back()
     ensures { (share : Share) (journal : List Entry) (s : Alone) → IsDomain share.domain → All IsLegible journal → 2 * length journal + 1 ≤ 16777216 → replay share journal ≡ Some s → IsReadBack share journal }
 {}

@@ -80,8 +80,8 @@ fn write_bytes<W: Write>(out: &mut W, bytes: &[u8]) -> io::Result<()>
     }
 }
 
-/// Writes the comment on the packet of this number, which has these bytes: its kind, whose it is, and where
-/// it goes or how it ended.
+/// Writes the comment on the packet of this number, with these bytes.
+/// It says the packet's kind, whose it is, and where it goes or how it ended.
 ///
 /// # Errors
 ///

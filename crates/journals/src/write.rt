@@ -15,8 +15,9 @@ use std::io;
 use std::io::{ErrorKind, Write};
 use std::sync::Wait;
 
-/// Writes the journal of a domain: a line for each entry, behind it a comment on the packet that it made, and last
-/// what is in flight. `JournalText::read` reads it as the same entries.
+/// Writes the journal of a domain.
+/// It has a line for each entry, behind it a comment on the packet that it made, and last what is in flight.
+/// `JournalText::read` reads it as the same entries.
 ///
 /// # Errors
 ///

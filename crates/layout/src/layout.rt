@@ -10,8 +10,8 @@ use platform::{
 use std::alloc::Global;
 use std::marker::Model;
 
-/// A platform that was read from a layout text: switches, downstream ports, functions, and what each
-/// domain may reach.
+/// A platform that was read from a layout text.
+/// It has switches, downstream ports, functions, and what each domain may reach.
 #[derive(Drop)]
 pub struct Layout {
     pub(crate) version: LayoutVersion,

@@ -31,8 +31,9 @@ impl Start {
         port_with_secondary(self.ports(), function.bus()).copied()
     }
 
-    /// The domain that owns an ID: the domain whose host has it, if that owns a port, or the one that
-    /// owns the ports above its bus.
+    /// The domain that owns an ID, if any does.
+    /// It is the domain whose host has the ID, if that owns a port, or the one that owns the ports above its
+    /// bus.
     pub fn owner(&self, id: Bdf) -> Option<DomainId>
         ensures { result ≡ owner_of self.now.ports id }
     {

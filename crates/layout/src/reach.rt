@@ -28,8 +28,9 @@ fn function_at(ports: &[DownstreamPort], functions: &[EndpointFunction], bus: u8
 }
 
 impl Start {
-    /// The function or host that an ID leads to: the domain's host, if it is that host's ID, or the
-    /// function whose first port has the ID's bus below it.
+    /// The function or host that an ID leads to, if any.
+    /// It is the domain's host, if the ID is that host's, or the function whose first port has the ID's bus
+    /// below it.
     pub fn reach(&self, id: Bdf) -> Option<Origin>
         ensures { result ≡ reach self.now id }
     {

@@ -13,7 +13,8 @@ use platform::{DownstreamPort, EndpointFunction, MapTarget, Mapping, Rights, Swi
 use std::alloc::Global;
 use std::marker::Model;
 
-/// What a layout gives one domain: its budget, frames and mappings; and the whole tree of ports.
+/// What a layout gives one domain.
+/// That is its budget, frames and mappings; and the whole tree of ports.
 #[derive(Drop)]
 pub struct Start {
     domain: DomainId,
@@ -38,9 +39,10 @@ impl Model for Start {
 }
 
 impl Start {
-    /// The start of domain 1 in the smallest platform: a port with all controls set, above it one
-    /// switch, below it function 03:00.0, whose page 1 is mapped to frame 0 for reads and writes. Its
-    /// budget is 256 begins. It answers `NoMemory` where memory was refused.
+    /// The start of domain 1 in the smallest platform.
+    /// That has a port with all controls set, above it one switch, below it function 03:00.0, whose page 1 is
+    /// mapped to frame 0 for reads and writes. The budget is 256 begins. It answers `NoMemory` where memory was
+    /// refused.
     pub fn first(alloc: Global) -> Result<Start, NoMemory>
         ensures { IfOk result (λ start. start ≡ first_share) }
     {

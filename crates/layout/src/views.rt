@@ -119,8 +119,9 @@ impl Layout {
         are_guarded(self.ports())
     }
 
-    /// The domain that owns an ID: the domain whose host has it, if that owns a port, or the one that
-    /// owns the ports above its bus.
+    /// The domain that owns an ID, if any does.
+    /// It is the domain whose host has the ID, if that owns a port, or the one that owns the ports above its
+    /// bus.
     pub fn owner(&self, id: Bdf) -> Option<DomainId>
         ensures { result ≡ owner_of self.now.ports id }
     {
@@ -134,8 +135,9 @@ impl Layout {
         port_with_secondary(self.ports(), function.bus()).map(|port| port.owner)
     }
 
-    /// What each receiver of a link advertises at the start, by the link's lower end: a function or
-    /// the upstream port of a switch. None where there is no such link.
+    /// What each receiver of a link advertises at the start, in credits.
+    /// The link is named by its lower end: a function or the upstream port of a switch. None where there is no
+    /// such link.
     pub fn credits(&self, id: Bdf) -> Option<CreditLimits>
         ensures { result ≡ credits_of self.now id }
     {

@@ -24,10 +24,10 @@ use std::alloc::Global;
 use std::marker::Model;
 use vetted::VettedFrame;
 
-/// One direction of a link, which is dual simplex (PCIe 4.0, 1.2): what waits at its sender, travels, and
-/// waits at its receiver, and the credits of both. It is the lane out of its sender and the lane in of
-/// its receiver. The credits of a packet that leaves the receiver are free, and its sender learns of them
-/// by `update_fc`. A contract sees a `SimplexView`.
+/// One direction of a link, which is dual simplex (PCIe 4.0, 1.2).
+/// It has what waits at its sender, travels, and waits at its receiver, and the credits of both. It is the lane
+/// out of its sender and the lane in of its receiver. The credits of a packet that leaves the receiver are
+/// free, and its sender learns of them by `update_fc`. A contract sees a `SimplexView`.
 #[derive(Drop)]
 pub struct Simplex {
     egress: Egress,
@@ -49,8 +49,8 @@ impl Model for Simplex {
 }
 
 impl Simplex {
-    /// A direction on which nothing was sent yet, whose receiver advertises these credits: headers at
-    /// most 127, data at most 2,047.
+    /// A direction on which nothing was sent yet.
+    /// Its receiver advertises these credits: headers at most 127, data at most 2,047.
     pub fn new(alloc: Global, limits: Limits) -> Result<Simplex, NoMemory>
         requires { MayStart limits }
         ensures { IfOk result (λ made. made ≡ record {

@@ -20,9 +20,10 @@ use std::alloc::Global;
 use std::marker::Model;
 use wiring::Ends;
 
-/// One side of a link: what waits to be sent and what has come, with the credits of both directions. A worker has it to
-/// itself. Rings join it with the other side, of each of which the worker has one end, at place 0 of `outs` or of `ins`:
-/// two of packets (`links`), and two of limits (`credits`). A contract sees a `LinkSideView`.
+/// One side of a link, with the credits of both directions.
+/// It has what waits to be sent and what has come. A worker has it to itself. Rings join it with the other
+/// side, of each of which the worker has one end, at place 0 of `outs` or of `ins`: two of packets (`links`),
+/// and two of limits (`credits`). A contract sees a `LinkSideView`.
 #[derive(Drop)]
 pub struct LinkSide {
     /// What waits to be sent: the lane out of who sends here.

@@ -66,14 +66,15 @@ fn complete_there(domain: &mut Domain, frame: Frame) -> Result<bool, FrameFault>
 }
 
 impl Locks {
-    /// A packet is stopped by its sender's first port: its home refuses it, as `Domain::refuse`, and what answers it is
-    /// the result. It may have to wait for another thread; what is said holds if it returns.
+    /// A packet is stopped by its sender's first port.
+    /// Its home refuses it, as `Domain::refuse`, and what answers it is the result. It may have to wait for
+    /// another thread; what is said holds if it returns.
     ///
     /// # Errors
     ///
-    /// `Stray`: there is no lock of its home's number, or its home has no such packet in flight, or doesn't stop it
-    /// there. `NoMemory`: memory was refused to the answer. After either the frame is given back, and the home has no
-    /// entry of it.
+    /// `Stray`: there is no lock of its home's number, or its home has no such packet in flight, or doesn't
+    /// stop it there. `NoMemory`: memory was refused to the answer. After either the frame is given back, and
+    /// the home has no entry of it.
     pub fn refuse<R: Wait>(
         &self,
         rt: &R,
@@ -94,14 +95,15 @@ impl Locks {
         refuse_there(rt, &mut domain, frame, port)
     }
 
-    /// A request reached its completer: its home carries it, as `Domain::carry`, and what follows is the result. It may
-    /// have to wait for another thread; what is said holds if it returns.
+    /// A request reached its completer.
+    /// Its home carries it, as `Domain::carry`, and what follows is the result. It may have to wait for another
+    /// thread; what is said holds if it returns.
     ///
     /// # Errors
     ///
-    /// `Stray`: there is no lock of its home's number, or its home has no such packet in flight, or doesn't carry it.
-    /// `NoMemory`: memory was refused to what follows. After either the frame is given back, and the home has no entry
-    /// of it.
+    /// `Stray`: there is no lock of its home's number, or its home has no such packet in flight, or doesn't
+    /// carry it. `NoMemory`: memory was refused to what follows. After either the frame is given back, and the
+    /// home has no entry of it.
     pub fn carry<R: Wait>(&self, rt: &R, frame: Frame) -> Result<Option<Frame>, FrameFault>
         ensures made { IfOk result (λ answer. MadeThere frame.domain (Carry frame.number) answer) }
         ensures given { IfErr result (λ f. fault_frame f ≡ frame) }

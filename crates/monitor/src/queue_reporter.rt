@@ -8,8 +8,9 @@ use std::alloc::Global;
 use std::marker::Model;
 use std::sync::Arc;
 
-/// A port's end of the queue: its seat, the number of its next report, and how often a report was given
-/// back. A contract sees a `ReporterView`.
+/// A port's end of the queue of violations.
+/// It has its seat, the number of its next report, and how often a report was given back. A contract sees a
+/// `ReporterView`.
 #[derive(Drop)]
 pub struct QueueReporter {
     pub(crate) queue: Arc<ViolationQueue, Global>,

@@ -13,8 +13,9 @@ use std::alloc::Global;
 use std::marker::Model;
 use std::sync::{Arc, Wait};
 
-/// The monitor's end of the queue: how many ports it gave an end, and the reports that it took, oldest
-/// first. A contract sees a `WatchView`.
+/// The monitor's end of the queue of violations.
+/// It has how many ports it gave an end, and the reports that it took, oldest first. A contract sees a
+/// `WatchView`.
 #[derive(Drop)]
 pub struct Watch {
     queue: Arc<ViolationQueue, Global>,

@@ -7,8 +7,9 @@ ghost use Rattle.fab_types.specs.declared.class.Class.TheVariants.{Posted, NonPo
 use crate::pass_table::may_pass;
 use fab_types::Class;
 
-/// Given the classes of a queue's packets from the oldest to the newest: for posted, non-posted and
-/// completion, in this order, does one of the class wait that may pass every older packet?
+/// Of which classes a queue has a packet that may leave (PCIe 4.0, 2.4.1).
+/// Given are the classes of the queue's packets from the oldest to the newest. For posted, non-posted and
+/// completion, in this order, it says: does one of the class wait that may pass every older packet?
 pub fn eligible(classes: &[Class]) -> [bool; 3]
     ensures { result ≡
         has_eligible (λ c. c) Posted classes.now ∷

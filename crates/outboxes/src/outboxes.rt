@@ -62,8 +62,9 @@ impl Outboxes {
         })
     }
 
-    /// The boxes apart: one of each function, in the order of the layout's lines, and then of each host, by rising number
-    /// of its domain.
+    /// The boxes apart.
+    /// There is one of each function, in the order of the layout's lines, and then of each host, by rising
+    /// number of its domain.
     pub fn into_boxes(self) -> Vec<OriginBox>
         ensures { result.items ≡ self }
     {
@@ -119,8 +120,8 @@ impl Outboxes {
         }
     }
 
-    /// What ports read of the eligible packet of a class (PCIe 4.0, 2.4.1): the oldest that this origin has waiting,
-    /// unless an older posted one waits that it may not pass.
+    /// What ports read of the eligible packet of a class (PCIe 4.0, 2.4.1).
+    /// That is the oldest that this origin has waiting, unless an older posted one waits that it may not pass.
     pub fn head(&self, origin: Origin, class: Class) -> Option<Head>
         ensures { result ≡ option_map (λ taken. taken.0.head) (eligible class (waiting_of self.now origin)) }
     {

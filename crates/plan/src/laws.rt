@@ -17,8 +17,9 @@ ghost use Rattle.plan.specs.Plans.{plan_of, route_of, routes_of, wires_from, wir
 ghost use Rattle.plan.specs.Routes.{IsPortOf, back, credit_routes, lanes_of, link_routes, pair_routes, routes_from, routes_into, up_routes};
 ghost use Rattle.plan.specs.Workers.{number_of, workers_of};
 
-/// Every route has its wire: read by the names of the workers, each table is the list of its routes, in their order. So
-/// each route has one wire.
+/// Every route has its wire.
+/// Read by the names of the workers, each table is the list of its routes, in their order. So each route has
+/// one wire.
 pub fn every_route_has_its_wire()
     ensures links { (platform : Platform) → routes_of platform (plan_of platform).links ≡ link_routes platform }
     ensures credits { (platform : Platform) → routes_of platform (plan_of platform).credits ≡ credit_routes platform }
@@ -32,8 +33,8 @@ pub fn rings_have_their_places()
     ensures pairs { (platform : Platform) → All (λ wire. wire.places ≡ 16) (plan_of platform).pairs }
 {}
 
-/// The routes up are those of the links of the tree, in their order: each leads from the worker at the lower end of its
-/// link to the worker at the upper end.
+/// The routes up are those of the links of the tree, in their order.
+/// Each leads from the worker at the lower end of its link to the worker at the upper end.
 pub fn routes_go_along_links()
     ensures lower { (platform : Platform) → IsPlatform platform → map (λ link. worker_at platform link.below) (links_of platform) ≡ map (λ r. Some r.from) (up_routes platform) }
     ensures upper { (platform : Platform) → IsPlatform platform → map (λ link. worker_at platform link.above) (links_of platform) ≡ map (λ r. Some r.to) (up_routes platform) }
@@ -78,8 +79,8 @@ pub fn a_port_is_dealt_an_end_for_each_lane()
         → map (λ r. r.0) table ≡ (plan_of platform).pairs → length (slice_index_or (dealt (length (workers_of platform)) table) n no_tags).ins ≡ outputs_of_switch platform.ports switch }
 {}
 
-/// The worker of a port is found at its own place: upstream ports come first, then downstream ports, and no two ports
-/// have one name.
+/// The worker of a port is found at its own place.
+/// Upstream ports come first, then downstream ports, and no two ports have one name.
 pub fn a_port_has_the_number_of_its_place()
     ensures { (platform : Platform) (k : ℕ) (d : WorkerId) → IsPlatform platform → IsWellPlaced platform → k < length platform.switches + length platform.ports
         → number_of (workers_of platform) (slice_index_or (workers_of platform) k d) ≡ Some k }

@@ -59,16 +59,18 @@ impl Plan {
         })
     }
 
-    /// The workers: of upstream ports, of downstream ports and of functions, each in the order of the layout's lines, and
-    /// of the root complex. A worker's number is its place here.
+    /// The workers; a worker's number is its place here.
+    /// They are those of upstream ports, of downstream ports and of functions, each in the order of the
+    /// layout's lines, and that of the root complex.
     pub fn workers(&self) -> &[WorkerId]
         ensures { result.now ≡ self.now.workers }
     {
         &self.workers
     }
 
-    /// A wire for the packets of each direction of each link: first up the link and then down it, the links of switches
-    /// before those of functions.
+    /// A wire for the packets of each direction of each link.
+    /// First comes the one up the link and then the one down it, the links of switches before those of
+    /// functions.
     pub fn links(&self) -> &[Wire]
         ensures value { result.now ≡ self.now.links }
         ensures within { AreWithin (length self.now.workers) result.now }
@@ -76,8 +78,9 @@ impl Plan {
         &self.links
     }
 
-    /// A wire for the credits of each direction of each link, in the same order: from the worker that takes the packets
-    /// to the one that sends them.
+    /// A wire for the credits of each direction of each link.
+    /// They stand in the same order. Each leads from the worker that takes the packets to the one that sends
+    /// them.
     pub fn credits(&self) -> &[Wire]
         ensures value { result.now ≡ self.now.credits }
         ensures within { AreWithin (length self.now.workers) result.now }
@@ -85,8 +88,9 @@ impl Plan {
         &self.credits
     }
 
-    /// A wire from each port of a switch to each port of it, itself too: by switch, then by the port that it leads from,
-    /// then by the other, the upstream port first and then the downstream ports in the order of the layout's lines.
+    /// A wire from each port of a switch to each port of it, itself too.
+    /// They stand by switch, then by the port that a wire leads from, then by the other, the upstream port
+    /// first and then the downstream ports in the order of the layout's lines.
     pub fn pairs(&self) -> &[Wire]
         ensures value { result.now ≡ self.now.pairs }
         ensures within { AreWithin (length self.now.workers) result.now }

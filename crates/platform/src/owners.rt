@@ -79,8 +79,8 @@ fn owner_of_parts(ports: &[DownstreamPort], bus: u8, device: u8, function: u8) -
     }
 }
 
-/// The domain that owns an ID, by the ports of a platform: the domain whose host has it, if that owns a
-/// port, or the one that owns the ports above its bus.
+/// The domain that owns an ID, by the ports of a platform.
+/// It is the domain whose host has the ID, if that owns a port, or the one that owns the ports above its bus.
 pub fn owner_of(ports: &[DownstreamPort], id: Bdf) -> Option<DomainId>
     ensures { result ≡ owner_of ports.now id }
 {

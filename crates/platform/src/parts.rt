@@ -20,8 +20,9 @@ pub struct Switch {
     pub above: Option<PortId>,
 }
 
-/// A downstream port of a switch: its buses and its memory window (PCIe 4.0, 7.5.1.3), its ACS
-/// controls, and the domain that it is dealt out to.
+/// A downstream port of a switch, as a layout has it.
+/// It has its buses and its memory window (PCIe 4.0, 7.5.1.3), its ACS controls, and the domain that it is
+/// dealt out to.
 #[derive(Clone, Copy, Debug, PartialEq, Eq)]
 pub struct DownstreamPort {
     /// The ID of the port.

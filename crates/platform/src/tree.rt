@@ -121,7 +121,8 @@ pub fn is_taken(switches: &[Switch], functions: &[EndpointFunction], id: Bdf) ->
     is_switch(switches, id) || is_function(functions, id)
 }
 
-/// The domain of a function: the owner of the port directly above it, or 0, which is no domain.
+/// The domain of a function, or 0, which is no domain.
+/// It is the owner of the port directly above the function.
 #[tactic(auto, unfolding(crate::specs::Tree::domain_of))]
 pub fn domain_of(ports: &[DownstreamPort], function: Bdf) -> u8
     ensures { result ≡ domain_of ports.now function }

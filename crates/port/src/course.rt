@@ -15,7 +15,8 @@ use platform::{DownstreamPort, id_below};
 /// What becomes of a packet that came into a port.
 #[derive(Clone, Copy, Debug, PartialEq, Eq)]
 pub enum Forwarding {
-    /// It goes down this lane of the switch: 0 out of the upstream port, then the downstream ports.
+    /// It goes down this lane of the switch.
+    /// Lane 0 leads out of the upstream port, then come the downstream ports.
     To(usize),
     /// The domain that made it refuses it at this port.
     /// A violation of ACS is reported (PCIe 4.0, 6.12.4).

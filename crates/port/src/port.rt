@@ -42,8 +42,9 @@ impl Model for Port {
 }
 
 impl Port {
-    /// The port of this ID: a downstream port of the layout, or the upstream port of a switch. None
-    /// where the layout has no such port. It answers `NoMemory` where memory was refused.
+    /// The port of this ID, as a layout has it.
+    /// It is a downstream port of the layout, or the upstream port of a switch. None where the layout has no
+    /// such port. It answers `NoMemory` where memory was refused.
     pub fn new(alloc: Global, layout: &Layout, id: PortId) -> Result<Option<Port>, NoMemory>
         ensures { IfOk result (λ port. port ≡ option_map (λ config. record { config = config; held = None; kept = None; strays = [] }) (config_of layout.now id)) }
     {
@@ -98,8 +99,8 @@ impl Port {
         }
     }
 
-    /// How many lanes lead out of its switch: one out of the upstream port, and one out of each downstream
-    /// port.
+    /// How many lanes lead out of its switch.
+    /// There is one out of the upstream port, and one out of each downstream port.
     pub fn lanes(&self) -> usize
         ensures { result ≡ length self.now.config.exits + 1 }
     {
@@ -114,8 +115,8 @@ impl Port {
         self.own
     }
 
-    /// The direction in which packets come into it: up from what stands below a downstream port, or down to
-    /// an upstream port.
+    /// The direction in which packets come into it.
+    /// That is up from what stands below a downstream port, or down to an upstream port.
     pub fn direction_in(&self) -> Direction
         ensures { result ≡ direction_in self.now.config }
     {
@@ -139,7 +140,8 @@ impl Port {
         &self.strays
     }
 
-    /// Holds a report that a reporter gave back, where none is held: the next turn tries it first.
+    /// Holds a report that a reporter gave back, where none is held.
+    /// The next turn tries it first.
     pub fn hold(&mut self, report: Violation)
         requires { self.old.held ≡ None }
         ensures { self.new ≡ record self.old { held = Some report } }

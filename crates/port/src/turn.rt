@@ -19,9 +19,9 @@ use fab_types::{Class, Outcome, Violation};
 use lane::{LaneIn, LaneOut};
 use std::sync::Wait;
 
-/// All that a turn reaches: the switches, the lane in, the lanes out of the switch (out of its upstream
-/// port, and then out of each of its downstream ports, in the layout's order), and whom the port asks
-/// and tells.
+/// All that a turn reaches.
+/// That is the switches, the lane in, the lanes out of the switch (out of its upstream port, and then out of
+/// each of its downstream ports, in the layout's order), and whom the port asks and tells.
 #[derive(Drop)]
 pub struct TurnParts<'a, I, O, D, R> {
     /// The switches of the layout.

@@ -101,7 +101,8 @@ impl<T: Drop, const CAP: usize> PortQueue<T, CAP> {
         )?)
     }
 
-    /// Of which classes an item may leave: its oldest, unless an older posted one waits that it may not pass.
+    /// Of which classes an item may leave.
+    /// That is the oldest of the class, unless an older posted one waits that it may not pass.
     pub fn leaving(&self) -> LeavingClasses
         ensures { (class : Class) → has result class ≡ is_some (head_of class self.now.waiting) }
     {
@@ -112,7 +113,8 @@ impl<T: Drop, const CAP: usize> PortQueue<T, CAP> {
         }
     }
 
-    /// The eligible item of the class: its oldest, unless an older posted one waits that it may not pass.
+    /// The eligible item of the class.
+    /// That is its oldest, unless an older posted one waits that it may not pass.
     pub fn head(&self, class: Class) -> Option<&T>
         ensures { option_copied result ≡ head_of class self.now.waiting }
     {

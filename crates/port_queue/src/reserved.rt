@@ -115,7 +115,8 @@ impl<T: Drop> Outbox<T> {
         )?)
     }
 
-    /// Of which classes an item may leave: its oldest, unless an older posted one waits that it may not pass.
+    /// Of which classes an item may leave.
+    /// That is the oldest of the class, unless an older posted one waits that it may not pass.
     pub fn leaving(&self) -> LeavingClasses
         ensures { (class : Class) → has result class ≡ is_some (head_of class self.now.queue.waiting) }
     {
@@ -126,7 +127,8 @@ impl<T: Drop> Outbox<T> {
         }
     }
 
-    /// The eligible item of the class: its oldest, unless an older posted one waits that it may not pass.
+    /// The eligible item of the class.
+    /// That is its oldest, unless an older posted one waits that it may not pass.
     pub fn head(&self, class: Class) -> Option<&T>
         ensures { option_copied result ≡ head_of class self.now.queue.waiting }
     {

@@ -30,9 +30,10 @@ fn take_at(injectors: &mut Vec<Injector>, place: usize) -> Injector
 }
 
 impl Running {
-    /// The injector of this function, or of this domain's host: by it a program begins what that may begin, and takes its
-    /// completions, while the workers run. Each is given once. None where the layout has no such function or host, and where
-    /// it was given already; then nothing changes. It waits for nobody and takes no memory.
+    /// The injector of this function, or of this domain's host.
+    /// By it a program begins what that may begin, and takes its completions, while the workers run. Each is
+    /// given once. None where the layout has no such function or host, and where it was given already; then
+    /// nothing changes. It waits for nobody and takes no memory.
     pub fn injector(&mut self, origin: Origin) -> Option<Injector>
         ensures given { MatchOption result
             (origin_place self.old.origins origin ≡ None)

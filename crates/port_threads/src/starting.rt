@@ -64,14 +64,15 @@ where
 }
 
 impl Running {
-    /// Starts the fabric of a layout: each port, each function, the root complex and the monitor make their turns in a
-    /// thread of their own, at most `turns` of them. All ask this gate before each turn. Nothing has been begun, and no
-    /// packet is anywhere.
+    /// Starts the fabric of a layout.
+    /// Each port, each function, the root complex and the monitor make their turns in a thread of their own, at
+    /// most `turns` of them. All ask this gate before each turn. Nothing has been begun, and no packet is
+    /// anywhere.
     ///
     /// # Errors
     ///
-    /// `NoMemory`: memory was refused, or the gate is shared too often. `NoThread`: a thread could not be made, for want of
-    /// memory or by the system's limits. After either no thread of it runs.
+    /// `NoMemory`: memory was refused, or the gate is shared too often. `NoThread`: a thread could not be made,
+    /// since memory was refused or by the system's limits. After either no thread of it runs.
     pub fn start<G, R>(
         rt: R,
         alloc: Global,

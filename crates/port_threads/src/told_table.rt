@@ -7,7 +7,8 @@ ghost use Rattle.wiring.specs.Returned.{all_told};
 use std::snapshot::Snapshot;
 use wiring::{Ends, Told};
 
-/// All rings of one table of the plan, the last first: of each, what was put in and taken, and what was left.
+/// All rings of one table of the plan, the last first.
+/// It has of each what was put in and taken, and what was left.
 #[derive(Drop)]
 pub struct ToldTable<T: Drop> {
     /// What became of each ring, the last of the table first.

@@ -27,9 +27,10 @@ use wiring::Ends;
 // How often a turn goes round while something moves.
 const ROUNDS: usize = 16;
 
-/// A port of a switch with all that is its own: its side of the link that it is at, its way to the domains, and its end
-/// of the queue of violations. The ends of rings that it has are lent to each call. A contract sees a
-/// `PortWorkView`: what no turn changes, and all that is its own.
+/// A port of a switch with all that is its own.
+/// It has its side of the link that it is at, its way to the domains, and its end of the queue of violations.
+/// The ends of rings that it has are lent to each call. A contract sees a `PortWorkView`: what no turn changes,
+/// and all that is its own.
 #[derive(Drop)]
 pub struct PortWork {
     port: Port,

@@ -56,7 +56,8 @@ pub fn write_domains<W: Write>(alloc: Global, out: &mut W, domains: &[Domain]) -
     Ok(())
 }
 
-/// Writes a domain: its counts, its memory, its register pages, and the completions that it got.
+/// Writes what a domain ends in.
+/// That is its counts, its memory, its register pages, and the completions that it got.
 pub fn write_domain<W: Write>(alloc: Global, out: &mut W, domain: &Domain) -> io::Result<()>
     ensures { OnOk result (Wrote (W.contents out.old) (W.contents out.new) (IsPart domain.now)) }
 {

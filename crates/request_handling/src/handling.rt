@@ -50,8 +50,8 @@ impl Made {
     }
 }
 
-/// What follows from a packet that ends: its answer, or the same request to a peer. A contract sees the
-/// emission.
+/// What follows from a packet that ends.
+/// It is its answer, or the same request to a peer. A contract sees the emission.
 #[derive(Drop)]
 pub struct Reply {
     parties: Parties,

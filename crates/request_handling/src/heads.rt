@@ -7,8 +7,8 @@ ghost use Rattle.request_handling.specs.Heads.{head_of, malformed_cost, packet_h
 use fab_types::{Answerer, Bdf, Class, Cost, Head, Header, Parties};
 use tlp_view::{ReadPacket, TlpView};
 
-/// To which ID a completion is routed: a port's answer goes to the sender of what the port refused,
-/// whatever Requester ID that bore.
+/// To which ID a completion is routed.
+/// A port's answer goes to the sender of what the port refused, whatever Requester ID that bore.
 pub fn target_for(parties: Parties, requester: Bdf) -> Bdf
     ensures { result ≡ target_for parties requester }
 {

@@ -3,8 +3,9 @@
 use injector::WorkerEnds;
 use outboxes::OriginBox;
 
-/// Of a domain's host, which the outbox names: what it has emitted and the link hasn't taken yet, and the worker's ends of its
-/// injector's rings.
+/// The outbox of a domain's host, and the ends of its injector's rings.
+/// The outbox names the host, and has what it has emitted and the link hasn't taken yet. The ends are the
+/// worker's.
 #[derive(Drop)]
 pub struct HostWork {
     /// What the host emitted, and the link hasn't taken yet.

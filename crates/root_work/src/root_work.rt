@@ -27,10 +27,11 @@ use wiring::Ends;
 // How often a turn goes round while something moves.
 const ROUNDS: usize = 16;
 
-/// The root complex with all that is its own: the domains' hosts, each with its outbox and its ends of its injector's rings,
-/// whose each frame of memory is, its side of the link to the top switch, the switches of the layout, its way to the domains,
-/// and the packets that nobody had a case for. The ends of links' rings that it has are lent to each call. A contract sees
-/// a `RootWorkView`: what no turn changes, and all that is its own.
+/// The root complex with all that is its own.
+/// It has the domains' hosts, each with its outbox and its ends of its injector's rings, whose each frame of
+/// memory is, its side of the link to the top switch, the switches of the layout, its way to the domains, and
+/// the packets that nobody had a case for. The ends of links' rings that it has are lent to each call. A
+/// contract sees a `RootWorkView`: what no turn changes, and all that is its own.
 #[derive(Drop)]
 pub struct RootWork {
     hosts: Vec<HostWork>,

@@ -133,7 +133,8 @@ pub fn sweep<R: Wait>(rt: &R, fabric: &mut Fabric, stations: &[Station]) -> Resu
     Ok(moved)
 }
 
-/// Makes so many sweeps, or fewer: the last one is the first in which nothing moves.
+/// Makes so many sweeps, or fewer.
+/// The last one is the first in which nothing moves.
 pub fn sweeps<R: Wait>(
     rt: &R,
     fabric: &mut Fabric,

@@ -7,8 +7,8 @@ ghost use Rattle.tlp_view.specs.Malformed.{malformed};
 use crate::view::TlpView;
 use std::marker::Model;
 
-/// The bytes of a packet, well formed or not, with what was read of them: so whoever is given it need not read them
-/// again. A contract sees the bytes.
+/// The bytes of a packet, well formed or not, with what was read of them.
+/// So whoever is given it need not read them again. A contract sees the bytes.
 #[derive(Debug, Drop)]
 pub struct ReadPacket<'a> {
     bytes: &'a [u8],

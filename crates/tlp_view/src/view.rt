@@ -114,7 +114,8 @@ impl<'a> TlpView<'a> {
         }
     }
 
-    /// Of a memory read or write or a FetchAdd: the address in bytes, a multiple of 4.
+    /// The address of a memory read or write or a FetchAdd.
+    /// It is in bytes, a multiple of 4. Other kinds have none.
     #[tactic(auto, using(crate::proofs::Bodies::address_of_body))]
     pub fn address(&self) -> Option<u64>
         ensures { result ≡ address_in self.now.body }
@@ -126,7 +127,8 @@ impl<'a> TlpView<'a> {
         }
     }
 
-    /// Of a memory read or write or a FetchAdd: is the address translated (PCIe 4.0, 10.2.1)?
+    /// The AT field of a memory read or write or a FetchAdd (PCIe 4.0, 10.2.1).
+    /// It says whether the address is translated. Other kinds have none.
     pub fn at(&self) -> Option<AddressType>
         ensures { result ≡ address_type_in self.now }
     {
@@ -156,8 +158,8 @@ impl<'a> TlpView<'a> {
         }
     }
 
-    /// Length in DW, 1 to 1,024: of the data that it carries, or that it asks for. Messages and
-    /// completions without data have none.
+    /// Length in DW, 1 to 1,024, of the data carried or asked for.
+    /// Messages and completions without data have none.
     pub fn length(&self) -> Option<u16>
         ensures { result ≡ length_of self.now }
     {
@@ -264,8 +266,8 @@ impl<'a> TlpView<'a> {
         Some(payload.split_at(4 * n))
     }
 
-    /// Of a memory write: each longest run of enabled bytes, with its offset in bytes from the
-    /// address, rising. Other kinds have none.
+    /// The runs of enabled bytes of a memory write.
+    /// Each is a longest one, with its offset in bytes from the address, rising. Other kinds have none.
     pub fn runs(&self) -> Runs<'a>
         ensures { result ≡ runs self.now }
     {

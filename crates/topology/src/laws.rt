@@ -66,8 +66,8 @@ pub fn outputs_lead_to_links()
         → Any (λ switch. internal_bus switch ≡ bus_of port.id) platform.switches }
 {}
 
-/// The place of a port is found by the port's ID: no upstream port has the ID of a downstream port, and no two
-/// places are of one ID.
+/// The place of a port is found by the port's ID.
+/// No upstream port has the ID of a downstream port, and no two places are of one ID.
 pub fn places_are_found()
     ensures upstream { (platform : Platform) (switch : Switch) → IsPlatform platform → Contains platform.switches switch
         → place_at (places_of platform) switch.id ≡ Some (upstream_place platform switch) }

@@ -25,7 +25,8 @@ pub struct Told<T: Drop> {
     pub input: Consumer<T>,
     /// What had been put in and not been taken, oldest first.
     pub left: Vec<T>,
-    /// The end to take from as it came back, for contracts alone: what it had received is what had been taken.
+    /// The end to take from as it came back, for contracts alone.
+    /// What it had received is what had been taken.
     pub taker: Snapshot<Consumer<T>>,
     pub ghost fifo: { received taker.value ++ left.items ≡ sent out },
     pub ghost empty: { received input ≡ sent out },

@@ -20,8 +20,8 @@ use port::Port;
 use root_work::RootParts;
 use std::alloc::Global;
 
-/// What is left of a port's worker: the port, with its strays and what it holds, and its side of its link, with what waits
-/// there.
+/// What is left of a port's worker.
+/// It is the port, with its strays and what it holds, and its side of its link, with what waits there.
 #[derive(Drop)]
 pub struct PortRemains {
     /// The port, with its strays and what it holds.
