@@ -22,7 +22,7 @@ pub struct Credits {
 }
 
 impl Credits {
-    /// These counts, `payload` below 4,096.
+    /// So many header credits and data credits, `payload` below 4,096.
     pub fn new(headers: u8, payload: u16) -> Credits
         requires { payload < 4096 }
         ensures headers { result.headers ≡ headers }

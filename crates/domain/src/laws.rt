@@ -61,10 +61,10 @@ pub fn emissions_are_consumed_once()
     ensures { (share : Share) (journal : List Entry) (state : Alone) → replay share journal ≡ Some state → AreConsumedOnce journal state }
 {}
 
-/// The packets that a journal sent are those that its domain made.
-/// That is of any journal that replays: they are as many as the domain made, and what is in flight stands among
-/// them at the place of its number. What stood in a function's outbox as sent by a function was sent by that
-/// one.
+/// What of the packets that a journal sent is in flight stands at its number.
+/// That is of any journal that replays: the packets that it sent are as many as the domain made, and what is in
+/// flight stands among them at the place of its number. What stood in a function's outbox as sent by a function
+/// was sent by that one.
 pub fn sent_packets_are_those_in_flight()
     ensures { (share : Share) (journal : List Entry) (state : Alone) → replay share journal ≡ Some state → AreSent share journal state }
 {}

@@ -8,8 +8,9 @@ use fab_types::Place;
 use request_handling::{Taker, taker_of};
 
 impl Domain {
-    /// May this domain have an entry of an alien packet at this place?
-    /// It may at the host, at a function of the domain, and at any port.
+    /// May an entry of this domain name this place for an alien packet?
+    /// The entry says that the packet was taken there. It may name the host, a function of the domain, and any
+    /// port.
     pub fn takes(&self, place: Place) -> bool
         ensures { result ≡ takes self.now.share place }
     {

@@ -30,7 +30,7 @@ pub enum Ending {
     /// It stands where it stood.
     /// Memory was refused, or it is a completion, whose record would have no place.
     Waits,
-    /// There was none.
+    /// There was no eligible packet of the class.
     Idle,
 }
 

@@ -25,7 +25,7 @@ pub enum Serving {
     /// Memory was refused, to its call or to places in the outbox.
     /// It is held, or stands where it stood.
     Waits,
-    /// There was none.
+    /// There was no begin.
     Idle,
 }
 

@@ -42,7 +42,7 @@ impl Bdf {
         Bdf(bits)
     }
 
-    /// The 16 bits.
+    /// The 16 bits of the ID.
     pub fn bits(self) -> u16
         ensures value { result ≡ self }
         ensures small { self < 2 ^ 16 }

@@ -107,7 +107,7 @@ pub fn every_event_keeps_a_fabric()
 {}
 
 /// In a guarded fabric other domains' events can be taken out of any run.
-/// The fabric is that of a guarded layout. A domain's events that moved are run alone, with those that tell
+/// The fabric is that of a guarded layout, from its start. A domain's events that moved are run alone, with those that tell
 /// credits. If no memory is refused to that second run, each of them moves again, and the domain has the same
 /// state, journal, packets and violations in the end: it can't tell the other domains from none.
 pub fn other_domains_can_be_taken_out()

@@ -126,7 +126,7 @@ impl Start {
         })
     }
 
-    /// The domain.
+    /// The domain to which the layout gives this.
     pub fn domain(&self) -> DomainId
         ensures { result ≡ self.now.domain }
     {

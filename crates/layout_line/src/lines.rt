@@ -16,9 +16,9 @@ pub struct SwitchText {
 pub struct PortText {
     /// The ID of the port.
     pub id: Bdf,
-    /// Secondary bus number.
+    /// Secondary bus number, the least bus below.
     pub secondary: u8,
-    /// Subordinate bus number.
+    /// Subordinate bus number, the greatest bus below.
     pub subordinate: u8,
     /// The first address of its window.
     pub base: u32,

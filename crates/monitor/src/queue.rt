@@ -15,7 +15,7 @@ pub struct Report {
     pub seat: u64,
     /// Its number among the reports of that port, from 0.
     pub number: u64,
-    /// The violation itself.
+    /// What was refused, by which port and test.
     pub violation: Violation,
 }
 

@@ -27,7 +27,7 @@ impl Route {
         }
     }
 
-    /// The other way.
+    /// The route the other way.
     pub fn back(&self) -> Route
         ensures { result ≡ back self.now }
     {

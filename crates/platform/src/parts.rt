@@ -11,7 +11,7 @@ pub enum LayoutVersion {
     Two,
 }
 
-/// A switch.
+/// A switch of the tree, as a layout has it.
 #[derive(Clone, Copy, Debug, PartialEq, Eq)]
 pub struct Switch {
     /// Its upstream port.

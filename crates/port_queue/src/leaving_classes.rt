@@ -17,7 +17,7 @@ pub struct LeavingClasses {
 }
 
 impl LeavingClasses {
-    /// Of none.
+    /// An item of none of the classes may leave.
     pub const NONE: LeavingClasses = LeavingClasses {
         posted: false,
         non_posted: false,

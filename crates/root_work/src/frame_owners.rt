@@ -30,7 +30,8 @@ fn owns_frame(start: &Start, page: u64) -> bool
 }
 
 impl FrameOwners {
-    /// Of domains that start so. It takes no memory.
+    /// Whose each frame of memory is, of domains that start so.
+    /// It takes no memory.
     pub fn new(starts: Vec<Start>) -> FrameOwners
         ensures { result ≡ starts.items }
     {

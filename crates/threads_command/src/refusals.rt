@@ -81,7 +81,7 @@ impl Refusals {
         }
     }
 
-    /// Those that these workers have.
+    /// Adds the refused begins that these workers counted.
     #[tactic(auto, using(crate::proofs::Adding::added_append))]
     pub fn add_all(&mut self, remains: &[Remains]) -> Result<(), NoMemory>
         ensures { OnOk result (self.new ≡ all_added self.old (flat_map refused_by remains.now)) }

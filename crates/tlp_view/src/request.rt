@@ -23,7 +23,7 @@ pub struct RequestHead {
     pub tag: u8,
     /// First and Last DW Byte Enables.
     pub enables: Enables,
-    /// In bytes, a multiple of 4. From 4 GB on the header has 4 DW.
+    /// The address in bytes, a multiple of 4. From 4 GB on the header has 4 DW.
     pub address: u64,
     /// The AT field.
     pub address_type: AddressType,

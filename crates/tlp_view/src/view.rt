@@ -198,7 +198,8 @@ impl<'a> TlpView<'a> {
         }
     }
 
-    /// Of a completion.
+    /// The status of a completion (PCIe 4.0, 2.2.9).
+    /// Other kinds have none.
     #[tactic(auto, using(crate::proofs::Bodies::status_of_body))]
     pub fn status(&self) -> Option<Status>
         ensures { result ≡ status_in self.now.body }

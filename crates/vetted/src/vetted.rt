@@ -107,7 +107,7 @@ impl VettedFrame {
         &self.frame
     }
 
-    /// The packet alone.
+    /// The packet alone, without its owner.
     pub fn into_frame(self) -> Frame
         ensures value { result ≡ self.frame }
         ensures vetted { may_go_on self.tree.ports result ≡ true }

@@ -25,7 +25,7 @@ pub enum Job {
 }
 
 impl Job {
-    /// One turn.
+    /// Makes one turn of the work, with the worker's ends of rings.
     pub fn turn<R: Wait>(
         &mut self,
         rt: &R,
