@@ -99,7 +99,8 @@ impl State {
         self.flight.made()
     }
 
-    /// What a packet in flight is to the one that it goes to, if it is a completion for somebody.
+    /// What a packet in flight is to the one that it goes to.
+    /// None where it is no completion for somebody.
     pub(crate) fn arrival(&self, number: u64) -> Option<Arrival>
         ensures { result ≡ arrival self.now.open_tags (item_at self.now.flight number) }
     {

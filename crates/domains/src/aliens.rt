@@ -44,8 +44,8 @@ fn taken_at<R: Wait>(
     domains[at].alien(rt, place, frame, bytes)
 }
 
-/// The domain at this place of the list, if there is one, gets the packet, with the bytes that its home
-/// has in flight.
+/// The domain at this place of the list, if there is one, gets the packet.
+/// It gets it with the bytes that its home has in flight.
 pub(crate) fn alien_at<R: Wait>(
     rt: &R,
     domains: &mut [Domain],

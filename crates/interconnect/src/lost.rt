@@ -32,7 +32,8 @@ fn own_end(port: &Port, node: usize) -> LinkEnd
     }
 }
 
-/// A packet with this head, which came into a port at a node from an end, if the port has no case for it.
+/// A packet with this head, if the port has no case for it.
+/// It came into the port, at a node, from an end.
 pub(crate) fn lost_by(
     port: &Port,
     bridge: &Bridge,

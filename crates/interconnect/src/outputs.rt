@@ -109,7 +109,8 @@ pub(crate) fn has_none_received_at(nodes: &[Node], end: LinkEnd) -> bool
     node.outputs[end.output].has_none_received()
 }
 
-/// Can nothing happen on the direction of an end, before a packet is put at its sender or taken at its receiver?
+/// Can nothing happen on the direction of an end by itself?
+/// That is, before a packet is put at its sender or taken at its receiver.
 pub(crate) fn is_quiet_at(nodes: &[Node], end: LinkEnd) -> bool
     requires { IsEnd (map length nodes.now) end }
     ensures { result ≡ is_quiet_at (channels_of nodes.now) (Some end) }

@@ -79,7 +79,8 @@ fn turn_nodes<'a, W: Wait, D: Desk, R: Reporter>(
     )
 }
 
-/// The turn of a port at a node, into which packets come that are sent from an end of another node.
+/// The turn of a port at a node.
+/// Packets come into it that are sent from an end of another node.
 pub(crate) fn turn_at<'a, W: Wait, D: Desk, R: Reporter>(
     port: &mut Port,
     rt: &W,

@@ -61,7 +61,8 @@ pub trait LaneOut {
     /// The list sent: all that was put, in order.
     ghost sent: { Self → List Descriptor };
 
-    /// How often the lane was full or gave a packet back, in a number that wraps.
+    /// How often the lane was full or gave a packet back.
+    /// It is a number that wraps.
     ghost refusals: { Self → ℕ };
 
     /// May the lane have no place for a packet of the class?

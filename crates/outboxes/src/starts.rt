@@ -57,7 +57,8 @@ fn add_hosts(alloc: Global, layout: &Layout, boxes: &mut Vec<OriginBox>) -> Resu
     Ok(())
 }
 
-/// An empty box for each function, and then for the host of each domain that owns a port, by rising number.
+/// An empty box for each function, and then for each domain's host.
+/// The domains are those that own a port, by rising number.
 pub(crate) fn boxes_of(alloc: Global, layout: &Layout) -> Result<Vec<OriginBox>, NoMemory>
     ensures { IfOk result (λ boxes. boxes.items ≡ boxes_of layout.now) }
 {

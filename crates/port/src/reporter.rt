@@ -22,7 +22,8 @@ pub trait Reporter {
     /// Is there a place for one more report?
     ghost has_room: { Self → Bool };
 
-    /// Is that known beforehand, so that room which was made is still there for the next report?
+    /// Is that known beforehand?
+    /// Then room which was made is still there for the next report.
     ghost is_sure: { Bool };
 
     /// Makes room for a report. It answers `NoMemory` where memory was refused.

@@ -79,8 +79,8 @@ fn report(port: &mut Port, reporter: &mut QueueReporter, report: Option<Violatio
     }
 }
 
-/// Has the home of the eligible packet enter it, if the layout isn't guarded, the port has no case for it and holds no
-/// report, and the home has an entry for it.
+/// Has the home of the eligible packet enter it, where the port has no case for it.
+/// It does so if the layout isn't guarded, the port holds no report, and the home has an entry for it.
 pub(crate) fn lose<R: Wait>(
     rt: &R,
     class: Class,

@@ -85,7 +85,8 @@ pub fn bar_of(functions: &[EndpointFunction], function: Bdf) -> Option<u32>
         .map(|line| line.bar)
 }
 
-/// A request goes on to the same place in the register page of this function, if the layout has it.
+/// A request goes on to the same place in this function's register page.
+/// It does if the layout has the function.
 pub(crate) fn forward(start: &Start, function: Bdf, view: &TlpView) -> Option<Handling>
     requires { IsAccess view.now }
     ensures { result ≡ forward function view.now (bar_of start.now.functions function) }

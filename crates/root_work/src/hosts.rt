@@ -46,8 +46,9 @@ fn end_at<R: Wait>(rt: &R, locks: &Locks, host: &mut HostWork, frame: Frame) -> 
     )
 }
 
-/// The home of a packet that was taken has an entry of it, if it has a case for it. What follows waits in its host's outbox,
-/// and the record of a completion goes out there.
+/// The home of a packet that was taken has an entry of it.
+/// It has if it has a case for it. What follows waits in its host's outbox, and the record of a completion goes
+/// out there.
 #[tactic(auto, using(crate::proofs::Growing::same_hosts))]
 pub(crate) fn end_at_home<R: Wait>(
     rt: &R,

@@ -8,8 +8,9 @@ use fab_types::Class;
 use lane::LaneOut;
 use link::{Egress, Ingress};
 
-/// The eligible packet of a class, which is for somebody below, goes to wait behind all others to be sent, if its class
-/// has a place there. Else it stays, and nothing changes. Did it go?
+/// The eligible packet of a class goes to wait behind all others to be sent.
+/// It is for somebody below, and goes if its class has a place there. Else it stays, and nothing changes. Did
+/// it go?
 pub(crate) fn relay(class: Class, input: &mut Ingress, egress: &mut Egress) -> bool
     requires { AreRelayed true class (frames_of input.old.queue.queue.waiting) }
     ensures relayed { result ≡ true → Relays class (frames_of input.old.queue.queue.waiting) (frames_of input.new.queue.queue.waiting) (frames_of egress.old.queue.queue.waiting) (frames_of egress.new.queue.queue.waiting) }

@@ -20,8 +20,9 @@ fn violations_of(alloc: Global, reports: &[Report]) -> Result<Vec<Violation>, Al
     reports.iter().map(|report| report.violation).collect(alloc)
 }
 
-/// Writes how many begins of each function and host were refused; the violations, as the monitor took them; and each domain.
-/// Where memory is refused before all of it stands ready, nothing is written.
+/// Writes what a run on threads ends in.
+/// That is how many begins of each function and host were refused; the violations, as the monitor took them;
+/// and each domain. Where memory is refused before all of it stands ready, nothing is written.
 pub(crate) fn write_report<W: Write>(
     alloc: Global,
     out: &mut W,

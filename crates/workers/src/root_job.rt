@@ -59,8 +59,9 @@ fn host_works(
     Ok(works)
 }
 
-/// The worker of the root complex, with the outboxes of the domains' hosts and with what the layout gives each domain,
-/// above the link of the top switch. The hosts' injectors go to the others. It answers `NoMemory` where memory was refused.
+/// The worker of the root complex, above the link of the top switch.
+/// It has the outboxes of the domains' hosts, and what the layout gives each domain. The hosts' injectors go to
+/// the others. It answers `NoMemory` where memory was refused.
 pub(crate) fn root_post(
     alloc: Global,
     layout: &Layout,
