@@ -6,7 +6,7 @@ ghost use Rattle.acs.specs.Vetting.{requester_of, is_outside, is_translated, cla
 use fab_types::{AddressType, Bdf, Check, Header};
 use platform::DownstreamPort;
 
-/// What a downstream port says of a packet that comes up.
+/// What a downstream port says of a packet that comes up (PCIe 4.0, 6.12.1.1).
 #[derive(Clone, Copy, Debug, PartialEq, Eq)]
 pub enum Verdict {
     /// The packet may go on.

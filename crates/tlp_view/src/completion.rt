@@ -13,7 +13,7 @@ use byteorder::{BigEndian, ByteOrder};
 use fab_types::{Bdf, Status};
 use std::marker::Model;
 
-/// The header fields of a completion. All others of its header are 0, or follow from its payload.
+/// The header fields of a completion (PCIe 4.0, 2.2.9). All others of its header are 0, or follow from its payload.
 #[derive(Clone, Copy, Debug, PartialEq, Eq)]
 pub struct CompletionHead {
     /// Completer ID: who answers.

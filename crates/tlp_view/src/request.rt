@@ -14,7 +14,7 @@ use byteorder::{BigEndian, ByteOrder};
 use fab_types::{AddressType, Bdf};
 use std::marker::Model;
 
-/// The header fields of a memory request, but its Length.
+/// The header fields of a memory request, but its Length (PCIe 4.0, 2.2.7).
 #[derive(Clone, Copy, Debug, PartialEq, Eq)]
 pub struct RequestHead {
     /// Requester ID: who asks.

@@ -211,7 +211,7 @@ impl<'a> TlpView<'a> {
         }
     }
 
-    /// Of a completion: Byte Count, 12 bits.
+    /// Byte Count of a completion, 12 bits (PCIe 4.0, 2.2.9).
     #[tactic(auto, using(crate::proofs::Bodies::byte_count_of_body))]
     pub fn byte_count(&self) -> Option<u16>
         ensures { result ≡ byte_count_in self.now.body }
@@ -223,7 +223,7 @@ impl<'a> TlpView<'a> {
         }
     }
 
-    /// Of a completion: Lower Address, 7 bits.
+    /// Lower Address of a completion, 7 bits (PCIe 4.0, 2.2.9).
     #[tactic(auto, using(crate::proofs::Bodies::lower_address_of_body))]
     pub fn lower_address(&self) -> Option<u8>
         ensures { result ≡ lower_address_in self.now.body }
