@@ -1,9 +1,10 @@
 #!/usr/bin/env bash
-# Runs the test of fabrics that are refused memory (crates/run_tests/src/refusals.rt) again and again, each time with another of
-# the process's requests for memory refused alone, as many runs side by side as there are processors. What was refused, an event
-# or a call that shows the fabric, has to say so, to leave all as it was, and to do its work when it is asked again; else the
-# test fails. It prints how many runs passed, and each that didn't. Words: every how manieth request is refused (each, if there
-# is no such word, which are some 33,000), and the program of the tests, as `./test` leaves it. It wants `cc`.
+# Runs the tests of what is refused memory (refusals.rt and refused_calls.rt of crates/run_tests/src) again and again, each time
+# with another of the process's requests for memory refused alone, as many runs side by side as there are processors. What was
+# refused, an event or a call, has to say so, to leave all as it was, and to do its work when it is made again; else a test fails.
+# And each run has to give back as much memory as one that was refused nothing. It prints how many runs passed, and each that
+# didn't. Words: every how manieth request is refused (each, if there is no such word), and the program of the tests, as `./test`
+# leaves it. It wants `cc`.
 set -euo pipefail
 here=$(cd "$(dirname "$0")/.." && pwd)
 step=${1:-1}
@@ -15,15 +16,24 @@ cd "$work"
 
 cat > one <<'ONE'
 #!/usr/bin/env bash
-# one PROGRAM NUMBER: the test with the request of this number refused.
-said=$(env "REFUSED_MEMORY=$2" "COUNTED=$PWD/counted.$2" "LD_PRELOAD=$PWD/refuse.so" "$1" \
-    refusals::what_is_refused_memory_can_be_asked_again 2>&1) && [[ $said == *'test result: ok'* ]] && echo passed ||
-    echo "number $2: $(tr '\n' ' ' <<< "$said" | head -c 300)"
-[ "$2" -eq 0 ] || rm -f "counted.$2"
+# one PROGRAM TESTS NUMBER: these tests with the request of this number refused.
+counted=$PWD/counted.$2.$3
+said=$(env "REFUSED_MEMORY=$3" "COUNTED=$counted" "LD_PRELOAD=$PWD/refuse.so" "$1" "$2" 2>&1) || true
+held=$(cut -d' ' -f5 "$counted")
+if [[ $said != *'test result: ok'* ]]; then
+    echo "$2, number $3: $(tr '\n' ' ' <<< "$said" | head -c 300)"
+elif [ "$3" -ne 0 ] && [ "$held" -gt "$(cut -d' ' -f5 "$PWD/counted.$2.0")" ]; then
+    echo "$2, number $3: $held pieces of memory were kept"
+else
+    echo passed
+fi
+[ "$3" -eq 0 ] || rm -f "$counted"
 ONE
 chmod +x one
-[ "$(./one "$program" 0)" = passed ]
-requests=$(cut -d' ' -f1 counted.0)
-seq 1 "$step" "$requests" | xargs -P "$(nproc)" -n 1 ./one "$program" > ends
-echo "$requests requests, every ${step}th refused: $(grep -c '^passed$' ends) of $(wc -l < ends) runs passed"
-! grep -v '^passed$' ends
+for tests in refusals:: refused_calls::; do
+    [ "$(./one "$program" "$tests" 0)" = passed ]
+    requests=$(cut -d' ' -f1 "counted.$tests.0")
+    seq 1 "$step" "$requests" | xargs -P "$(nproc)" -n 1 ./one "$program" "$tests" > ends
+    echo "$tests $requests requests, every ${step}th refused: $(grep -c '^passed$' ends) of $(wc -l < ends) runs passed"
+    ! grep -v '^passed$' ends
+done

@@ -11,4 +11,6 @@ mod places;
 #[cfg(test)]
 mod refusals;
 #[cfg(test)]
+mod refused_calls;
+#[cfg(test)]
 mod taken_out;

@@ -1,6 +1,6 @@
 //! Lists of single events: what each answers, and what the domains have of them.
 
-use crate::moves::{Move, direction};
+use crate::moves::{FUNCTION_06, Move, STOPPED_READ, direction};
 use domain::Entry;
 use fab_types::Class::{Completion, NonPosted, Posted};
 use fab_types::{Bdf, Direction, DomainId, Outcome, PacketBytes, Way};
@@ -18,8 +18,6 @@ const READ_BY_03: [u8; 12] = [0, 0, 0, 1, 3, 0, 0x20, 0x0f, 0, 0, 0x10, 0];
 const READ_BY_06: [u8; 12] = [0, 0, 0, 1, 6, 0, 0x20, 0x0f, 0, 0, 0x10, 0];
 
 const FUNCTION_03: u16 = 0x0300;
-
-const FUNCTION_06: u16 = 0x0600;
 
 /// Nothing of the layout has this ID.
 const NOBODY: u16 = 0x0900;
@@ -145,23 +143,12 @@ fn a_read_goes_up_and_its_completion_down(rt: HostRuntime) -> Result<(), Fail> {
     Ok(())
 }
 
-/// A read of 06:00.0 in the name of another is stopped by its first port, whose answer comes down again.
-const STOPPED: [Move; 7] = [
-    Move::EnterOfFunction(FUNCTION_06, NonPosted),
-    Move::Send(FUNCTION_06, Way::Up, NonPosted),
-    Move::Take(FUNCTION_06, Way::Up),
-    Move::Pass(0x0500, NonPosted),
-    Move::Send(FUNCTION_06, Way::Down, Completion),
-    Move::Take(FUNCTION_06, Way::Down),
-    Move::Arrive(FUNCTION_06, Completion),
-];
-
 #[test]
 fn a_read_in_the_name_of_another_is_answered_by_the_port(rt: HostRuntime) -> Result<(), Fail> {
     let mut scene = Scene::new(rt.alloc())?;
     assert!(rt; scene.submits(&rt, rt.alloc(), FUNCTION_03, &READ_BY_03));
     assert!(rt; scene.submits(&rt, rt.alloc(), FUNCTION_06, &READ_BY_03));
-    assert!(rt; scene.moves(&rt, &STOPPED));
+    assert!(rt; scene.moves(&rt, &STOPPED_READ));
     assert_eq!(rt; scene.violations(), 1);
     assert!(rt; matches!(scene.journal(1), [Entry::Submit(_, _)]));
     assert!(rt;

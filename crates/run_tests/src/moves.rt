@@ -45,6 +45,22 @@ impl Move {
     }
 }
 
+/// The function of domain 2 whose moves these are, and the port above it.
+pub(crate) const FUNCTION_06: u16 = 0x0600;
+
+pub(crate) const PORT_ABOVE_06: u16 = 0x0500;
+
+/// A read of 06:00.0 in the name of another is stopped by its first port, whose answer comes down again.
+pub(crate) const STOPPED_READ: [Move; 7] = [
+    Move::EnterOfFunction(FUNCTION_06, Class::NonPosted),
+    Move::Send(FUNCTION_06, Way::Up, Class::NonPosted),
+    Move::Take(FUNCTION_06, Way::Up),
+    Move::Pass(PORT_ABOVE_06, Class::NonPosted),
+    Move::Send(FUNCTION_06, Way::Down, Class::Completion),
+    Move::Take(FUNCTION_06, Way::Down),
+    Move::Arrive(FUNCTION_06, Class::Completion),
+];
+
 fn add_moves(moves: &mut Vec<Event>, station: &Station) -> Result<(), AllocError> {
     moves.push(station.taking(Class::Posted))?;
     moves.push(station.taking(Class::NonPosted))?;

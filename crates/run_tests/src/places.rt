@@ -1,6 +1,6 @@
 //! Where the packets of a domain stand, after each of a list of events.
 
-use crate::moves::{Move, direction};
+use crate::moves::{FUNCTION_06, Move, STOPPED_READ, direction};
 use domain::Domain;
 use fab_types::Class::{Completion, NonPosted};
 use fab_types::{Bdf, DomainId, Origin, Outcome, PacketBytes, Place, PlacesFault, Way};
@@ -15,8 +15,6 @@ use std::test::Fail;
 const READ_BY_03: [u8; 12] = [0, 0, 0, 1, 3, 0, 0x20, 0x0f, 0, 0, 0x10, 0];
 
 const FUNCTION_03: u16 = 0x0300;
-
-const FUNCTION_06: u16 = 0x0600;
 
 /// A fabric, and what is asked of it.
 #[derive(Drop)]
@@ -81,16 +79,6 @@ fn outbox(function: u16) -> Place {
     Place::Outbox(Origin::Function(Bdf::from_bits(function)))
 }
 
-/// A read in the name of another goes up to the first port, whose answer comes down again.
-const STOPPED: [Move; 6] = [
-    Move::EnterOfFunction(FUNCTION_06, NonPosted),
-    Move::Send(FUNCTION_06, Way::Up, NonPosted),
-    Move::Take(FUNCTION_06, Way::Up),
-    Move::Pass(0x0500, NonPosted),
-    Move::Send(FUNCTION_06, Way::Down, Completion),
-    Move::Take(FUNCTION_06, Way::Down),
-];
-
 /// Which packet stands where after each of these.
 fn stops() -> [(u64, Place); 6] {
     [
@@ -109,7 +97,7 @@ fn agreed<R: Wait>(rt: &R, scene: &mut Scene) -> usize {
     let stops = stops();
     for place in 0..6 {
         let (packet, stop) = stops[place];
-        let moved = scene.does(rt, &STOPPED[place].event());
+        let moved = scene.does(rt, &STOPPED_READ[place].event());
         let stands = scene.has_one(2, packet, stop) && scene.has_one(1, 0, outbox(FUNCTION_03));
         if !moved || !stands || !scene.replays(rt, 2, packet) {
             return place;
