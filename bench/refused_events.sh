@@ -16,7 +16,7 @@ cd "$work"
 
 cat > one <<'ONE'
 #!/usr/bin/env bash
-# one PROGRAM TESTS NUMBER: these tests with the request of this number refused.
+# one PROGRAM TEST NUMBER: the test with the request of this number refused.
 counted=$PWD/counted.$2.$3
 said=$(env "REFUSED_MEMORY=$3" "COUNTED=$counted" "LD_PRELOAD=$PWD/refuse.so" "$1" "$2" 2>&1) || true
 held=$(cut -d' ' -f5 "$counted")
@@ -30,10 +30,10 @@ fi
 [ "$3" -eq 0 ] || rm -f "$counted"
 ONE
 chmod +x one
-for tests in refusals:: refused_calls::; do
-    [ "$(./one "$program" "$tests" 0)" = passed ]
-    requests=$(cut -d' ' -f1 "counted.$tests.0")
-    seq 1 "$step" "$requests" | xargs -P "$(nproc)" -n 1 ./one "$program" "$tests" > ends
-    echo "$tests $requests requests, every ${step}th refused: $(grep -c '^passed$' ends) of $(wc -l < ends) runs passed"
+for test in $("$program" --list | sed -n 's/^\(\(refusals\|refused_calls\)::.*\): test$/\1/p'); do
+    [ "$(./one "$program" "$test" 0)" = passed ]
+    requests=$(cut -d' ' -f1 "counted.$test.0")
+    seq 1 "$step" "$requests" | xargs -P "$(nproc)" -n 1 ./one "$program" "$test" > ends
+    echo "$test: $requests requests, every ${step}th refused: $(grep -c '^passed$' ends) of $(wc -l < ends) runs passed"
     ! grep -v '^passed$' ends
 done
