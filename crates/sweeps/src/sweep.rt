@@ -42,6 +42,7 @@ fn make_taking<R: Wait>(rt: &R, fabric: &mut Fabric, event: &Event) -> Result<bo
 
 /// Makes the event by which a packet of a class is taken at a station, and asks anew what may leave there if something
 /// moved.
+#[inline(never)]
 fn take<R: Wait>(
     rt: &R,
     fabric: &mut Fabric,
@@ -61,6 +62,7 @@ fn take<R: Wait>(
 }
 
 /// The same, but the event isn't made where no packet of the class may leave: mostly none may.
+#[inline(always)]
 fn take_leaving<R: Wait>(
     rt: &R,
     fabric: &mut Fabric,
