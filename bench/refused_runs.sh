@@ -10,7 +10,8 @@ program=$(realpath "${1:-$here/crates/pciefab/out/pciefab}")
 shift || true
 rows_of_all=(packets/a_read_gets_what_was_written isolation/a_write_in_a_foreign_name_is_stopped
     isolation/a_read_in_a_foreign_name_is_aborted packets/a_write_to_a_peer_changes_its_register_page
-    packets/a_peer_is_reached_by_way_of_the_host_and_answers_directly_where_order_is_relaxed)
+    packets/a_peer_is_reached_by_way_of_the_host_and_answers_directly_where_order_is_relaxed
+    packets/an_answer_for_another_bus_of_the_port_leaves_the_tag_open programs/a_program_that_the_host_starts_writes_memory)
 work=$(mktemp -d)
 trap 'rm -rf "$work"' EXIT
 cc -O2 -shared -fPIC -o "$work/refuse.so" "$here/bench/refusals/refuse.c" -ldl
