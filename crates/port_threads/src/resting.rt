@@ -19,6 +19,8 @@ use wiring::Laid;
 #[derive(Drop)]
 pub(crate) struct Resting {
     pub plan: Plan,
+    /// Are all five controls set on each downstream port?
+    pub is_guarded: bool,
     pub workers: Vec<Worker>,
     pub monitor: Monitor,
     pub locks: Arc<Locks, Global>,
