@@ -1,7 +1,7 @@
 -- The parts of a report with totals, domain by domain.
-use Rattle.std.proofs.Common.{◌≡◌, ℕ, ◌+◌, ◌<◌, ◌≤◌, List, [], ◌∷◌, ◌++◌, length, take, refl, sym, ap, ◌∙◌, subst, append_assoc}
+use Rattle.std.proofs.Common.{◌≡◌, ℕ, ◌+◌, ◌<◌, ◌≤◌, List, [], ◌∷◌, ◌++◌, length, map, take, refl, sym, ap, ◌∙◌, subst, append_assoc}
 use Rattle.std.specs.Prelude.{slice_index_or}
-use Rattle.std.proofs.lemmas.List.{append-nil}
+use Rattle.std.proofs.lemmas.List.{append-nil, get_or-map}
 use Rattle.domain.specs.Domains.{DomainView}
 use Rattle.reports.proofs.Taking.{take_all, take_next}
 use Rattle.threads_command.specs.Counted.{AreCountedParts, IsCountedPart}
@@ -20,3 +20,7 @@ module _ (totals : DomainView → Totals) where
 
   pub parts_whole : (ds : List DomainView) (i : ℕ) (text : List ℕ) → length ds ≤ i → AreCountedParts totals (take i ds) text → AreCountedParts totals ds text
   parts_whole ds i text le are = subst (λ (xs : List DomainView). AreCountedParts totals xs text) (take_all ds i le) are
+
+  -- what was counted of the domain at a place
+  pub counted_at : (ds : List DomainView) (all : List Totals) (i : ℕ) (d : DomainView) (t : Totals) → i < length ds → d ≡ slice_index_or ds i d → map totals ds ≡ all → t ≡ slice_index_or all i t → t ≡ totals d
+  counted_at ds all i d t lt at made is = is ∙ ap (λ (l : List Totals). slice_index_or l i t) (sym made) ∙ get_or-map totals ds i d t lt ∙ ap totals (sym at)
