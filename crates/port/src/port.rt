@@ -1,6 +1,7 @@
 //! A port of a switch.
 
 ghost use Rattle.std.specs.Prelude.{◌≡◌, ◌+◌, ◌≤◌, IfOk, option_map, None, Some, [], length};
+ghost use Rattle.std.specs.Option.{option_copied};
 ghost use Rattle.port.specs.Configs.{config_of, direction_in, downstream_config, upstream_config};
 
 use crate::config::{Exit, exits_of, own_lane, switch_at};
@@ -138,6 +139,16 @@ impl Port {
         ensures { result.now ≡ self.now.strays }
     {
         &self.strays
+    }
+
+    /// The answer that its lane gave back, which its next turn tries to put there again.
+    pub fn kept_answer(&self) -> Option<&Frame>
+        ensures { option_copied result ≡ self.now.kept }
+    {
+        match &self.kept {
+            Some(answer) => Some(answer.frame()),
+            None => None,
+        }
     }
 
     /// Holds a report that a reporter gave back, where none is held.

@@ -1,3 +1,4 @@
+pub mod Found
 pub mod Injected
 pub mod Sent
 pub mod Strung

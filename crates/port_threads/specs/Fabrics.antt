@@ -1,5 +1,6 @@
 -- The workers of a fabric and the rings between them: before they run, while they run, and after.
-use Rattle.std.specs.Prelude.{◌≡◌, ℕ, List, map, length}
+use Rattle.std.specs.Prelude.{◌≡◌, ℕ, Bool, List, map, length}
+use Rattle.std.specs.List.{list_all}
 use Rattle.std.specs.Arc.{arc_value}
 use Rattle.credit.specs.declared.counters.Counters.{Counters}
 use Rattle.fab_types.specs.declared.origin.Origin.{Origin}
@@ -7,6 +8,7 @@ use Rattle.frame_log.specs.Descriptor.{Descriptor}
 use Rattle.crew.specs.Crews.{started}
 use Rattle.plan.specs.Plans.{Tables, plan_of}
 use Rattle.platform.specs.Platform.{Platform}
+use Rattle.platform.specs.Share.{is_guarded_port}
 use Rattle.vetted.specs.Vetted.{Vetted}
 use Rattle.wiring.specs.Wired.{AreWithin, Tags, dealt, table_of}
 use Rattle.wiring.specs.declared.laid.Laid.{Laid}
@@ -20,10 +22,11 @@ use Rattle.workers.specs.Seats.{AreWatched}
 use Rattle.port_threads.specs.declared.resting.Resting.TheInside as resting
 use Rattle.port_threads.specs.declared.running.Running.TheInside as running
 
--- the plan, the rings that were laid for its three tables, what no turn of a worker or of the monitor changes, and the
--- numbers of the domains under locks; and whose injectors nobody has taken yet
+-- the plan, and whether all five controls are set on each port; the rings that were laid for its three tables, what no turn
+-- of a worker or of the monitor changes, and the numbers of the domains under locks; and whose injectors nobody has taken yet
 pub record FabricView : Type 0 where
   pub tables : Tables
+  pub guarded : Bool
   pub links : List (Laid Descriptor)
   pub credits : List (Laid Counters)
   pub pairs : List (Laid Vetted)
@@ -53,6 +56,7 @@ pub record IsFabric (f : FabricView) : Type 0 where
 -- it is that of this layout
 pub record IsFabricOf (platform : Platform) (f : FabricView) : Type 0 where
   pub tables : f.tables ≡ plan_of platform
+  pub guarded : f.guarded ≡ list_all is_guarded_port platform.ports
   pub roles : map role_of (posts_in f) ≡ roles_of platform
   pub numbers : f.numbers ≡ starting_numbers platform
   pub origins : f.origins ≡ origins_of platform
@@ -62,6 +66,7 @@ pub record IsFabricOf (platform : Platform) (f : FabricView) : Type 0 where
 abbrev pub resting_view : resting.Inside → FabricView
 resting_view r = record {
   tables = r.plan;
+  guarded = r.is_guarded;
   links = r.links.value.items;
   credits = r.credits.value.items;
   pairs = r.pairs.value.items;
@@ -74,6 +79,7 @@ resting_view r = record {
 abbrev pub running_view : running.Inside → FabricView
 running_view r = record {
   tables = r.plan;
+  guarded = r.is_guarded;
   links = r.links.value.items;
   credits = r.credits.value.items;
   pairs = r.pairs.value.items;

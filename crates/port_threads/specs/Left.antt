@@ -1,6 +1,7 @@
 -- What is left once workers were stopped.
 use Rattle.std.specs.Prelude.{◌≡◌, ℕ, ◌<◌, ◌≤◌, List, [], length, map, reverse, slice_index_or, vec_len}
 use Rattle.std.specs.declared.snapshot.Snapshot.{Snapshot}
+use Rattle.frame_log.specs.Descriptor.{Descriptor}
 use Rattle.monitor.specs.Numbering.{reports_of}
 use Rattle.monitor.specs.Order.{of_seat}
 use Rattle.monitor.specs.Reporting.{QueueSeat, ReporterView, seat_of}
@@ -9,7 +10,10 @@ use Rattle.wiring.specs.Returned.{row_of}
 use Rattle.wiring.specs.Wired.{numbered, table_of}
 use Rattle.wiring.specs.declared.laid.Laid.{Laid}
 use Rattle.wiring.specs.declared.wire.Wire.{Wire}
+use Rattle.port_threads.specs.declared.stopped.Stopped.{Stopped}
 use Rattle.port_threads.specs.declared.told_table.ToldTable.{ToldTable}
+use Rattle.totals.specs.Balance.{AreBalanced}
+use Rattle.totals.specs.Standing.{frames_left}
 
 -- ---- rings
 
@@ -32,3 +36,13 @@ reported_by end = reports_of end.value.seat end.value.reported
 pub record AreReported (list : List Report) (ports : List (Snapshot ReporterView)) : Type 0 where
   pub all : (k : ℕ) → k < length ports → of_seat k list ≡ slice_index_or (map reported_by ports) k []
   pub others : (seat : ℕ) → length ports ≤ seat → of_seat seat list ≡ []
+
+-- ---- packets and begins
+
+-- all packets that stand anywhere in what is left
+abbrev pub frames_of : Stopped → List Descriptor
+frames_of s = frames_left s.remains.items s.links.rings.items s.pairs.rings.items
+
+-- nothing of any domain was lost or doubled
+abbrev pub AddsUp : Stopped → Type 0
+AddsUp s = AreBalanced (frames_of s) s.remains.items s.domains.items

@@ -38,6 +38,7 @@ fn shared_of(alloc: Global, layout: &Layout, domains: Vec<Domain>) -> Result<Sha
 fn put_together(
     alloc: Global,
     plan: Plan,
+    is_guarded: bool,
     rings: Rings,
     staff: Staff,
     locks: Arc<Locks, Global>,
@@ -46,6 +47,7 @@ fn put_together(
     requires rings { AreRingsOf plan rings }
     requires count { length staff ≡ length plan.workers }
     ensures tables { IfOk result (λ fabric. fabric.tables ≡ plan) }
+    ensures guarded { IfOk result (λ fabric. fabric.guarded ≡ is_guarded) }
     ensures posts { IfOk result (λ fabric. posts_in fabric ≡ staff) }
     ensures numbers { IfOk result (λ fabric. fabric.numbers ≡ arc_value locks) }
     ensures origins { IfOk result (λ fabric. fabric.origins ≡ origins_in injectors.items) }
@@ -66,6 +68,7 @@ fn put_together(
         workers: joined(alloc, parts)?,
         monitor: Monitor { watch },
         plan,
+        is_guarded,
         locks,
         injectors,
         links: links.made,
@@ -86,5 +89,13 @@ pub(crate) fn build(alloc: Global, layout: &Layout) -> Result<Resting, NoMemory>
     let shared = shared_of(alloc, layout, domains)?;
     let (staff, injectors) = staff_of(alloc, layout, &shared, starts)?;
     let Shared { bridge: _, locks } = shared;
-    put_together(alloc, plan, rings, staff, locks, injectors)
+    put_together(
+        alloc,
+        plan,
+        layout.is_guarded(),
+        rings,
+        staff,
+        locks,
+        injectors,
+    )
 }

@@ -23,4 +23,5 @@ pub use injector::{Injector, RefusedAccess};
 pub use running::Running;
 pub use stopped::Stopped;
 pub use told_table::ToldTable;
+pub use totals::{Count, Totals};
 pub use workers::{Parts, PortRemains, Remains};

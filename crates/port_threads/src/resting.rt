@@ -20,6 +20,8 @@ use wiring::Laid;
 pub(crate) struct Resting {
     /// Which workers there are, and which rings lead between them.
     pub plan: Plan,
+    /// Are all five controls set on each downstream port?
+    pub is_guarded: bool,
     /// The workers of the plan, with their ends of rings.
     pub workers: Vec<Worker>,
     /// The worker that collects violations.

@@ -22,6 +22,7 @@ use wiring::Laid;
 /// let go but by `stop`, so that no thread is left. A contract sees a `FabricView`.
 pub struct Running {
     pub(crate) plan: Plan,
+    pub(crate) is_guarded: bool,
     pub(crate) workers: Vec<PromisedHandle<Worker, Keeps<Worker>>>,
     pub(crate) monitor: PromisedHandle<Monitor, Keeps<Monitor>>,
     pub(crate) flag: Arc<AtomicBool, Global>,

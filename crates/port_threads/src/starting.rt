@@ -33,6 +33,7 @@ where
     };
     let Resting {
         plan,
+        is_guarded,
         workers,
         monitor,
         locks,
@@ -45,6 +46,7 @@ where
     match start_one(rt, monitor, gate, &flag, turns) {
         Ok(monitor) => Ok(Running {
             plan,
+            is_guarded,
             workers,
             monitor,
             flag,

@@ -1,11 +1,17 @@
 //! What is left of a fabric once it was stopped.
 
+ghost use Rattle.std.specs.Prelude.{◌≡◌, map};
+ghost use Rattle.totals.specs.Counts.{totals_of};
+ghost use Rattle.totals.specs.Standing.{frames_left};
+
 use crate::told_table::ToldTable;
 use credit::Limits;
 use domain::Domain;
+use fab_types::DomainId;
 use frame_log::Frame;
 use monitor::{QueueReporter, Report};
 use std::snapshot::Snapshot;
+use totals::{Count, Totals};
 use vetted::VettedFrame;
 use workers::Remains;
 
@@ -27,4 +33,26 @@ pub struct Stopped {
     pub ports: Vec<Snapshot<QueueReporter>>,
     /// What is left of each worker, by its number in the plan.
     pub remains: Vec<Remains>,
+    /// What counts of each domain, in their order, of all of this; and whether it adds up.
+    pub count: Count,
+    pub ghost counted: { map (totals_of (frames_left remains.items links.rings.items pairs.rings.items) remains.items) domains.items ≡ count.totals.items },
+}
+
+impl Stopped {
+    ghost use Rattle.std.specs.Prelude.{◌==◌, option_map};
+    ghost use Rattle.std.specs.List.{find};
+    ghost use Rattle.port_threads.specs.Left.{frames_of};
+
+    /// What counts of the domain of this number: its packets and its begins, as they were when the fabric was stopped. None
+    /// where no domain of it has that number.
+    pub fn totals(&self, number: DomainId) -> Option<Totals>
+        ensures { result ≡ option_map (totals_of (frames_of self.now) self.now.remains.items) (find (λ d. d.share.domain == number) self.now.domains.items) }
+    {
+        for (place, domain) in self.domains.iter().enumerate() {
+            if domain.start().domain() == number {
+                return Some(self.count.totals[place]);
+            }
+        }
+        None
+    }
 }

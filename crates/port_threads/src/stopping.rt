@@ -1,13 +1,12 @@
 //! Stopping workers.
 
-ghost use Rattle.std.specs.Prelude.{◌≡◌, IfErr, IfOk, length, map, vec_len};
+ghost use Rattle.std.specs.Prelude.{◌≡◌, ◌↔◌, IfErr, IfOk, IsTrue, length, map, true, vec_len};
 ghost use Rattle.std.specs.Arc.{arc_value};
-ghost use Rattle.fab_types.specs.declared.faults.running.StopFault.TheVariants as stop_fault;
 ghost use Rattle.port_threads.specs.Fabrics.{posts_in};
 ghost use Rattle.workers.specs.Marks.{mark_left, mark_of};
-ghost use Rattle.port_threads.specs.Left.{AreBack, AreReported, seat_left};
+ghost use Rattle.port_threads.specs.Left.{AddsUp, AreBack, AreReported, seat_left};
 ghost use Rattle.workers.specs.Seats.{seats_of};
-ghost use Rattle.port_threads.specs.Stops.{Leaves};
+ghost use Rattle.port_threads.specs.Stops.{IsStopFault, Leaves};
 
 use crate::closing::{Reported, closed};
 use crate::ending::Ending;
@@ -24,6 +23,7 @@ use std::alloc::Global;
 use std::sync::atomic::Ordering;
 use std::sync::{Arc, Wait};
 use std::thread::Threads;
+use totals::count_all;
 use workers::{AllRemains, remains_of};
 
 /// Waits until all workers and the monitor have ended. Where memory for their list is refused they have ended all the same,
@@ -38,6 +38,7 @@ fn join<R: Threads>(
 {
     let Running {
         plan,
+        is_guarded,
         workers,
         monitor,
         flag,
@@ -56,6 +57,7 @@ fn join<R: Threads>(
     Ok(Resting {
         workers: workers?,
         plan,
+        is_guarded,
         monitor,
         locks,
         injectors,
@@ -82,6 +84,7 @@ fn left_of<R: Wait>(rt: &R, alloc: Global, fabric: Resting) -> Result<Stopped, N
 {
     let Resting {
         plan,
+        is_guarded: _,
         workers,
         monitor,
         locks,
@@ -102,6 +105,7 @@ fn left_of<R: Wait>(rt: &R, alloc: Global, fabric: Resting) -> Result<Stopped, N
     let AllRemains { remains, reporters } = remains_of(alloc, posts)?;
     let Reported { list, ports } = closed(rt, alloc, monitor.watch, reporters)?;
     let domains = unlocked(alloc, locks)?;
+    let count = count_all(alloc, &remains, &links.rings, &pairs.rings, &domains)?;
     Ok(Stopped {
         domains,
         links,
@@ -110,6 +114,7 @@ fn left_of<R: Wait>(rt: &R, alloc: Global, fabric: Resting) -> Result<Stopped, N
         list,
         ports,
         remains,
+        count,
     })
 }
 
@@ -118,10 +123,14 @@ impl Running {
     /// anything else: with `Now` each ends before its next turn, and with `AfterTurns` it makes first the turns that it was
     /// started for. Then both ends of every ring are put together, and the monitor takes what waits in its queue.
     ///
+    /// All packets and begins are counted then ([`Stopped::totals`]).
+    ///
     /// # Errors
     ///
-    /// `NoMemory` alone: memory was refused, for a list of what is left or for what is left in a ring. Then no thread runs
-    /// any more, and nothing is left of the fabric.
+    /// `NoMemory`: memory was refused, for a list of what is left, for what is left in a ring, or for the count.
+    /// `Unbalanced`, in layouts alone whose downstream ports all have the five ACS controls set: of some domain the packets
+    /// that stand anywhere are not those that it has in flight, each once, or a begin that was taken for it is neither in its
+    /// journal nor refused nor held. After either no thread runs any more, and nothing is left of the fabric.
     pub fn stop<R: Threads + Wait>(
         self,
         rt: &R,
@@ -140,14 +149,22 @@ impl Running {
         // So does every worker, and every domain.
         ensures remains { IfOk result (λ s. map mark_left s.remains.items ≡ map mark_of (posts_in self)) }
         ensures domains { IfOk result (λ s. vec_len s.domains ≡ length self.numbers) }
-        ensures fault { IfErr result (λ f. f ≡ stop_fault.NoMemory) }
+
+        // Where all five controls are set on each port, nothing was lost or doubled; in any layout it says whether.
+        ensures balanced { IfOk result (λ s. self.guarded ≡ true → AddsUp s) }
+        ensures counted { IfOk result (λ s. IsTrue s.count.is_balanced ↔ AddsUp s) }
+        ensures fault { IfErr result (λ f. IsStopFault self f) }
     {
+        let is_guarded = self.is_guarded;
         let Ok(fabric) = join(rt, alloc, self, ending) else {
             return Err(StopFault::NoMemory);
         };
-        match left_of(rt, alloc, fabric) {
-            Ok(stopped) => Ok(stopped),
-            Err(_) => Err(StopFault::NoMemory),
+        let Ok(stopped) = left_of(rt, alloc, fabric) else {
+            return Err(StopFault::NoMemory);
+        };
+        if is_guarded && !stopped.count.is_balanced {
+            return Err(StopFault::Unbalanced);
         }
+        Ok(stopped)
     }
 }

@@ -96,16 +96,22 @@ record_line d = record_head d ++ packet_text d.bytes
 abbrev pub own_functions : Share → List ℕ
 own_functions share = filter (is_own_function share) (map (λ line. line.id) share.functions)
 
--- the lines of a domain whose functions are these, in this order
-abbrev pub domain_lines : DomainView → List ℕ → List ℕ
-domain_lines d functions =
-    counts_line d ++ memory_lines d ++ flat_map (register_lines d.state.registers) functions ++ flat_map record_line d.state.deliveries
+-- the lines of what a domain holds, whose functions are these, in this order: memory, register pages, and the completions that
+-- it got
+abbrev pub holding_lines : DomainView → List ℕ → List ℕ
+holding_lines d functions = memory_lines d ++ flat_map (register_lines d.state.registers) functions ++ flat_map record_line d.state.deliveries
 
--- the text is the part of the report that a domain has: its functions stand by rising ID
-pub record IsPart (d : DomainView) (text : List ℕ) : Type 0 where
+-- the text is these lines: its functions stand by rising ID
+pub record IsHolding (d : DomainView) (text : List ℕ) : Type 0 where
   pub functions : List ℕ
   pub rising : IsRising (own_functions d.share) functions
-  pub lines : text ≡ domain_lines d functions
+  pub lines : text ≡ holding_lines d functions
+
+-- the text is the part of the report that a domain has: what it counted, and what it holds
+pub record IsPart (d : DomainView) (text : List ℕ) : Type 0 where
+  pub holding : List ℕ
+  pub holds : IsHolding d holding
+  pub lines : text ≡ counts_line d ++ holding
 
 -- ---- all domains
 

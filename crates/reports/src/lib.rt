@@ -7,5 +7,6 @@ mod rows;
 
 pub use ids::rising;
 pub use report::{
-    status_name, write_domain, write_domains, write_frames, write_refusal, write_violations,
+    status_name, write_counts, write_domain, write_domains, write_frames, write_holding,
+    write_refusal, write_violations,
 };

@@ -3,7 +3,7 @@
 ghost use Rattle.std.specs.Prelude.{◌≡◌, IfOk, OnOk};
 ghost use Rattle.std.specs.List.{flat_map};
 ghost use Rattle.std.specs.Io.KnownBytes.{Appends};
-ghost use Rattle.reports.specs.Report.{AreParts, IsPart, counts_line, memory_lines, own_functions, packet_text, record_head, record_line, refusal_line, register_lines, status_name, violation_lines, violation_row};
+ghost use Rattle.reports.specs.Report.{AreParts, IsHolding, IsPart, counts_line, memory_lines, own_functions, packet_text, record_head, record_line, refusal_line, register_lines, status_name, violation_lines, violation_row};
 ghost use Rattle.reports.specs.Rising.{IsRising};
 ghost use Rattle.reports.specs.Writing.{Wrote};
 
@@ -61,15 +61,13 @@ pub fn write_domains<W: Write>(alloc: Global, out: &mut W, domains: &[Domain]) -
 pub fn write_domain<W: Write>(alloc: Global, out: &mut W, domain: &Domain) -> io::Result<()>
     ensures { OnOk result (Wrote (W.contents out.old) (W.contents out.new) (IsPart domain.now)) }
 {
-    let functions = functions_of(alloc, domain)?;
     write_counts(out, domain)?;
-    write_frames(out, domain)?;
-    write_registers(out, domain, &functions)?;
-    write_records(alloc, out, domain.records())?;
+    write_holding(alloc, out, domain)?;
     Ok(())
 }
 
-fn write_counts<W: Write>(out: &mut W, domain: &Domain) -> io::Result<()>
+/// Writes the line of what a domain counted.
+pub fn write_counts<W: Write>(out: &mut W, domain: &Domain) -> io::Result<()>
     ensures { OnOk result (Appends (W.contents out.old) (W.contents out.new) (counts_line domain.now)) }
 {
     let number = domain.start().domain();
@@ -79,6 +77,17 @@ fn write_counts<W: Write>(out: &mut W, domain: &Domain) -> io::Result<()>
     write!(out, "domain {number} begins {begins}")?;
     write!(out, " blocked {blocked} unexpected {unexpected}")?;
     writeln!(out, " open {open}")
+}
+
+/// Writes what a domain holds: its memory, its register pages, and the completions that it got.
+pub fn write_holding<W: Write>(alloc: Global, out: &mut W, domain: &Domain) -> io::Result<()>
+    ensures { OnOk result (Wrote (W.contents out.old) (W.contents out.new) (IsHolding domain.now)) }
+{
+    let functions = functions_of(alloc, domain)?;
+    write_frames(out, domain)?;
+    write_registers(out, domain, &functions)?;
+    write_records(alloc, out, domain.records())?;
+    Ok(())
 }
 
 /// Writes the rows of a domain's frames that are not all 0, rising.

@@ -1,4 +1,5 @@
 pub mod Adding
 pub mod Answering
+pub mod CountedParts
 pub mod Finding
 pub mod Lines

@@ -1,4 +1,5 @@
 pub mod Asking
 pub mod Begins
+pub mod Counted
 pub mod Refusals
 pub mod Threads

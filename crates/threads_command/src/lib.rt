@@ -4,6 +4,7 @@
 mod asking;
 mod begins;
 mod driving;
+mod parts;
 mod refusals;
 mod report;
 

@@ -4,11 +4,12 @@ ghost use Rattle.std.specs.Prelude.{◌≡◌, IfOk, OnOk, map};
 ghost use Rattle.reports.specs.Writing.{Wrote};
 ghost use Rattle.threads_command.specs.Threads.{IsReport};
 
+use crate::parts::write_parts;
 use crate::refusals::Refusals;
 use fab_types::Violation;
 use monitor::Report;
 use port_threads::Stopped;
-use reports::{write_domains, write_violations};
+use reports::write_violations;
 use std::alloc::{AllocError, Global};
 use std::io;
 use std::io::Write;
@@ -22,7 +23,7 @@ fn violations_of(alloc: Global, reports: &[Report]) -> Result<Vec<Violation>, Al
 
 /// Writes what a run on threads ends in.
 /// That is how many begins of each function and host were refused; the violations, as the monitor took them;
-/// and each domain. Where memory is refused before all of it stands ready, nothing is written.
+/// and each domain, with what counts of it. Where memory is refused before all of it stands ready, nothing is written.
 pub(crate) fn write_report<W: Write>(
     alloc: Global,
     out: &mut W,
@@ -35,7 +36,7 @@ pub(crate) fn write_report<W: Write>(
     refusals.write(&mut report)?;
     let violations = violations_of(alloc, &stopped.list)?;
     write_violations(alloc, &mut report, &violations)?;
-    write_domains(alloc, &mut report, &stopped.domains)?;
+    write_parts(alloc, &mut report, stopped)?;
     out.write_all(&report)?;
     Ok(())
 }

@@ -1,13 +1,12 @@
-use Rattle.std.proofs.Common.{refl}
-use Rattle.reports.specs.Report.{domain_lines}
+use Rattle.std.proofs.Common.{◌++◌, refl}
+use Rattle.reports.specs.Report.{counts_line}
 use Rattle.reports.proofs.Writing.{joined}
 use Rattle.reports.proofs.report.write_domain.Goals as goal
 
 pub returns : goal.returns
-returns g c = (
-  domain_lines c.args.domain.now c.in_ok-functions.functions.items,
-  record { functions = c.in_ok-functions.functions.items; rising = c.in_ok-functions.ensures; lines = refl },
-  joined _ _ _ _ _
-      (joined _ _ _ _ _ (joined _ _ _ _ _ c.in_ok-write_counts.ensures c.in_ok-write_frames.ensures) (rw c.deref.ensures.value at c.in_ok-write_registers.ensures))
-      (rw c.records.ensures at c.in_ok-write_records.ensures),
-)
+returns g c =
+    let holding = c.in_ok-write_holding.ensures in (
+      counts_line c.args.domain.now ++ holding.0,
+      record { holding = holding.0; holds = holding.1; lines = refl },
+      joined _ _ _ _ _ c.in_ok-write_counts.ensures holding.2,
+    )

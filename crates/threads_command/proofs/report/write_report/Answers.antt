@@ -6,7 +6,7 @@ use Rattle.threads_command.proofs.report.write_report.Goals as goal
 
 pub returns : goal.returns
 returns g c =
-    let parts = c.in_ok-write_domains.ensures in
+    let parts = c.in_ok-write_parts.ensures in
     let refusals : List ℕ = refused_lines c.args.refusals.now in
     let violations : List ℕ = violation_lines (map (λ report. report.violation) c.args.stopped.now.list.items) in
     let first = c.in_ok-write.ensures ∙ ap (λ (l : List ℕ). l ++ refusals) c.new-report.ensures.items in

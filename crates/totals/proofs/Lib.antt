@@ -1,0 +1,4 @@
+pub mod Balanced
+pub mod Consumed
+pub mod Crossed
+pub mod Naming
