@@ -33,7 +33,7 @@ pub struct Stopped {
     pub ports: Vec<Snapshot<QueueReporter>>,
     /// What is left of each worker, by its number in the plan.
     pub remains: Vec<Remains>,
-    /// What counts of each domain, in their order, of all of this; and whether it adds up.
+    /// What counts of each domain, in their order, and whether it adds up.
     pub count: Count,
     pub ghost counted: { map (totals_of (frames_left remains.items links.rings.items pairs.rings.items) remains.items) domains.items ≡ count.totals.items },
 }

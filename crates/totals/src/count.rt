@@ -24,9 +24,11 @@ use workers::Remains;
 /// What counts of each domain, in their order, and whether all of it adds up.
 #[derive(Drop)]
 pub struct Count {
+    /// The numbers of each domain.
     pub totals: Vec<Totals>,
-    /// Have the packets of each domain that stand anywhere the numbers that it has in flight, each once, and is each begin
-    /// that was taken for it in its journal, refused or held?
+    /// Was nothing of any domain lost or doubled?
+    /// The packets of each that stand anywhere have the numbers that it has in flight, each once, and each begin
+    /// that was taken for it is in its journal, refused or held.
     pub is_balanced: bool,
 }
 

@@ -11,8 +11,9 @@ use injector::BeginRing;
 pub(crate) struct RingCount {
     /// How many begins were taken out of the ring.
     pub taken: u64,
-    /// How many of these the domain accepted, and how many it refused.
+    /// How many of these the domain accepted.
     pub accepted: u64,
+    /// How many of these the domain refused.
     pub refused: u64,
     /// Does the worker still hold one?
     pub is_held: bool,
