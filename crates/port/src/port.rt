@@ -141,7 +141,8 @@ impl Port {
         &self.strays
     }
 
-    /// The answer that its lane gave back, which its next turn tries to put there again.
+    /// The answer that its lane gave back.
+    /// The next turn tries to put it there again.
     pub fn kept_answer(&self) -> Option<&Frame>
         ensures { option_copied result ≡ self.now.kept }
     {

@@ -22,7 +22,8 @@ pub struct Totals {
     pub consumed: u64,
     /// How many stand anywhere: in an outbox, in a queue, in a ring, or in a worker's hand.
     pub found: u64,
-    /// How many begins workers took out of the rings of its functions' and its host's injectors. This count and that of the
+    /// How many begins workers took out of its injectors' rings.
+    /// These are the injectors of its functions and of its host. This count and that of the
     /// refused ones stop at what 64 bits hold.
     pub taken: u64,
     /// How many begins are in its journal.
