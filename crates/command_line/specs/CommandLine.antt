@@ -46,6 +46,9 @@ journal_command = domain_command (codes "journal") (codes "SCRIPT")
 abbrev pub replay_command : App
 replay_command = domain_command (codes "replay") (codes "JOURNAL")
 
+abbrev pub draw_command : App
+draw_command = with_rule (new_app (codes "draw")) (word_rule (codes "LAYOUT"))
+
 abbrev pub program : App
 program = let plain = new_app (codes "pciefab") in record plain { top = record plain.top { no_binary_name = true; subcommand_required = true } }
 
@@ -54,9 +57,10 @@ abbrev pub run_commands : App
 run_commands = with_subcommand (with_subcommand (with_subcommand program first_command.top) run_command.top) alone_command.top
 
 -- `first HEX`, `run LAYOUT SCRIPT`, `alone LAYOUT SCRIPT DOMAIN`, `journal LAYOUT SCRIPT DOMAIN`,
--- `replay LAYOUT JOURNAL DOMAIN` and `threads LAYOUT SCRIPT TURNS`; help is the library's own
+-- `replay LAYOUT JOURNAL DOMAIN`, `threads LAYOUT SCRIPT TURNS` and `draw LAYOUT`; help is the library's own
 abbrev pub commands : App
-commands = with_subcommand (with_subcommand (with_subcommand run_commands journal_command.top) replay_command.top) threads_command.top
+commands =
+    with_subcommand (with_subcommand (with_subcommand (with_subcommand run_commands journal_command.top) replay_command.top) threads_command.top) draw_command.top
 
 -- a command is this, and no argument of it is one of its subcommands too
 abbrev pub IsDefined : Command → App → Type 0
@@ -71,6 +75,7 @@ pub data Asked : Type 0 where
   Journal : Text → Text → ℕ → Asked  -- the same, and the journal of that domain
   Replay : Text → Text → ℕ → Asked  -- the files of these names, a layout and a journal of the domain of this number
   Threads : Text → Text → ℕ → Asked  -- a run of the files on threads, each of which makes so many turns
+  Draw : Text → Asked  -- the drawing of the file of this name, a layout
 
 -- the names of the files of a layout and of this
 abbrev pub files_in : Text → List Row → Option (Text × Text)
@@ -101,7 +106,8 @@ asked_of entered =
     else (if bytes_eq entered.0 (codes "journal") then option_map (λ a. Journal a.0 a.1 a.2) (domain_in (codes "SCRIPT") entered.1)
     else (if bytes_eq entered.0 (codes "replay") then option_map (λ a. Replay a.0 a.1 a.2) (domain_in (codes "JOURNAL") entered.1)
     else (if bytes_eq entered.0 (codes "threads") then number_in (codes "SCRIPT") (codes "TURNS") entered.1 >>= turns_within
-    else None)))))
+    else (if bytes_eq entered.0 (codes "draw") then option_map Draw (first_of (codes "LAYOUT") entered.1)
+    else None))))))
 
 -- the kinds of error that the words may be refused by, none where they are taken
 abbrev pub errors_of : List Text → Kinds
@@ -124,6 +130,7 @@ asked_by (request.Alone files domain) = Some (Alone files.layout.now files.scrip
 asked_by (request.Journal files domain) = Some (Journal files.layout.now files.script.now domain)
 asked_by (request.Replay layout journal domain) = Some (Replay layout.now journal.now domain)
 asked_by (request.Threads files turns) = Some (Threads files.layout.now files.script.now turns)
+asked_by (request.Draw layout) = Some (Draw layout.now)
 
 -- a request is for what was asked
 abbrev pub IsAsked : Request → Asked → Type 0

@@ -2,7 +2,7 @@
 
 ghost use Rattle.std.specs.Prelude.{◌≡◌, IfOk};
 ghost use Rattle.clap.specs.Words.{App, app_of, new_app, with_rule};
-ghost use Rattle.command_line.specs.CommandLine.{IsDefined, commands, domain_command, files_command, first_command, run_commands, third_command, threads_command, word_rule};
+ghost use Rattle.command_line.specs.CommandLine.{IsDefined, commands, domain_command, draw_command, files_command, first_command, run_commands, third_command, threads_command, word_rule};
 
 use clap::{Arg, ArgAction, Command};
 use std::alloc::{AllocError, Global};
@@ -27,6 +27,9 @@ const REPLAY_ABOUT: &str =
 
 const THREADS_ABOUT: &str =
     "Runs the begins of a script on a thread for each port, function and host: packets of different functions then move in any order, as in hardware. Prints how many begins were refused, and what each domain then holds";
+
+const DRAW_ABOUT: &str =
+    "Prints the tree of a layout as a drawing in SVG: switches, ports with their controls, and functions in the colours of their domains";
 
 const PACKET_HELP: &str = "The bytes of the packet in lower-case hexadecimal, or - for no bytes";
 
@@ -140,6 +143,13 @@ fn threads_definition<'a>(alloc: Global) -> Result<Command<'a>, AllocError>
     )
 }
 
+fn draw_definition<'a>(alloc: Global) -> Result<Command<'a>, AllocError>
+    ensures { IfOk result (λ command. IsDefined command draw_command) }
+{
+    let plain = subcommand(alloc, "draw", DRAW_ABOUT);
+    with_word(alloc, plain, "LAYOUT", LAYOUT_HELP)
+}
+
 /// The program with the commands of a run.
 fn with_runs<'a>(alloc: Global) -> Result<Command<'a>, AllocError>
     ensures { IfOk result (λ command. app_of command ≡ run_commands) }
@@ -165,7 +175,9 @@ pub fn definition<'a>(alloc: Global) -> Result<Command<'a>, AllocError>
     let journal = with_domain(alloc, "journal", JOURNAL_ABOUT, "SCRIPT", SCRIPT_HELP)?;
     let replay = with_domain(alloc, "replay", REPLAY_ABOUT, "JOURNAL", JOURNAL_HELP)?;
     let threads = threads_definition(alloc)?;
+    let draw = draw_definition(alloc)?;
     let with_journal = with_runs(alloc)?.subcommand(journal)?;
     let with_replay = with_journal.subcommand(replay)?;
-    with_replay.subcommand(threads)
+    let with_threads = with_replay.subcommand(threads)?;
+    with_threads.subcommand(draw)
 }

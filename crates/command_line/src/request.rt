@@ -73,6 +73,10 @@ pub enum Request<'a> {
         files: Files<'a>,
         turns: u32,
     },
+    /// To print the drawing of a layout.
+    Draw {
+        layout: &'a str,
+    },
 }
 
 /// The names of the files of a run.
@@ -140,6 +144,10 @@ fn requested<'a>(matches: &ArgMatches<'a>) -> Option<Request<'a>>
             }
             let files = Files { layout, script };
             Some(Request::Threads { files, turns })
+        }
+        ("draw", words) => {
+            let layout = word_in(words, "LAYOUT")?;
+            Some(Request::Draw { layout })
         }
         _ => None,
     }

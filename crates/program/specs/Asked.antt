@@ -1,8 +1,9 @@
 -- What each command prints.
 use Rattle.std.specs.Prelude.{ℕ, List}
-use Rattle.command_line.specs.CommandLine.{Asked, First, Run, Alone, Journal, Replay, Threads}
+use Rattle.command_line.specs.CommandLine.{Asked, First, Run, Alone, Journal, Replay, Threads, Draw}
 use Rattle.commands.specs.First.{Prints}
 use Rattle.commands.specs.Runs.{AlonePrints, JournalPrints, ReplayPrints, RunPrints}
+use Rattle.draw_command.specs.Drawn.{DrawPrints}
 use Rattle.threads_command.specs.Threads.{ThreadsPrints}
 
 -- what a command prints that was asked for, where files may have these bytes under these names
@@ -13,3 +14,4 @@ AskedPrints holds (Alone layout script number) text = AlonePrints holds layout s
 AskedPrints holds (Journal layout script number) text = JournalPrints holds layout script number text
 AskedPrints holds (Replay layout journal number) text = ReplayPrints holds layout journal number text
 AskedPrints holds (Threads layout script turns) text = ThreadsPrints holds layout script text
+AskedPrints holds (Draw layout) text = DrawPrints holds layout text

@@ -10,6 +10,7 @@ use command_line::Request;
 use commands::first::first;
 use commands::replay::replay;
 use commands::run::{alone, journal, run};
+use draw_command::draw;
 use inputs::{ExitStatus, Fault, FileGiver};
 use std::alloc::Global;
 use std::convert::AsStr;
@@ -93,6 +94,7 @@ where
             files: names,
             turns,
         } => threads(rt, alloc, files, names, turns, out),
+        Request::Draw { layout } => draw(alloc, files, layout, out),
     }
 }
 

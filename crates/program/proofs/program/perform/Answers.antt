@@ -1,7 +1,7 @@
 use Rattle.std.proofs.Common.{refl}
 use Rattle.std.specs.Prelude.{OnOk}
 use Rattle.reports.specs.Writing.{Wrote}
-use Rattle.command_line.specs.CommandLine.{First, Run, Alone, Journal, Replay, Threads}
+use Rattle.command_line.specs.CommandLine.{First, Run, Alone, Journal, Replay, Threads, Draw}
 use Rattle.command_line.specs.declared.request.Request.TheVariants as request
 use Rattle.program.specs.Asked.{AskedPrints}
 use Rattle.command_line.proofs.Asking.{asked_alone}
@@ -36,3 +36,8 @@ pub returns-in-Threads : goal.returns-in-Threads
 returns-in-Threads g c = λ asked is.
     asked_alone (λ a. OnOk c.threads.result (Wrote (g.O.Write.contents c.args.out.now) (g.O.Write.contents c.threads.new.out) (AskedPrints (g.F.FileGiver.holds c.args.files.now) a)))
     (request.Threads c.in-Threads.names c.in-Threads.turns) (Threads c.in-Threads.names.layout.now c.in-Threads.names.script.now c.in-Threads.turns) asked refl c.threads.ensures.ok (rw c.in-Threads.is at is)
+
+pub returns-in-Draw : goal.returns-in-Draw
+returns-in-Draw g c = λ asked is.
+    asked_alone (λ a. OnOk c.draw.result (Wrote (g.O.Write.contents c.args.out.now) (g.O.Write.contents c.draw.new.out) (AskedPrints (g.F.FileGiver.holds c.args.files.now) a)))
+    (request.Draw c.in-Draw.layout) (Draw c.in-Draw.layout.now) asked refl c.draw.ensures.ok (rw c.in-Draw.is at is)

@@ -1,0 +1,4 @@
+pub mod Classes
+pub mod Counting
+pub mod Lists
+pub mod Within

@@ -1,0 +1,10 @@
+pub mod Attributes
+pub mod Controls
+pub mod Drawing
+pub mod Elements
+pub mod Figures
+pub mod Labels
+pub mod Legend
+pub mod Placing
+pub mod Ports
+pub mod Shapes
