@@ -10,7 +10,9 @@ use std::fmt;
 /// A point, in pixels from the upper left corner.
 #[derive(Clone, Copy)]
 pub struct Point {
+    /// How far to the right.
     pub x: u32,
+    /// How far down.
     pub y: u32,
 }
 
@@ -19,18 +21,26 @@ pub struct Point {
 pub struct Area {
     /// The upper left corner.
     pub corner: Point,
+    /// In pixels, to the right.
     pub width: u32,
+    /// In pixels, down.
     pub height: u32,
 }
 
 /// What an element shows.
 #[derive(Clone, Copy)]
 pub enum Class {
+    /// The host, with the link below it.
     Host,
+    /// A switch.
     Switch,
+    /// A downstream port.
     Port,
+    /// The link below a port.
     Link,
+    /// A function.
     Function,
+    /// The legend.
     Legend,
 }
 
@@ -52,9 +62,13 @@ impl fmt::Display for Class {
 /// A colour.
 #[derive(Clone, Copy)]
 pub enum Colour {
+    /// Of the background.
     White,
+    /// Of switches.
     Grey,
+    /// Of lines, and of controls that are set.
     Black,
+    /// Of controls that are clear.
     Red,
     /// That of the domain of this number.
     Domain(u8),
@@ -92,6 +106,7 @@ pub enum Attribute {
     Font,
     /// Text begins at its point.
     FromPoint,
+    /// What the element shows.
     Class(Class),
     /// The ID of what the element shows.
     Id(Bdf),
@@ -105,7 +120,9 @@ pub enum Attribute {
     Covers(Area),
     /// A line from a point down, so long.
     Down(Point, u32),
+    /// The colour of its inside, and of text.
     Fill(Colour),
+    /// The colour of its lines.
     Stroke(Colour),
 }
 

@@ -9,11 +9,17 @@ use std::fmt;
 /// One of the controls (PCIe 4.0, 7.7.8.3).
 #[derive(Clone, Copy)]
 pub enum Control {
+    /// ACS Source Validation.
     SourceValidation,
+    /// ACS Translation Blocking.
     TranslationBlocking,
+    /// ACS P2P Request Redirect.
     RequestRedirect,
+    /// ACS P2P Completion Redirect.
     CompletionRedirect,
+    /// ACS Upstream Forwarding.
     UpstreamForwarding,
+    /// ACS P2P Egress Control.
     EgressControl,
 }
 

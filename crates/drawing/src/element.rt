@@ -13,11 +13,17 @@ use std::{fmt, io};
 /// The kinds of elements (SVG 1.1).
 #[derive(Clone, Copy)]
 pub enum Tag {
+    /// The document.
     Svg,
+    /// Elements that show one thing.
     Group,
+    /// A rectangle.
     Rect,
+    /// A line.
     Path,
+    /// A line of text.
     Text,
+    /// A part of a line of text.
     Span,
 }
 

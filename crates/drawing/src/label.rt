@@ -10,9 +10,13 @@ use std::fmt;
 /// What a text says.
 #[derive(Clone, Copy)]
 pub enum Label {
+    /// The host and its bus.
     Host,
+    /// That it is a switch.
     Switch,
+    /// That it is a function.
     Function,
+    /// The ID of what is shown.
     Id(Bdf),
     /// The bus of a switch's ports.
     Bus(u16),
@@ -29,11 +33,15 @@ pub enum Label {
     /// A control's letter.
     Letter(Control),
     // ---- of the legend
+    /// The heading of the letters.
     Controls,
     /// A control's letter and name.
     Named(Control),
+    /// What red letters mean.
     Clear,
+    /// What stands behind the word `egress`.
     Vectors,
+    /// The heading of the colours.
     Domains,
 }
 
