@@ -1,5 +1,5 @@
 #!/usr/bin/env bash
-# Runs `run`, `alone`, `journal` and `replay` over rows, again and again, each time with one more of the program's requests for
+# Runs `draw`, `run`, `alone`, `journal` and `replay` over rows, again and again, each time with one more of the program's requests for
 # memory refused alone, from the first until none is left to refuse. A run has to end in `out of memory` with its status, and
 # to have printed nothing but lines of refused begins; or to print the whole, where the refused request was one that it can do
 # without. In each all memory has to be given back that the unrefused run gives back. It prints how many runs came to each end.
@@ -61,6 +61,7 @@ each_refused() {
 for row in "${@:-${rows_of_all[@]}}"; do
     echo "$row"
     cp "$here/rows/$row/layout" "$here/rows/$row/script" .
+    each_refused draw layout
     each_refused run layout script
     each_refused alone layout script 1
     each_refused journal layout script 1
