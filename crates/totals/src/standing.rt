@@ -57,11 +57,7 @@ fn note_vetted(names: &mut Vec<PacketName>, packets: &[VettedFrame]) -> Result<(
 }
 
 /// What waits to be sent at a side of a link.
-fn note_leaving(
-    alloc: Global,
-    names: &mut Vec<PacketName>,
-    side: &LinkSide,
-) -> Result<(), NoMemory>
+fn note_leaving(alloc: Global, names: &mut Vec<PacketName>, side: &LinkSide) -> Result<(), NoMemory>
     ensures { OnOk result (AreNoted names.old.items (leaving side.now) names.new.items) }
 {
     let waiting = side.egress.all(alloc)?;
@@ -70,11 +66,7 @@ fn note_leaving(
 }
 
 /// What has come there.
-fn note_landed(
-    alloc: Global,
-    names: &mut Vec<PacketName>,
-    side: &LinkSide,
-) -> Result<(), NoMemory>
+fn note_landed(alloc: Global, names: &mut Vec<PacketName>, side: &LinkSide) -> Result<(), NoMemory>
     ensures { OnOk result (AreNoted names.old.items (landed side.now) names.new.items) }
 {
     let waiting = side.ingress.all(alloc)?;

@@ -11,9 +11,9 @@ returns g c = record {
   remains = search rules;
   domains = search rules;
   counted =
-    let e1 = c.deref.ensures.value in
-    let e2 = c.deref-2.ensures.value in
-    let e3 = c.deref-3.ensures.value in
-    let e4 = c.deref-4.ensures.value in
-    rw (e1, e2, e3, e4) at c.in_ok-count.ensures.balanced;
+      let e1 = c.deref.ensures.value in
+      let e2 = c.deref-2.ensures.value in
+      let e3 = c.deref-3.ensures.value in
+      let e4 = c.deref-4.ensures.value in
+      rw (e1, e2, e3, e4) at c.in_ok-count.ensures.balanced;
 }

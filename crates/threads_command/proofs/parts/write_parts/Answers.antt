@@ -19,7 +19,7 @@ loop-place-preserved g c =
     let own = counted_at totals s.domains.items s.count.totals.items c.loop-place.place c.domain-item.result _ (search rules) (search rules) s.counted (search rules) in (
       before.0 ++ now.0,
       parts_next totals s.domains.items c.loop-place.place c.domain-item.result before.0 now.0 (search rules) (search rules) before.1
-      (subst (λ (t : Totals). IsCountedPart t c.domain-item.result now.0) own now.1),
+          (subst (λ (t : Totals). IsCountedPart t c.domain-item.result now.0) own now.1),
       joined _ _ _ before.0 now.0 before.2 now.2,
     )
 
