@@ -1,5 +1,5 @@
 -- What was counted of the first that passes.
-use Rattle.std.proofs.Common.{◌≡◌, ℕ, suc, ◌<◌, Bool, true, cond, List, ◌∷◌, length, get_or, drop, drop-cons, map, Option, Some, sym, ap, ◌∙◌}
+use Rattle.std.proofs.Common.{◌≡◌, ℕ, suc, ◌<◌, Bool, true, cond, List, ◌∷◌, length, get_or, drop, drop-cons, map, Some, sym, ap, ◌∙◌}
 use Rattle.std.specs.Prelude.{option_map}
 use Rattle.std.specs.List.{find}
 use Rattle.std.proofs.lemmas.List.{get_or-map}

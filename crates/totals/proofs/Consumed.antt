@@ -1,6 +1,6 @@
 -- What an entry of the journal ended, and what is in flight, is all that a domain made.
-use Rattle.std.proofs.Common.{◌≡◌, ℕ, suc, ◌+◌, ◌<◌, Bool, cond, List, [], ◌∷◌, length, get_or, Option, Some, None, refl, ap, ◌∙◌, subst, add-zero, zero-add, arith}
-use Rattle.std.specs.Prelude.{count_by, is_some, nat_lt, sum_by}
+use Rattle.std.proofs.Common.{◌≡◌, ℕ, suc, ◌+◌, ◌<◌, Bool, cond, List, [], ◌∷◌, length, get_or, Option, Some, None, refl, ap, ◌∙◌, subst, add-zero, arith}
+use Rattle.std.specs.Prelude.{count_by, is_some, sum_by}
 use Rattle.std.specs.List.{range_with_len}
 use Rattle.std.proofs.lemmas.Bool.{lt-ltb}
 use Rattle.std.proofs.lemmas.List.Sums.{sum_by-cons}

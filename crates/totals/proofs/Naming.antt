@@ -1,9 +1,8 @@
 -- Packets that are noted one after the other.
-use Rattle.std.proofs.Common.{◌≡◌, ℕ, ◌+◌, Bool, cond, List, [], ◌∷◌, ◌++◌, sym, ap, ◌∙◌, arith}
-use Rattle.std.specs.Prelude.{count_by}
+use Rattle.std.proofs.Common.{ℕ, ◌+◌, Bool, cond, List, ◌++◌, arith}
 use Rattle.std.specs.List.Sorted.{IsPermutation}
 use Rattle.std.proofs.lemmas.List.Sorted.{sum_by-IsPermutation}
-use Rattle.std.proofs.lemmas.List.Sums.{sum_by-append, sum_by-cons, sum_by_push}
+use Rattle.std.proofs.lemmas.List.Sums.{sum_by-append}
 use Rattle.frame_log.specs.Descriptor.{Descriptor}
 use Rattle.totals.specs.Named.{AreNoted, name_of}
 use Rattle.totals.specs.declared.packet_name.PacketName.{PacketName}

@@ -1,5 +1,5 @@
 -- The begins that came for a domain from outside, by the rings that its functions and its host were served from.
-use Rattle.std.specs.Prelude.{◌≡◌, ℕ, ◌+◌, List, [], ◌∷◌, length, map, is_some, if◌then◌else◌, count_by, sum_by}
+use Rattle.std.specs.Prelude.{◌≡◌, ℕ, ◌+◌, List, [], ◌∷◌, length, is_some, if◌then◌else◌, count_by, sum_by}
 use Rattle.std.specs.List.{flat_map}
 use Rattle.rtrb.specs.Ring.{received}
 use Rattle.fab_types.specs.Origins.{same_origin}

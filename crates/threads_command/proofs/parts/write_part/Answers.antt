@@ -9,5 +9,5 @@ returns g c =
     let holding = c.in_ok-write_holding.ensures in (
       counts_line c.args.domain.now ++ totals_line c.args.domain.now.share.domain c.args.totals.now ++ holding.0,
       record { holding = holding.0; holds = holding.1; lines = refl },
-      joined _ _ _ _ _ (joined _ _ _ _ _ c.in_ok-write_counts.ensures c.in_ok-write_totals.ensures) holding.2,
+      joined _ _ _ _ _ (joined _ _ _ _ _ c.in_ok-write_counts.ensures (rw (c.domain.ensures, c.start.ensures) at c.in_ok-write_totals.ensures)) holding.2,
     )

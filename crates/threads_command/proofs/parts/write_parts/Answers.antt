@@ -1,4 +1,4 @@
-use Rattle.std.proofs.Common.{◌≡◌, [], ◌++◌, refl, subst, rules}
+use Rattle.std.proofs.Common.{[], ◌++◌, refl, subst, rules}
 use Rattle.port_threads.specs.Left.{frames_of}
 use Rattle.reports.proofs.Writing.{joined, nothing}
 use Rattle.threads_command.specs.Counted.{IsCountedPart}

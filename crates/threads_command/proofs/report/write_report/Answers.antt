@@ -11,7 +11,7 @@ returns g c =
     let violations : List ℕ = violation_lines (map (λ report. report.violation) c.args.stopped.now.list.items) in
     let first = c.in_ok-write.ensures ∙ ap (λ (l : List ℕ). l ++ refusals) c.new-report.ensures.items in
     let second = (search rules) ∙ ap (λ (l : List ℕ). l ++ violations) first in
-    let made = c.deref-4.ensures.value ∙ parts.2 ∙ ap (λ (l : List ℕ). l ++ parts.0) second in (
+    let made = c.deref-3.ensures.value ∙ parts.2 ∙ ap (λ (l : List ℕ). l ++ parts.0) second in (
       refusals ++ violations ++ parts.0,
       record { parts = parts.0; domains = search rules; lines = refl },
       ready _ _ (refusals ++ violations ++ parts.0) _ made c.in_ok-write_all.ensures.bytes,

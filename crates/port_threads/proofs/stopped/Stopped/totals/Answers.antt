@@ -1,6 +1,5 @@
-use Rattle.std.proofs.Common.{◌≡◌, ◌<◌, ap, arith, length, rules}
-use Rattle.std.specs.Prelude.{◌==◌, vec_len}
-use Rattle.std.proofs.lemmas.List.{length-map}
+use Rattle.std.proofs.Common.{rules}
+use Rattle.std.specs.Prelude.{◌==◌}
 use Rattle.domain.specs.Domains.{DomainView}
 use Rattle.port_threads.specs.Left.{frames_of}
 use Rattle.totals.specs.Counts.{totals_of}
