@@ -1,7 +1,7 @@
 //! All pages of a domain.
 
 ghost use Rattle.std.specs.Prelude.{true, ◌≡◌, ◌≢◌, ℕ, ◌+◌, ◌<◌, ◌≤◌, IfOk, IfSome, IsSome, MatchOption};
-ghost use Rattle.std.specs.Prelude.{length, map, slice_index};
+ghost use Rattle.std.specs.Prelude.{is_some, length, map, slice_index};
 ghost use Rattle.std.specs.List.Sorted.{IsStrictlyIncreasing};
 ghost use Rattle.std.specs.Option.{option_copied, option_copied_mut};
 ghost use Rattle.std.specs.Borrow.{sem};
@@ -94,28 +94,34 @@ impl HostMemory {
 
     /// Lends the bytes of this range in this frame to be written.
     /// There are none where the frame isn't of the domain, or hasn't the range. No clause says what the memory
-    /// then is: who has to know calls `known_part_mut`.
+    /// then is: `write` says it.
     pub fn part_mut(&mut self, frame: u16, range: Range<usize>) -> Option<&mut [u8]>
         ensures part { option_copied_mut result ≡ part_of self.old frame range.start range.end }
         ensures size { IfSome result (λ part. length part.now + range.start ≡ range.end) }
     {
-        if self.part(frame, range.start..range.end).is_some() {
-            Some(self.known_part_mut(frame, range))
+        if self.has_part(frame, range.start, range.end) {
+            Some(self.known_part_mut(frame, range.start, range.end))
         } else {
             None
         }
     }
 
-    /// Lends the bytes of this range in this frame to be written.
-    /// It may be called where `part` gives them to be read. All other bytes stay.
-    pub fn known_part_mut(&mut self, frame: u16, range: Range<usize>) -> &mut [u8]
-        requires { IsSome (part_of self.old frame range.start range.end) }
-        ensures* writes_back { sem 𝓛 (LendsPart self.entry frame range.start result) }
-        ensures part { part_of self.old frame range.start range.end ≡ Some result.now }
-        ensures size { length result.now + range.start ≡ range.end }
+    // Is there such a part?
+    fn has_part(&self, frame: u16, start: usize, end: usize) -> bool
+        ensures { result ≡ is_some (part_of self.now frame start end) }
+    {
+        self.part(frame, start..end).is_some()
+    }
+
+    // Lends a part that is there to be written.
+    fn known_part_mut(&mut self, frame: u16, start: usize, end: usize) -> &mut [u8]
+        requires { IsSome (part_of self.old frame start end) }
+        ensures* writes_back { sem 𝓛 (LendsPart self.entry frame start result) }
+        ensures part { part_of self.old frame start end ≡ Some result.now }
+        ensures size { length result.now + start ≡ end }
     {
         let at = place(&self.numbers, frame).unwrap();
-        self.pages[at].part_mut(range.start, range.end)
+        self.pages[at].part_mut(start, end)
     }
 
     /// Adds an operand of 4 or 8 bytes to the bytes from `offset` on.
@@ -144,9 +150,10 @@ impl HostMemory {
         requires { offset + length bytes.now ≤ 4096 }
         ensures { self.new ≡ written self.old frame offset bytes.now }
     {
-        match place(&self.numbers, frame) {
-            Some(at) => self.pages[at].write(offset, bytes),
-            None => {}
+        let end = offset + bytes.len();
+        if self.has_part(frame, offset, end) {
+            self.known_part_mut(frame, offset, end)
+                .copy_from_slice(bytes);
         }
     }
 }

@@ -3,7 +3,6 @@
 ghost use Rattle.std.specs.Prelude.{◌≡◌, ◌+◌, ◌≤◌, IfOk, length, slice_range, vec_len};
 ghost use Rattle.std.specs.Borrow.{sem};
 ghost use Rattle.host_memory.specs.Pages.{zeros};
-ghost use Rattle.fab_types.specs.Bytes.{overwritten};
 
 use fab_types::NoMemory;
 use std::alloc::Global;
@@ -64,14 +63,5 @@ impl Page {
         ensures size { length result.now + start ≡ end }
     {
         self.bytes.slice_mut(start..end)
-    }
-
-    /// Writes these bytes from `offset` on.
-    pub(crate) fn write(&mut self, offset: usize, bytes: &[u8])
-        requires { offset + length bytes.now ≤ 4096 }
-        ensures { self.new ≡ overwritten self.old offset bytes.now }
-    {
-        self.part_mut(offset, offset + bytes.len())
-            .copy_from_slice(bytes);
     }
 }

@@ -7,7 +7,7 @@ pub unwrap-at-requires : goal.unwrap-at-requires
 unwrap-at-requires c =
     let found = rw c.deref.ensures.value at c.place.ensures in
     let there = rw (← c.self.view_is) at c.requires in
-    found_with_part _ _ _ c.args.range.start c.args.range.end _ found there
+    found_with_part _ _ _ c.args.start c.args.end _ found there
 
 pub returns : goal.returns
 returns c =
@@ -20,6 +20,6 @@ returns c =
       bytes = c.index_mut.ensures.value;
     } in
     let there = rw (← c.self.view_is) at c.requires in (
-      (refl, λ w. rw (← c.self.view_is) (written_standing _ _ _ _ c.args.range.start w _ stands)),
-      record { writes_back = tt; part = rw (← c.self.view_is) (part_standing _ _ _ _ c.args.range.start c.args.range.end _ _ stands there c.part_mut.ensures.part); size = c.part_mut.ensures.size },
+      (refl, λ w. rw (← c.self.view_is) (written_standing _ _ _ _ c.args.start w _ stands)),
+      record { writes_back = tt; part = rw (← c.self.view_is) (part_standing _ _ _ _ c.args.start c.args.end _ _ stands there c.part_mut.ensures.part); size = c.part_mut.ensures.size },
     )

@@ -1,19 +1,10 @@
-use Rattle.std.proofs.Common.{sym, arith}
-use Rattle.host_memory.proofs.Zipped.{written_standing, written_absent}
+use Rattle.std.proofs.Common.{◌≤◌, ◌+◌, sym, ◌∙◌, length, arith}
+use Rattle.host_memory.proofs.Parts.{unwritten}
 use Rattle.host_memory.proofs.memory.HostMemory.write.Goals as goal
 
-pub returns-in-Some : goal.returns-in-Some
-returns-in-Some c =
-    let found = rw c.deref.ensures.value at c.in-Some.ensures in
-    rw (← c.self.view_is, c.write.ensures) (written_standing _ _ _ c.in-Some.at c.args.offset c.args.bytes.now _ (record {
-      rising = c.self.invariant.rising;
-      paired = omega arith;
-      within = found.0;
-      number = found.1;
-      bytes = c.index_mut.ensures.value;
-    }))
-
-pub returns-in-None : goal.returns-in-None
-returns-in-None c =
-    let absent = rw c.deref.ensures.value at c.in-None.ensures in
-    rw (← c.self.view_is) (sym (written_absent _ _ _ c.args.offset c.args.bytes.now absent))
+pub returns-else-has_part : goal.returns-else-has_part
+returns-else-has_part c =
+    let start = c.args.offset in
+    let end = start + length c.args.bytes.now in
+    let low : start ≤ end = omega arith in
+    sym (unwritten c.args.self.now c.args.frame start end c.args.bytes.now low c.requires (sym c.has_part.ensures ∙ c.if-has_part.false))
