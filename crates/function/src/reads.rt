@@ -1,8 +1,9 @@
 //! Reads of a page, and their completions.
 
-ghost use Rattle.std.specs.Prelude.{◌≡◌, ◌+◌, ◌*◌, ◌<◌, ◌≤◌, length};
+ghost use Rattle.std.specs.Prelude.{true, ◌≡◌, ◌+◌, ◌*◌, ◌<◌, ◌≤◌, length};
 ghost use Rattle.function.specs.Accesses.{is_empty_read, place_of, read_data};
 ghost use Rattle.tlp_view.specs.declared.kind.Kind.TheVariants.{MRd};
+ghost use Rattle.tlp_view.specs.Kinds.{has_address};
 ghost use Rattle.tlp_view.specs.Packet.{dw_count};
 ghost use Rattle.tlp_view.specs.Completions.{read_completion};
 
@@ -11,10 +12,11 @@ use tlp_view::{CompletionHead, CplBuf, TlpView};
 
 /// The place in the page that the address names.
 pub(crate) fn place_of(request: &TlpView) -> usize
+    requires { has_address (request.now).kind ≡ true }
     ensures value { result ≡ place_of request.now }
     ensures inside { result < 4096 }
 {
-    (request.address().unwrap_or(0) % 4096) as usize
+    (request.address().unwrap() % 4096) as usize
 }
 
 /// Does the packet ask for no byte?
@@ -28,14 +30,6 @@ fn is_empty_read(request: &TlpView, count: u16) -> bool
     }
 }
 
-/// How many DW a read asks for.
-fn dw_count(request: &TlpView) -> u16
-    requires { (request.now).kind ≡ MRd }
-    ensures { result ≡ dw_count (request.now).length }
-{
-    request.length().unwrap_or(0)
-}
-
 /// The completion of a read of this page, which bears this ID.
 pub(crate) fn completion_of(id: Bdf, page: &[u8], request: &TlpView) -> CplBuf
     requires size { length page.now ≡ 4096 }
@@ -44,7 +38,7 @@ pub(crate) fn completion_of(id: Bdf, page: &[u8], request: &TlpView) -> CplBuf
     requires inside { place_of request.now + 4 * dw_count (request.now).length ≤ 4096 }
     ensures { result ≡ read_completion id request.now (read_data page.now request.now) }
 {
-    let count = dw_count(request);
+    let count = request.dw_length();
     let mut answer = CplBuf::new(CompletionHead::of_read(id, request), usize::from(count));
     if !is_empty_read(request, count) {
         let start = place_of(request);

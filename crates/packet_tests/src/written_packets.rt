@@ -5,13 +5,15 @@ ghost use Rattle.std.specs.Prelude.{◌≡◌, ◌%◌};
 use crate::packets::{READ, WRITE, result_of};
 use fab_types::{AddressType, Bdf, Status};
 use std::test::Fail;
-use tlp_view::{Attributes, CompletionHead, CplBuf, Enables, RequestBuf, RequestHead, TlpView};
+use tlp_view::{
+    Attributes, CompletionHead, CplBuf, Enables, Kind, RequestBuf, RequestHead, TlpView,
+};
 
 fn answer_to(request: &TlpView) -> Option<CplBuf> {
-    match request.length() {
-        Some(count) if count <= 64 => {
+    match request.kind() {
+        Kind::MRd if request.dw_length() <= 64 => {
             let head = CompletionHead::of_read(Bdf::from_bits(0), request);
-            Some(CplBuf::new(head, usize::from(count)))
+            Some(CplBuf::new(head, usize::from(request.dw_length())))
         }
         _ => None,
     }

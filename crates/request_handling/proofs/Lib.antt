@@ -1,5 +1,6 @@
 pub mod Places
 pub mod Choices
 pub mod WellMadeLemmas
+pub mod Addressed
 pub mod PastPort
 pub mod Discarding

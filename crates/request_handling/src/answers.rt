@@ -4,7 +4,8 @@ ghost use Rattle.std.specs.Prelude.{◌≡◌, ◌+◌, ◌*◌, ◌%◌, ◌≤
 ghost use Rattle.std.specs.Option.{option_copied};
 ghost use Rattle.host_memory.specs.Pages.{part_of};
 ghost use Rattle.tlp_view.specs.Completions.{HeadFits, atomic_completion, completion_of, read_completion};
-ghost use Rattle.tlp_view.specs.Kinds.{is_fetch_add};
+ghost use Rattle.tlp_view.specs.Kinds.{has_address, is_fetch_add};
+ghost use Rattle.tlp_view.specs.declared.kind.Kind.TheVariants.{MRd};
 ghost use Rattle.tlp_view.specs.Packet.{dw_count};
 ghost use Rattle.request_handling.specs.Carries.{forward};
 ghost use Rattle.request_handling.specs.Answers.{address_of, bar_of, blank, forwarded, function_answer, function_refusal, host_data, host_operand, host_refusal, port_answer, reads_nothing, shown};
@@ -53,7 +54,8 @@ pub(crate) fn function_refusal(start: &Start, function: Bdf, view: &TlpView) -> 
 
 /// The host answers a read of a frame of memory.
 pub(crate) fn host_data(start: &Start, memory: &HostMemory, frame: u16, view: &TlpView) -> Reply
-    requires { dw_count (view.now).length ≤ 64 }
+    requires read { (view.now).kind ≡ MRd }
+    requires short { dw_count (view.now).length ≤ 64 }
     ensures { result ≡ host_data start.now view.now (shown memory.now frame view.now) }
 {
     Reply::answer(
@@ -64,6 +66,7 @@ pub(crate) fn host_data(start: &Start, memory: &HostMemory, frame: u16, view: &T
 }
 
 /// The host answers a FetchAdd of a frame of memory with what stands there before it.
+#[tactic(auto, using(crate::proofs::Addressed::fetch_add_addressed))]
 pub(crate) fn host_operand(start: &Start, memory: &HostMemory, frame: u16, view: &TlpView) -> Reply
     requires { is_fetch_add (view.now).kind ≡ true }
     ensures { result ≡ host_operand start.now view.now (shown memory.now frame view.now) }
@@ -100,11 +103,20 @@ pub(crate) fn forward(start: &Start, function: Bdf, view: &TlpView) -> Option<Ha
     }
 }
 
+/// The address of a request that has one.
+pub(crate) fn address_of(view: &TlpView) -> u64
+    requires { has_address (view.now).kind ≡ true }
+    ensures { result ≡ address_of view.now }
+{
+    view.address().unwrap()
+}
+
+#[tactic(auto, using(crate::proofs::Addressed::access_addressed))]
 fn forwarded(function: Bdf, bar: u32, view: &TlpView) -> Reply
     requires { IsAccess view.now }
     ensures { result ≡ forwarded function bar view.now }
 {
-    let place = view.address().unwrap_or(0) % 4096;
+    let place = address_of(view) % 4096;
     let page = u64::from(bar / 4096 * 4096);
     Reply::request(function, RequestBuf::moved(view, page + place))
 }
@@ -136,18 +148,20 @@ fn reads_nothing(view: &TlpView) -> bool
 
 /// The bytes that a read or an AtomicOp shows, where they are not all 0 for another cause.
 fn part_read<'a>(memory: &'a HostMemory, frame: u16, view: &TlpView) -> Option<&'a [u8]>
+    requires { has_address (view.now).kind ≡ true }
     ensures value { unwrap_or (option_copied result) (blank view.now) ≡ shown memory.now frame view.now }
     ensures size { IfSome result (λ part. length part.now ≡ 4 * dw_count (view.now).length) }
 {
     if reads_nothing(view) {
         return None;
     }
-    let first = (view.address().unwrap_or(0) % 4096) as usize;
+    let first = (address_of(view) % 4096) as usize;
     memory.part(frame, first..first + 4 * usize::from(view.dw_length()))
 }
 
 /// The successful completion of a read that shows this part, or 0 without one.
 fn completed_read(view: &TlpView, part: Option<&[u8]>) -> CplBuf
+    requires read { (view.now).kind ≡ MRd }
     requires short { dw_count (view.now).length ≤ 64 }
     requires size { IfSome part (λ bytes. length bytes.now ≡ 4 * dw_count (view.now).length) }
     ensures { result ≡ read_completion 0 view.now (unwrap_or (option_copied part.entry) (blank view.now)) }

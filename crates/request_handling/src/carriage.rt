@@ -4,7 +4,8 @@ ghost use Rattle.std.specs.Prelude.{◌≡◌, ◌/◌, ◌≤◌, true, None, S
 ghost use Rattle.fab_types.specs.declared.head.Parties.TheVariants.{Downward, Upward};
 ghost use Rattle.function.specs.Accesses.{IsAccess};
 ghost use Rattle.tlp_view.specs.Bytes.{packet_of};
-ghost use Rattle.tlp_view.specs.Kinds.{has_address, is_fetch_add, is_memory};
+ghost use Rattle.tlp_view.specs.declared.kind.Kind.TheVariants.{MRd};
+ghost use Rattle.tlp_view.specs.Kinds.{has_address, is_fetch_add};
 ghost use Rattle.tlp_view.specs.Packet.{dw_count};
 ghost use Rattle.tlp_view.specs.Runs.{is_write};
 ghost use Rattle.request_handling.specs.WellMade.{IsWellMade};
@@ -15,7 +16,7 @@ ghost use Rattle.platform.specs.declared.parts.Access.TheVariants as access;
 ghost use Rattle.request_handling.specs.Answers.{address_of};
 ghost use Rattle.request_handling.specs.Fates.{fate, fate_at};
 
-use crate::answers::{forward, function_answer, host_data, host_operand, host_refusal};
+use crate::answers::{address_of, forward, function_answer, host_data, host_operand, host_refusal};
 use crate::fate::{Fate, is_untranslated, packet_fate};
 use crate::handling::{Effect, Handling};
 use crate::page::place;
@@ -58,9 +59,10 @@ fn is_carried(start: &Start, view: &TlpView) -> bool
 
 /// The host writes to a frame.
 pub(crate) fn to_frame(frame: u16, view: &TlpView) -> Handling
+    requires { has_address (view.now).kind ≡ true }
     ensures { result ≡ to_frame frame view.now }
 {
-    let first = (view.address().unwrap_or(0) % 4096) as usize;
+    let first = (address_of(view) % 4096) as usize;
     Handling {
         effect: Effect::Store(frame, first),
         reply: None,
@@ -69,7 +71,8 @@ pub(crate) fn to_frame(frame: u16, view: &TlpView) -> Handling
 
 /// The host answers a read of a frame.
 pub(crate) fn from_frame(start: &Start, memory: &HostMemory, view: &TlpView, frame: u16) -> Handling
-    requires { dw_count (view.now).length ≤ 64 }
+    requires read { (view.now).kind ≡ MRd }
+    requires short { dw_count (view.now).length ≤ 64 }
     ensures { result ≡ from_frame start.now memory.now view.now frame }
 {
     Handling {
@@ -79,11 +82,12 @@ pub(crate) fn from_frame(start: &Start, memory: &HostMemory, view: &TlpView, fra
 }
 
 /// The host adds to a frame, and answers with what stood there.
+#[tactic(auto, using(crate::proofs::Addressed::fetch_add_addressed))]
 fn add_to_frame(start: &Start, memory: &HostMemory, view: &TlpView, frame: u16) -> Handling
     requires { is_fetch_add (view.now).kind ≡ true }
     ensures { result ≡ add_to_frame start.now memory.now view.now frame }
 {
-    let first = (view.address().unwrap_or(0) % 4096) as usize;
+    let first = (address_of(view) % 4096) as usize;
     Handling {
         effect: Effect::Add(frame, first),
         reply: Some(host_operand(start, memory, frame, view)),
@@ -111,13 +115,12 @@ pub(crate) fn refused_by_host(start: &Start, view: &TlpView) -> Handling
 }
 
 /// What the host does with a write.
-#[tactic(auto, using(crate::proofs::WellMadeLemmas::write_access))]
+#[tactic(auto, using(crate::proofs::WellMadeLemmas::write_access, crate::proofs::Addressed::write_addressed))]
 fn serve_write(start: &Start, table: &HostTable, view: &TlpView) -> Option<Handling>
     requires { is_write (view.now).kind ≡ true }
     ensures { result ≡ write_to start.now view.now (target_of table.now view.now.requester (address_of view.now / 4096) access.Write) }
 {
-    let address = view.address().unwrap_or(0);
-    match table.lookup(view.requester(), address / 4096, Access::Write) {
+    match table.lookup(view.requester(), address_of(view) / 4096, Access::Write) {
         Target::Frame(frame) => Some(to_frame(frame, view)),
         Target::Peer(function) => forward(start, function, view),
         Target::None => Some(Handling {
@@ -135,14 +138,13 @@ fn serve_read(
     view: &TlpView,
 ) -> Option<Handling>
     requires table { table.now ≡ (start.now).maps }
-    requires is_memory { is_memory (view.now).kind ≡ true }
+    requires read { (view.now).kind ≡ MRd }
     ensures { result ≡ serve_read start.now memory.now view.now }
 {
     if view.dw_length() > 64 {
         return Some(refused_by_host(start, view));
     }
-    let page = view.address().unwrap_or(0) / 4096;
-    match table.lookup(view.requester(), page, Access::Read) {
+    match table.lookup(view.requester(), address_of(view) / 4096, Access::Read) {
         Target::Frame(frame) => Some(from_frame(start, memory, view, frame)),
         Target::Peer(function) => forward(start, function, view),
         Target::None => Some(blocked_by_host(start, view)),
@@ -152,10 +154,10 @@ fn serve_read(
 /// The frame that the page of this request is mapped to for this access.
 fn frame_for(start: &Start, table: &HostTable, view: &TlpView, access: Access) -> Option<u16>
     requires table { table.now ≡ (start.now).maps }
+    requires addressed { has_address (view.now).kind ≡ true }
     ensures { result ≡ frame_for start.now view.now access }
 {
-    let page = view.address().unwrap_or(0) / 4096;
-    match table.lookup(view.requester(), page, access) {
+    match table.lookup(view.requester(), address_of(view) / 4096, access) {
         Target::Frame(frame) => Some(frame),
         Target::Peer(_) => None,
         Target::None => None,
@@ -163,6 +165,7 @@ fn frame_for(start: &Start, table: &HostTable, view: &TlpView, access: Access) -
 }
 
 /// What the host does with a FetchAdd, which reads and writes (PCIe 4.0, 6.15).
+#[tactic(auto, using(crate::proofs::Addressed::fetch_add_addressed))]
 fn serve_add(start: &Start, table: &HostTable, memory: &HostMemory, view: &TlpView) -> Handling
     requires table { table.now ≡ (start.now).maps }
     requires atomic { is_fetch_add (view.now).kind ≡ true }
@@ -178,7 +181,7 @@ fn serve_add(start: &Start, table: &HostTable, memory: &HostMemory, view: &TlpVi
 }
 
 /// What the host does with a request for memory, by the table of its Requester ID.
-#[tactic(auto, using(crate::proofs::WellMadeLemmas::left_memory))]
+#[tactic(auto, using(crate::proofs::Addressed::left_read))]
 pub(crate) fn serve(
     start: &Start,
     table: &HostTable,

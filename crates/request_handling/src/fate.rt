@@ -4,6 +4,7 @@ ghost use Rattle.std.specs.Prelude.{◌≡◌, ℕ, true};
 ghost use Rattle.tlp_view.specs.Kinds.{has_address};
 ghost use Rattle.request_handling.specs.Fates.{fails_egress, fails_source, fails_translation, fate, fate_at, goes_to, is_blocked_from, is_untranslated, packet_fate, returns_completion, returns_to_sender, stopped};
 
+use crate::answers::address_of;
 use fab_types::{AddressType, Bdf, Class, Status};
 use layout::Start;
 use platform::{DownstreamPort, direct_to, holder_beside};
@@ -57,9 +58,10 @@ fn fails_translation(port: &DownstreamPort, view: &TlpView) -> bool
 }
 
 fn returns_to_sender(port: &DownstreamPort, view: &TlpView) -> bool
+    requires { has_address (view.now).kind ≡ true }
     ensures { result ≡ returns_to_sender port.now view.now }
 {
-    !port.controls.forwards_upstream() && port.holds_address(view.address().unwrap_or(0))
+    !port.controls.forwards_upstream() && port.holds_address(address_of(view))
 }
 
 pub(crate) fn returns_completion(port: &DownstreamPort, view: &TlpView) -> bool
@@ -79,9 +81,10 @@ fn is_blocked_from(port: &DownstreamPort, other: Option<DownstreamPort>) -> bool
 
 /// Is it for another port of the switch, to which the port's vector lets no request through, and isn't redirected?
 fn fails_egress(ports: &[DownstreamPort], port: &DownstreamPort, view: &TlpView) -> bool
+    requires { has_address (view.now).kind ≡ true }
     ensures { result ≡ fails_egress ports.now port.now view.now }
 {
-    let address = view.address().unwrap_or(0);
+    let address = address_of(view);
     port.controls.controls_egress()
         && !port.controls.redirects_requests()
         && !port.holds_address(address)
@@ -115,7 +118,7 @@ pub(crate) fn packet_fate(
     } else if fails_egress(ports, port, view) {
         stopped(Status::CA, class)
     } else {
-        goes_to(direct_to(ports, function, view.address().unwrap_or(0)))
+        goes_to(direct_to(ports, function, address_of(view)))
     }
 }
 

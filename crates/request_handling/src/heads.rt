@@ -4,6 +4,7 @@ ghost use Rattle.std.specs.Prelude.{◌≡◌};
 ghost use Rattle.tlp_view.specs.Costs.{packet_cost};
 ghost use Rattle.request_handling.specs.Heads.{head_of, malformed_cost, packet_header, target_for};
 
+use crate::answers::address_of;
 use fab_types::{Answerer, Bdf, Class, Cost, Head, Header, Parties};
 use tlp_view::{ReadPacket, TlpView};
 
@@ -32,7 +33,7 @@ fn packet_header(parties: Parties, view: &TlpView) -> Header
         Some(address_type) => Header::Memory {
             requester,
             address_type,
-            address: view.address().unwrap_or(0),
+            address: address_of(view),
         },
         None => Header::OtherRequest { requester },
     }

@@ -2,12 +2,12 @@
 
 ghost use Rattle.std.specs.Prelude.{◌≡◌, ◌==◌, true};
 ghost use Rattle.std.specs.List.{find};
-ghost use Rattle.tlp_view.specs.Kinds.{has_address};
+ghost use Rattle.tlp_view.specs.Kinds.{has_address, is_memory};
 ghost use Rattle.tlp_view.specs.View.{address_type_in};
 ghost use Rattle.request_handling.specs.AtFunctions.{is_access, lies_in, or_discarded, request_at_function, unserved};
 ghost use Rattle.request_handling.specs.Requests.{at_frame, at_port, by_number, by_table, frame_at, request_at_host, unserved_by_host};
 
-use crate::answers::{bar_of, function_refusal, host_refusal};
+use crate::answers::{address_of, bar_of, function_refusal, host_refusal};
 use crate::carriage::{
     access_of, from_frame, is_owner, is_write, refused_by_host, serve, to_frame,
 };
@@ -64,7 +64,9 @@ fn by_table(start: &Start, table: &HostTable, memory: &HostMemory, view: &TlpVie
 }
 
 /// A frame is written or read.
+#[tactic(auto, using(crate::proofs::Addressed::memory_addressed, crate::proofs::Addressed::memory_read))]
 fn at_frame(start: &Start, memory: &HostMemory, view: &TlpView, frame: u16) -> Handling
+    requires { is_memory (view.now).kind ≡ true }
     ensures { result ≡ at_frame start.now memory.now view.now frame }
 {
     if is_write(view.kind()) {
@@ -87,10 +89,12 @@ fn frame_at(numbers: &[u16], page: u64) -> Option<u16>
 }
 
 /// No table is asked: the page is the number of the frame.
+#[tactic(auto, using(crate::proofs::Addressed::memory_addressed))]
 fn by_number(start: &Start, memory: &HostMemory, view: &TlpView) -> Handling
+    requires { is_memory (view.now).kind ≡ true }
     ensures { result ≡ by_number start.now memory.now view.now }
 {
-    match frame_at(start.frames(), view.address().unwrap_or(0) / 4096) {
+    match frame_at(start.frames(), address_of(view) / 4096) {
         Some(frame) => at_frame(start, memory, view, frame),
         None => unserved_by_host(start, view),
     }
@@ -136,7 +140,7 @@ fn is_access(view: &TlpView) -> bool
 
 /// What a function does with a request that came to it.
 /// The request came directly, or is alien there.
-#[tactic(auto, using(crate::proofs::WellMadeLemmas::is_an_access))]
+#[tactic(auto, using(crate::proofs::WellMadeLemmas::is_an_access, crate::proofs::Addressed::access_addressed))]
 pub fn request_at_function(
     start: &Start,
     functions: &[Function],
@@ -146,7 +150,7 @@ pub fn request_at_function(
     ensures { result ≡ request_at_function start.now functions.now id view.now }
 {
     let bar = bar_of(start.functions(), id);
-    if is_access(view) && lies_in(bar, view.address().unwrap_or(0)) {
+    if is_access(view) && lies_in(bar, address_of(view)) {
         or_discarded(access_of(start, functions, id, view))
     } else {
         unserved(view.class(), function_refusal(start, id, view))

@@ -10,6 +10,7 @@ pub mod CellsMemory
 pub mod BufferBytes
 pub mod Completed
 pub mod Sound
+pub mod Statuses
 pub mod Requested
 pub mod Moved
 pub mod Operands

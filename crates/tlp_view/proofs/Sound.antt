@@ -14,7 +14,7 @@ use Rattle.tlp_view.proofs.WellFormed.{passes, view_of, packet-kind}
 use Rattle.tlp_view.proofs.Bodies.{address_of_body}
 
 -- the tests that a request for memory has passed: its size, its page and its fields
-fine_memory : {A : Type 0} (a b c d e : Bool) (v w x y z : A) → cond a (Some v) (cond b (Some w) (cond c (Some x) (cond d (Some y) (cond e (Some z) None)))) ≡ None → (a ≡ false) × (c ≡ false) × (e ≡ false)
+pub fine_memory : {A : Type 0} (a b c d e : Bool) (v w x y z : A) → cond a (Some v) (cond b (Some w) (cond c (Some x) (cond d (Some y) (cond e (Some z) None)))) ≡ None → (a ≡ false) × (c ≡ false) × (e ≡ false)
 fine_memory a b c d e v w x y z fine =
     let first = passes a v _ fine in
     let second = passes b w _ first.1 in

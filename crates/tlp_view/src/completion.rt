@@ -35,30 +35,27 @@ pub struct CompletionHead {
 impl CompletionHead {
     ghost use Rattle.std.specs.Prelude.{ℕ, List, [], length};
     ghost use Rattle.tlp_view.specs.Kinds.{is_fetch_add};
+    ghost use Rattle.tlp_view.specs.declared.kind.Kind.TheVariants.{MRd};
     ghost use Rattle.tlp_view.specs.Packet.{dw_count};
     ghost use Rattle.tlp_view.specs.Completions.{atomic_completion, completion_of, read_completion, refusal};
 
-    /// Of the successful completion of this read, with its data.
+    /// Of the successful completion of this memory read, with its data.
     pub fn of_read(completer: Bdf, request: &TlpView) -> CompletionHead
+        requires read { (request.now).kind ≡ MRd }
         // Byte Count has no value for 4,096 bytes.
-        requires { dw_count request.now.length < 1024 }
+        requires short { dw_count (request.now).length < 1024 }
         ensures value { (payload : List ℕ) → 4 ≤ length payload → completion_of result payload ≡ read_completion completer request.now payload }
         ensures fits { HeadFits result }
     {
-        let (byte_count, lower_address) = match (request.enables(), request.address()) {
-            (Some(enables), Some(address)) => (
-                byte_count(enables, request.dw_length()),
-                lower_address(enables, address),
-            ),
-            _ => (4, 0),
-        };
+        let enables = request.enables().unwrap();
+        let address = request.address().unwrap();
         CompletionHead {
             completer,
             status: Status::SC,
-            byte_count,
+            byte_count: byte_count(enables, request.dw_length()),
             requester: request.requester(),
             tag: request.tag(),
-            lower_address,
+            lower_address: lower_address(enables, address),
             attributes: request.attr(),
         }
     }

@@ -2,7 +2,7 @@
 
 ghost use Rattle.std.specs.Prelude.{true, ◌≡◌, ◌^◌, ◌<◌, ◌≤◌, ◌*◌, length, ◌↔◌, take, drop, IsSome, IfSome, IfOk, IfErr};
 ghost use Rattle.tlp_view.specs.Packet.{Packet, dw_count, address_in, enables_in, status_in, byte_count_in, lower_address_in};
-ghost use Rattle.tlp_view.specs.Kinds.{class_of_kind, is_memory};
+ghost use Rattle.tlp_view.specs.Kinds.{class_of_kind, has_address, is_completion, is_memory};
 ghost use Rattle.tlp_view.specs.Bytes.{packet_of};
 ghost use Rattle.tlp_view.specs.Malformed.{malformed};
 ghost use Rattle.tlp_view.specs.Spelling.{Spells};
@@ -118,7 +118,8 @@ impl<'a> TlpView<'a> {
     /// It is in bytes, a multiple of 4. Other kinds have none.
     #[tactic(auto, using(crate::proofs::Bodies::address_of_body))]
     pub fn address(&self) -> Option<u64>
-        ensures { result ≡ address_in self.now.body }
+        ensures value { result ≡ address_in self.now.body }
+        ensures known { has_address (self.now).kind ≡ true → IsSome result }
     {
         if self.kind.has_address() {
             Some(bits::address(self.bytes))
@@ -149,7 +150,8 @@ impl<'a> TlpView<'a> {
     /// Of a memory read or write: its byte enables.
     #[tactic(auto, using(crate::proofs::Bodies::enables_of_body))]
     pub fn enables(&self) -> Option<Enables>
-        ensures { result ≡ enables_in self.now.body }
+        ensures value { result ≡ enables_in self.now.body }
+        ensures known { is_memory (self.now).kind ≡ true → IsSome result }
     {
         if self.kind.is_memory() {
             Some(bits::enables(self.bytes))
@@ -200,12 +202,12 @@ impl<'a> TlpView<'a> {
 
     /// The status of a completion (PCIe 4.0, 2.2.9).
     /// Other kinds have none.
-    #[tactic(auto, using(crate::proofs::Bodies::status_of_body))]
     pub fn status(&self) -> Option<Status>
-        ensures { result ≡ status_in self.now.body }
+        ensures value { result ≡ status_in self.now.body }
+        ensures known { is_completion (self.now).kind ≡ true → IsSome result }
     {
         if self.kind.is_completion() {
-            Some(bits::status(self.bytes[6] / 32).unwrap_or(Status::SC))
+            bits::status(self.bytes[6] / 32)
         } else {
             None
         }
