@@ -1,0 +1,25 @@
+-- Words, and the numbers among them, as they are written.
+use Rattle.std.specs.Prelude.{◌≡◌, ℕ, zero, suc, ◌/◌, ◌%◌, ◌==◌, Bool, true, false, ◌&&◌, not, List, [], ◌∷◌, ◌++◌}
+use Rattle.std.specs.Fmt.{digit_glyph}
+use Rattle.std.specs.List.{list_all}
+
+-- no blank, and no line feed
+abbrev pub is_inner : ℕ → Bool
+is_inner b = not (b == 32) && not (b == 10)
+
+abbrev pub IsWord : List ℕ → Type 0
+IsWord word = list_all is_inner word ≡ true
+
+-- words behind another, each behind one blank
+abbrev pub more_words : List (List ℕ) → List ℕ
+more_words [] = []
+more_words (word ∷ rest) = 32 ∷ (word ++ more_words rest)
+
+-- so many hexadecimal digits of a number, the last ones, before what stands behind them
+abbrev pub hex_before : ℕ → ℕ → List ℕ → List ℕ
+hex_before zero n behind = behind
+hex_before (suc count) n behind = hex_before count (n / 16) (digit_glyph false (n % 16) ∷ behind)
+
+-- a number in so many hexadecimal digits, in lower case
+unfoldable pub hex_text : ℕ → ℕ → List ℕ
+hex_text count n = hex_before count n []
