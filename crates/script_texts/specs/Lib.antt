@@ -1,0 +1,3 @@
+pub mod CommandTexts
+pub mod Ranges
+pub mod ScriptTexts

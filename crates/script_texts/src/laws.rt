@@ -1,0 +1,20 @@
+//! Laws of written scripts. Each is the contract of a function that does nothing.
+
+ghost use Rattle.std.specs.Prelude.{◌≡◌, ◌≤◌, List, Ok, Some, length};
+ghost use Rattle.std.specs.List.{All};
+ghost use Rattle.script.specs.Commands.{command_of};
+ghost use Rattle.script.specs.Reading.{reading};
+ghost use Rattle.script.specs.declared.lines.Command.{Command};
+ghost use Rattle.script_texts.specs.CommandTexts.{command_text};
+ghost use Rattle.script_texts.specs.Ranges.{IsInRange};
+ghost use Rattle.script_texts.specs.ScriptTexts.{numbered, script_text};
+
+/// A law: each command is read back from the text of its line.
+pub fn commands_are_read_back()
+    ensures { (command : Command) → IsInRange command → command_of (command_text command) ≡ Some command }
+{}
+
+/// A law: the text of any commands, of 65,536 lines at most, is read as those commands.
+pub fn scripts_are_read_back()
+    ensures { (commands : List Command) → All IsInRange commands → length commands ≤ 65536 → reading (script_text commands) ≡ Ok (numbered 1 commands) }
+{}
