@@ -3,6 +3,8 @@
 
 #[cfg(test)]
 mod access_control;
+#[cfg(test)]
+mod control_table;
 mod example;
 
 pub use example::EXAMPLE;
