@@ -21,3 +21,4 @@ pub mod Begins
 pub mod Replies
 pub mod Alike
 pub mod Agreement
+pub mod BusOwners

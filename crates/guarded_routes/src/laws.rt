@@ -4,9 +4,10 @@ ghost use Rattle.std.specs.Prelude.{◌≡◌, ◌≢◌, ℕ, suc, ◌<◌, Boo
 ghost use Rattle.platform.specs.declared.parts.DownstreamPort.{DownstreamPort};
 ghost use Rattle.platform.specs.declared.parts.Switch.{Switch};
 ghost use Rattle.platform.specs.Platform.{Platform};
-ghost use Rattle.platform.specs.Owners.{is_function};
+ghost use Rattle.platform.specs.Owners.{holds_bus, is_function, owner_of_bus};
 ghost use Rattle.platform.specs.Tree.{id_below, port_at, switch_on};
 ghost use Rattle.platform.specs.Share.{Share};
+ghost use Rattle.layout.specs.Laws.{IsPlatform};
 ghost use Rattle.layout.specs.Views.{share_of_domain};
 ghost use Rattle.fab_types.specs.Id.{bus_of, host_of};
 ghost use Rattle.fab_types.specs.declared.head.Header.TheVariants as header;
@@ -50,6 +51,13 @@ ghost use Rattle.guarded_routes.specs.FirstPorts.{IsGuardedFirst, by_fate, repor
 pub fn ports_and_machines_test_alike()
     ensures source { (port : DownstreamPort) (parties : Parties) (t : Packet) → is_completion t.kind ≡ false → ports.fails_source port (packet_header parties t) ≡ fates.fails_source port t }
     ensures translation { (port : DownstreamPort) (parties : Parties) (t : Packet) → is_completion t.kind ≡ false → ports.fails_translation port (packet_header parties t) ≡ fates.fails_translation port t }
+{}
+
+/// Each port that a bus is below has the owner of that bus (PCIe 4.0, 7.5.1.3).
+/// This is so in every layout, for all ports that hold the bus and not only for the first that is found.
+pub fn ports_share_the_owner_of_a_bus()
+    ensures { (platform : Platform) (port : DownstreamPort) (bus : ℕ) → IsPlatform platform → port_at platform.ports port.id ≡ Some port → holds_bus port bus ≡ true
+        → owner_of_bus platform.ports bus ≡ Some port.owner }
 {}
 
 /// A guarded first port does what the machine of the function's domain says.

@@ -1,6 +1,0 @@
-use Rattle.std.proofs.Common.{◌≡◌}
-use Rattle.monitor.specs.Reporting.{seat_of}
-use Rattle.monitor_tests.proofs.threads.report.Given as goal
-
-abbrev pub invariant-loop : goal.invariant-loop
-invariant-loop g l = seat_of l.port ≡ seat_of l.initial.port

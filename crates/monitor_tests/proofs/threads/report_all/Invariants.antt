@@ -1,6 +1,0 @@
-use Rattle.std.proofs.Common.{◌≡◌}
-use Rattle.monitor.specs.Reporting.{seat_of}
-use Rattle.monitor_tests.proofs.threads.report_all.Given as goal
-
-abbrev pub invariant-loop-number : goal.invariant-loop-number
-invariant-loop-number g l = seat_of l.port ≡ seat_of l.fn.port

@@ -1,5 +1,0 @@
-use Rattle.std.proofs.Common.{◌≡◌}
-use Rattle.monitor_tests.proofs.threads.take.Given as goal
-
-abbrev pub invariant-loop : goal.invariant-loop
-invariant-loop g l = (l.watch.queue ≡ l.initial.watch.queue) × (l.watch.ended ≡ l.initial.watch.ended)
