@@ -1,9 +1,8 @@
 -- Parts of pages that stand beside their numbers.
-use Rattle.std.proofs.Common.{◌≡◌, ℕ, ◌<◌, Bool, true, false, eqb, List, length, get_or, Option, Some, None, MatchOption, if◌then◌else◌, slice_range, nat_le, ◌&&◌, ap, sym, refl, ◌+◌, ◌≤◌, ◌∷◌, []}
+use Rattle.std.proofs.Common.{◌≡◌, ℕ, ◌<◌, Bool, true, false, eqb, List, length, get_or, Option, Some, None, MatchOption, if◌then◌else◌, slice_range, nat_le, ◌&&◌, ap, sym, refl, ◌≤◌, ◌∷◌, []}
 use Rattle.std.specs.Prelude.{IsSome, is_some, option_and_then}
 use Rattle.std.proofs.lemmas.Bool.{false≢true, le-leb}
 use Rattle.std.specs.List.{zip}
-use Rattle.fab_types.specs.Bytes.{overwritten}
 use Rattle.host_memory.specs.Pages.{page_of, part_of, range_of, written}
 use Rattle.host_memory.proofs.Rising.{IsAbsent}
 use Rattle.host_memory.proofs.Zipped.{StandsAt, page_of_absent, page_of_standing}

@@ -1,6 +1,5 @@
 -- Which requests have an address, and which are reads.
-use Rattle.std.proofs.Common.{◌≡◌, ℕ, true, false, Some, cond, Bool, refl}
-use Rattle.fab_types.specs.declared.head.AddressType.{AddressType}
+use Rattle.std.proofs.Common.{◌≡◌, ℕ, true, false, refl}
 use Rattle.function.specs.Accesses.{IsAccess, IsAccessKind}
 use Rattle.tlp_view.specs.declared.kind.Kind.{Kind}
 use Rattle.tlp_view.specs.declared.kind.Kind.TheVariants.{MRd, MWr, FetchAdd}

@@ -29,6 +29,7 @@ byte_count enables count =
 abbrev pub lower_address : Enables → ℕ → ℕ
 lower_address enables address = address / 4 * 4 % 128 + first_place enables.first
 
+-- a memory read has both enables and an address, and no completion with data is made for another request by these
 abbrev pub data_body : ℕ → ℕ → Option Enables → Option ℕ → Body
 data_body completer count (Some enables) (Some address) = Completion completer SC (byte_count enables count) (lower_address enables address)
 data_body completer count None address = Completion completer SC 4 0
