@@ -1,0 +1,15 @@
+pub mod Lists
+pub mod After
+pub mod Stripped
+pub mod Prefixes
+pub mod Splits
+pub mod Rules
+pub mod PortsAdded
+pub mod SwitchesAdded
+pub mod TreeAdded
+pub mod FunctionsAdded
+pub mod MapsAdded
+pub mod TablesAdded
+pub mod VectorsAdded
+pub mod WholeAdded
+pub mod InRange

@@ -1,0 +1,3 @@
+pub mod PlatformLines
+pub mod Texts
+pub mod HasLines

@@ -1,0 +1,6 @@
+//! How a whole layout is written, apart from how it is read: each platform that keeps the rules has a text that is read as it.
+#![tactic(auto)]
+
+mod laws;
+
+pub use laws::layouts_are_read_back;
