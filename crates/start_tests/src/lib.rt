@@ -4,6 +4,8 @@
 #[cfg(test)]
 mod begins;
 #[cfg(test)]
+mod floods;
+#[cfg(test)]
 mod gates;
 #[cfg(test)]
 mod largest;
