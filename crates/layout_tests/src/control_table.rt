@@ -151,7 +151,7 @@ fn letter_of_verdict(verdict: Verdict) -> u8 {
     }
 }
 
-fn letter_of_route(route: Route) -> u8 {
+fn letter_of_route(route: &Route) -> u8 {
     match route {
         Route::Up => b'^',
         Route::Port(_) => b'>',
@@ -160,43 +160,63 @@ fn letter_of_route(route: Route) -> u8 {
     }
 }
 
-// What a port with these controls makes of the packet, and where it goes then.
-fn letter(port: &DownstreamPort, route: Route, header: &Header) -> u8 {
+// What the port makes of the packet's route.
+fn letter_behind_vet(port: &DownstreamPort, route: &Route, header: &Header) -> u8 {
+    match redirect(port, *route, header) {
+        Ok(left) => letter_of_route(&left),
+        Err(verdict) => letter_of_verdict(verdict),
+    }
+}
+
+// What the port makes of the packet.
+fn letter(port: &DownstreamPort, route: &Route, header: &Header) -> u8 {
     match vet(port, header) {
-        Verdict::Pass => match redirect(port, route, header) {
-            Ok(left) => letter_of_route(left),
-            Err(verdict) => letter_of_verdict(verdict),
-        },
+        Verdict::Pass => letter_behind_vet(port, route, header),
         Verdict::Violation(check) => letter_of_check(check),
     }
 }
 
-// The port with these controls, and with the bit of the port beside it set or not.
-fn with_controls(port: DownstreamPort, bits: u8, vector: Option<u32>) -> Option<DownstreamPort> {
+// The port with these controls, and with this vector.
+fn with_controls(port: &DownstreamPort, bits: u8, vector: Option<u32>) -> Option<DownstreamPort> {
     let controls = AcsControl::from_register(bits)?;
     Some(DownstreamPort {
+        id: port.id,
+        secondary: port.secondary,
+        subordinate: port.subordinate,
+        base: port.base,
+        limit: port.limit,
         controls,
+        owner: port.owner,
         egress_vector: vector,
-        ..port
     })
+}
+
+// What such a port makes of the packet.
+fn letter_with(
+    port: &DownstreamPort,
+    bits: u8,
+    vector: Option<u32>,
+    route: &Route,
+    header: &Header,
+) -> u8 {
+    match with_controls(port, bits, vector) {
+        Some(port) => letter(&port, route, header),
+        None => b'?',
+    }
 }
 
 // Is each letter of the row what a port with its setting makes of the packet? `more` are controls that are set beside.
 fn is_row(
     letters: &str,
-    port: DownstreamPort,
+    port: &DownstreamPort,
     more: u8,
     vector: Option<u32>,
-    route: Route,
+    route: &Route,
     header: &Header,
 ) -> bool {
-    for (setting, wanted) in letters.bytes().enumerate() {
+    for (setting, wanted) in letters.as_bytes().iter().enumerate() {
         let bits = (setting % 32) as u8 | more;
-        let found = match with_controls(port, bits, vector) {
-            Some(port) => letter(&port, route, header),
-            None => b'?',
-        };
-        if found != wanted {
+        if letter_with(port, bits, vector, route, header) != *wanted {
             return false;
         }
     }
@@ -212,14 +232,8 @@ fn each_setting_of_the_five_controls_does_with_each_packet_what_its_letter_says(
     let headers = headers();
     let routes = routes();
     for (row, letters) in WITHOUT_EGRESS_CONTROL.iter().enumerate() {
-        let is_so = is_row(
-            letters,
-            port,
-            0,
-            None,
-            routes[row % 4],
-            &headers[row / 4 % 9],
-        );
+        let header = &headers[row / 4 % 9];
+        let is_so = is_row(letters, &port, 0, None, &routes[row % 4], header);
         assert!(rt; is_so, "row {row}");
     }
     Ok(())
@@ -230,10 +244,25 @@ fn egress_control_asks_the_bit_of_the_other_port(rt: HostRuntime) -> Result<(), 
     let layout = Layout::read(rt.alloc(), EXAMPLE)?;
     let port = port_of(&layout).ok_or("no port")?;
     let beside = Route::Port(id(BESIDE));
-    for (row, header) in headers().iter().enumerate() {
-        let is_so = is_row(BIT_IS_1[row], port, 0x20, Some(0xffff_ffff), beside, header);
+    let headers = headers();
+    for (row, header) in headers.iter().enumerate() {
+        let is_so = is_row(
+            BIT_IS_1[row],
+            &port,
+            0x20,
+            Some(0xffff_ffff),
+            &beside,
+            header,
+        );
         assert!(rt; is_so, "row {row} of bit 1");
-        let is_so = is_row(BIT_IS_0[row], port, 0x20, Some(0xffff_fffd), beside, header);
+        let is_so = is_row(
+            BIT_IS_0[row],
+            &port,
+            0x20,
+            Some(0xffff_fffd),
+            &beside,
+            header,
+        );
         assert!(rt; is_so, "row {row} of bit 0");
     }
     Ok(())
