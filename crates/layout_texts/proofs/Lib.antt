@@ -13,3 +13,7 @@ pub mod TablesAdded
 pub mod VectorsAdded
 pub mod WholeAdded
 pub mod InRange
+pub mod Cuts
+pub mod OrderKept
+pub mod RowsKept
+pub mod LayoutsKept

@@ -3,4 +3,4 @@
 
 mod laws;
 
-pub use laws::layouts_are_read_back;
+pub use laws::{each_layout_has_a_text, layouts_are_read_back, layouts_keep_the_rules};

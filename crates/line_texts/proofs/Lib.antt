@@ -4,3 +4,5 @@ pub mod Ids
 pub mod LinesRead
 pub mod Lines
 pub mod WrittenLines
+pub mod ReadRanges
+pub mod LinesInRange

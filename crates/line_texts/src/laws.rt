@@ -17,3 +17,8 @@ pub fn words_are_read_back()
 pub fn layout_lines_are_read_back()
     ensures { (line : LayoutLine) → IsInRange line → layout_line_of (layout_line_text line) ≡ Some line }
 {}
+
+/// A law: each line that is read is in range, whatever its spelling.
+pub fn layout_lines_are_in_range()
+    ensures { (text : List ℕ) (line : LayoutLine) → layout_line_of text ≡ Some line → IsInRange line }
+{}

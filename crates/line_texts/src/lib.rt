@@ -3,4 +3,4 @@
 
 mod laws;
 
-pub use laws::{layout_lines_are_read_back, words_are_read_back};
+pub use laws::{layout_lines_are_in_range, layout_lines_are_read_back, words_are_read_back};
