@@ -12,6 +12,7 @@ pub mod MapsAdded
 pub mod TablesAdded
 pub mod VectorsAdded
 pub mod WholeAdded
+pub mod Each
 pub mod InRange
 pub mod Cuts
 pub mod OrderKept
