@@ -1,5 +1,6 @@
 pub mod effect
 pub mod invariant
+pub mod bounded
 pub mod soundness
 pub mod apart
 pub mod places

@@ -8,6 +8,7 @@ use Rattle.port.specs.Turns.{PortView}
 use Rattle.topology.specs.Topologies.{IsTree}
 use Rattle.topology.specs.declared.places.PortPlace.{PortPlace}
 use Rattle.interconnect.specs.Kept.{Fits}
+use Rattle.fabric_core.specs.Credits.{AreBounded}
 use Rattle.fabric_core.specs.Orders.{KeepWayOrder}
 use Rattle.fabric_core.specs.Places.{ArePlaced}
 use Rattle.fabric_core.specs.Soundness.{IsGuardedFabric}
@@ -41,9 +42,10 @@ pub record IsConsistent (w : World) : Type 0 where
   pub placed : ArePlaced w
   pub free : All IsFree w.ports
 
--- and in a guarded layout each packet is on its way to somebody who has a case for it, and packets of a domain that keep
--- their order are in turn
+-- and on every direction credits bound what travels and waits; in a guarded layout each packet is on its way to somebody who
+-- has a case for it, and packets of a domain that keep their order are in turn
 pub record IsFabric (w : World) : Type 0 where
   pub kept : IsConsistent w
+  pub bounded : AreBounded w.channels
   pub guarded : is_guarded w ≡ true → IsGuardedFabric w
   pub ordered : (controls : is_guarded w ≡ true) → KeepWayOrder (guarded controls).platform w

@@ -8,7 +8,7 @@ ghost use Rattle.fab_types.specs.declared.outcome.Outcome.TheVariants.{Idle};
 ghost use Rattle.platform.specs.Share.{is_guarded_port};
 ghost use Rattle.domains.specs.Domains.{domain_at, place_of};
 ghost use Rattle.fab_types.specs.declared.class.Class.{Class};
-ghost use Rattle.fabric_core.specs.Credits.{HasCredits, channel_of};
+ghost use Rattle.fabric_core.specs.Credits.{HasCredits, HaveCredits, channel_of};
 ghost use Rattle.fabric_core.specs.Events.{StepsTo, is_begin, takes_packet};
 ghost use Rattle.fabric_core.specs.Isolation.{AreApart, IsApart, domain_of, home};
 ghost use Rattle.fabric_core.specs.Orderly.{IsOrderly};
@@ -188,6 +188,10 @@ impl Fabric {
     /// packet, reports a violation, or makes an entry of an alien packet or keeps a stray one. All but `Moved` change
     /// nothing. A begin is never `Idle`, in any layout.
     ///
+    /// In any layout no receive queue is overrun: on every direction of every link the credits that the sender has left,
+    /// and the cost of all that travels to the receiver and waits there, are within what that advertised at the start
+    /// (PCIe 4.0, 2.6.1), so that at most 127 packets of a class travel and wait.
+    ///
     /// In a guarded fabric, whatever the event is, no packet is ever taken where nobody has a case for it, and each
     /// packet that a domain made stands in exactly one place, or was consumed by exactly one entry of its journal. There
     /// the event leaves every domain that it is foreign to as it was: its state, its journal, and the place of each of
@@ -198,6 +202,7 @@ impl Fabric {
     pub fn step<R: Wait>(&mut self, rt: &R, event: &Event) -> Outcome
         ensures steps { StepsTo self.old event.now result self.new }
         ensures begun { is_begin event.now ≡ true → result ≢ Idle }
+        ensures bounded { HaveCredits self.new }
         ensures controls { is_guarded self.new ≡ is_guarded self.old }
         ensures guarded { is_guarded self.new ≡ true → IsOrderly self.new }
         ensures apart { is_guarded self.old ≡ true → IsApart self.old event.now self.new }
@@ -220,7 +225,8 @@ impl Fabric {
     /// was refused; then no event was made.
     ///
     /// Whatever the events are: the state of each domain is what its machine alone makes of its journal, which
-    /// is legal, and to the begins in its journal its accepted ones were added, in their order. In a guarded fabric
+    /// is legal, and to the begins in its journal its accepted ones were added, in their order; and no receive
+    /// queue is overrun, as after each step. In a guarded fabric
     /// no packet was ever taken where nobody had a case for it: no port, host or function keeps a stray packet, and
     /// no domain has an entry of an alien one; each event left every domain that it was foreign to as it was; and no
     /// packet was lost or doubled: each that a domain made stands in exactly one place, or exactly one entry of its
@@ -234,6 +240,7 @@ impl Fabric {
         ensures run { IfOk result (λ outcomes. Run self.old events.now outcomes.items self.new) }
         ensures begins { IfOk result (λ outcomes. HaveBegun events.now outcomes.items self.old.agents.domains self.new.agents.domains) }
         ensures alone { IfOk result (λ outcomes. AreReplayed self.new.agents.domains) }
+        ensures bounded { IfOk result (λ outcomes. HaveCredits self.new) }
         ensures controls { is_guarded self.new ≡ is_guarded self.old }
         ensures guarded { IfOk result (λ outcomes. is_guarded self.new ≡ true → IsOrderly self.new) }
         ensures apart { IfOk result (λ outcomes. is_guarded self.old ≡ true → AreApart self.old events.now outcomes.items self.new) }

@@ -99,7 +99,8 @@ pub fn new_packets_stand_behind()
 {}
 
 /// Every event keeps a fabric, of any layout.
-/// It keeps what `every_event_keeps_the_invariant` says, and in a guarded layout also that each packet is where
+/// It keeps what `every_event_keeps_the_invariant` says, and that on every direction credits bound what travels
+/// and waits. In a guarded layout it also keeps that each packet is where
 /// somebody has a case for it, that each posted packet in flight stands on its way, and that two packets of a
 /// domain that keep their order are in turn there, and were consumed in it.
 pub fn every_event_keeps_a_fabric()

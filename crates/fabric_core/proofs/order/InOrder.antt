@@ -7,6 +7,7 @@ use Rattle.fabric_core.specs.Invariant.{IsFabric}
 use Rattle.fabric_core.specs.Orders.{AreInOrder}
 use Rattle.fabric_core.specs.World.{World, is_guarded}
 use Rattle.fabric_core.proofs.soundness.Guarded.{guarded_after}
+use Rattle.fabric_core.proofs.bounded.Bounding.{bounded_after}
 use Rattle.fabric_core.proofs.invariant.Keeping.{kept_after}
 use Rattle.fabric_core.proofs.order.OrderInvariant.{way_order_after}
 use Rattle.fabric_core.proofs.soundness.Orderly.{same_controls}
@@ -20,6 +21,7 @@ in_order w fabric guarded = λ place d less.
 pub fabric_after : (w w' : World) (event : Event) → IsFabric w → effect w event ≡ Some w' → IsFabric w'
 fabric_after w w' event fabric moved = record {
   kept = kept_after w w' event fabric.kept moved;
+  bounded = bounded_after w w' event fabric.bounded moved;
   guarded = λ controls. guarded_after w w' event fabric.kept (fabric.guarded (was controls)) moved;
   ordered = λ controls. way_order_after w w' event fabric (was controls) moved (guarded_after w w' event fabric.kept (fabric.guarded (was controls)) moved);
 }

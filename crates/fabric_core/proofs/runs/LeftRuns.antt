@@ -27,6 +27,7 @@ use Rattle.fabric_core.specs.Isolation.{domain_of, is_number, own, own_on_link}
 use Rattle.fabric_core.specs.Runs.{Run}
 use Rattle.fabric_core.specs.TakenOut.{CanBeLeft, CannotTell, HasMemory, HasSame, HaveMoved, after, events_left, is_by, is_left, or_same}
 use Rattle.fabric_core.specs.World.{World, world_of}
+use Rattle.fabric_core.proofs.bounded.AtStart.{bounded_at_start}
 use Rattle.fabric_core.proofs.order.OrderAtStart.{order_new}
 use Rattle.fabric_core.proofs.soundness.GuardedStart.{IsQuiet, guarded_start, quiet_at, quiet_nodes}
 use Rattle.fabric_core.proofs.runs.LeftEvents.{Accords, goes, kept, skipped}
@@ -183,6 +184,7 @@ start_settled platform laws = subst IsSettled (agents.start_seen platform) (sett
 pub start_fabric : (platform : Platform) → IsGuarded platform → IsFabric (world_of platform)
 start_fabric platform guarded = record {
   kept = kept_new platform (start_of platform) (agents_of platform) [] [] refl (interconnect.kept_at_start platform guarded.laws) refl (start_settled platform guarded.laws) refl refl;
+  bounded = bounded_at_start platform guarded.laws;
   guarded = λ controls. guarded_start platform guarded;
   ordered = λ controls. order_new platform (start_of platform) (agents_of platform) [] [] refl refl refl refl (guarded_start platform guarded).platform;
 }

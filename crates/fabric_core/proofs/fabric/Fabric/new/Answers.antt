@@ -1,3 +1,4 @@
+use Rattle.fabric_core.proofs.bounded.AtStart.{bounded_new}
 use Rattle.fabric_core.proofs.runs.FirstRuns.{untold_new}
 use Rattle.fabric_core.proofs.order.OrderAtStart.{order_new}
 use Rattle.fabric_core.proofs.soundness.Orderly.{guarded_new}
@@ -9,6 +10,7 @@ invariant_of-result c = record {
   kept =
       kept_new c.args.layout.now c.in_ok-new.field-0 c.in_ok-new-2.field-0 c.new-3.result.violations c.new-4.result.items c.in_ok-new.ensures.start c.in_ok-new.ensures.kept c.in_ok-new-2.ensures.start c.in_ok-new-2.ensures.settled c.new-3.ensures
       c.new-4.ensures.items;
+  bounded = bounded_new c.args.layout.now c.in_ok-new.field-0 c.ports.ensures.laws c.in_ok-new.ensures.start;
   guarded =
       guarded_new c.args.layout.now c.in_ok-new.field-0 c.in_ok-new-2.field-0 c.new-3.result.violations c.new-4.result.items c.ports.ensures.laws c.in_ok-new.ensures.start c.in_ok-new-2.ensures.start c.new-3.ensures c.new-4.ensures.items;
   ordered = λ controls. order_new c.args.layout.now c.in_ok-new.field-0 c.in_ok-new-2.field-0 c.new-3.result.violations c.new-4.result.items c.in_ok-new.ensures.start c.in_ok-new-2.ensures.start c.new-3.ensures c.new-4.ensures.items _;

@@ -1,9 +1,11 @@
 use Rattle.std.proofs.Common.{arith, ap, ◌∙◌, subst}
+use Rattle.fabric_core.specs.Credits.{HaveCredits}
 use Rattle.fabric_core.specs.Kept.{world_in}
 use Rattle.fabric_core.specs.Orderly.{IsOrderly}
 use Rattle.fabric_core.specs.Orders.{AreInOrder}
 use Rattle.fabric_core.specs.Places.{HaveOnePlace}
 use Rattle.fabric_core.specs.World.{is_guarded}
+use Rattle.fabric_core.proofs.bounded.Bounding.{have_credits}
 use Rattle.fabric_core.proofs.apart.Apart.{apart_next, apart_whole}
 use Rattle.fabric_core.proofs.runs.Begun.{run_grow}
 use Rattle.fabric_core.proofs.order.InOrder.{in_order}
@@ -26,6 +28,9 @@ pub returns-clause-begins : goal.returns-clause-begins
 returns-clause-begins g c =
     run_grow c.args.self.now c.loop-event.self c.args.events.now c.loop-event.outcomes.items
     (run_whole c.args.self.now c.loop-event.self c.args.events.now c.loop-event.outcomes.items c.loop-event.event-index c.loop-event-test.false c.loop-event.invariant.runs)
+
+pub returns-clause-bounded : goal.returns-clause-bounded
+returns-clause-bounded g c = subst HaveCredits c.self.view_is (have_credits (world_in c.self.inside) c.self.invariant.bounded)
 
 pub returns-clause-controls : goal.returns-clause-controls
 returns-clause-controls g c =

@@ -2,6 +2,7 @@ use Rattle.std.proofs.Common.{ap, ◌∙◌, subst}
 use Rattle.fabric_core.specs.Isolation.{IsApart}
 use Rattle.fabric_core.specs.Kept.{world_in}
 use Rattle.fabric_core.specs.World.{World, is_guarded, world_over}
+use Rattle.fabric_core.proofs.bounded.Bounding.{have_credits}
 use Rattle.fabric_core.proofs.apart.Apart.{apart_step}
 use Rattle.fabric_core.proofs.order.InOrder.{in_order}
 use Rattle.fabric_core.proofs.places.OnePlace.{one_place}
@@ -11,6 +12,11 @@ use Rattle.fabric_core.proofs.fabric.Fabric.step.Goals as goal
 pub invariant_of-self : goal.invariant_of-self
 invariant_of-self g c =
     fabric_step c.every_event_keeps_a_fabric.ensures (world_in c.self.inside) (world_over c.step.new.interconnect c.step.new.agents c.step.new.reports.violations c.step.new.strays.items) c.args.event.now c.step.result c.self.invariant c.step.ensures.steps
+
+pub returns-clause-bounded : goal.returns-clause-bounded
+returns-clause-bounded g c =
+    let new = world_over c.step.new.interconnect c.step.new.agents c.step.new.reports.violations c.step.new.strays.items in
+    have_credits new (fabric_step c.every_event_keeps_a_fabric.ensures (world_in c.self.inside) new c.args.event.now c.step.result c.self.invariant c.step.ensures.steps).bounded
 
 pub returns-clause-controls : goal.returns-clause-controls
 returns-clause-controls g c =
