@@ -6,3 +6,4 @@ pub mod apart
 pub mod places
 pub mod order
 pub mod runs
+pub mod progress

@@ -21,3 +21,4 @@ pub mod Kept
 pub mod TakenOut
 pub mod Comparisons
 pub mod Purging
+pub mod Still

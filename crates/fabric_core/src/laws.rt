@@ -12,6 +12,7 @@ ghost use Rattle.domain_parts.specs.State.{item_at};
 ghost use Rattle.domain.specs.declared.entry.Entry.TheVariants.{Refuse};
 ghost use Rattle.domain.specs.Domains.{DomainView};
 ghost use Rattle.platform.specs.Platform.{Platform};
+ghost use Rattle.layout.specs.Laws.{IsPlatform};
 ghost use Rattle.guarded_routes.specs.Guarded.{IsGuarded};
 ghost use Rattle.lane.specs.Lanes.{class_of};
 ghost use Rattle.domains.specs.Domains.{Made, made};
@@ -23,6 +24,7 @@ ghost use Rattle.fabric_core.specs.Orders.{AreOrdered, GoesBy, KeepsToWay, StayO
 ghost use Rattle.fabric_core.specs.Places.{HaveOnePlace, IsFlown};
 ghost use Rattle.fabric_core.specs.Runs.{Run};
 ghost use Rattle.fabric_core.specs.Soundness.{IsGuardedFabric};
+ghost use Rattle.fabric_core.specs.Still.{Concludes, NeverBlocks};
 ghost use Rattle.fabric_core.specs.TakenOut.{CanBeLeft, CannotTell};
 ghost use Rattle.fabric_core.specs.World.{World, is_guarded, world_of};
 
@@ -121,4 +123,19 @@ pub fn other_domains_can_be_taken_out()
 pub fn what_is_left_can_be_run()
     ensures { (platform : Platform) → IsGuarded platform → (events : List Event) (outcomes : List Outcome) (first : World)
         → Run (world_of platform) events outcomes first → (d : ℕ) → CanBeLeft d (world_of platform) events outcomes }
+{}
+
+/// Where nothing can move any more, no packet is left, in any layout.
+/// Take any run from where nothing was begun, whatever functions and hosts submit in it. If then no event but a begin
+/// has an effect, no packet waits in an outbox or at either end of a link, and none is on a wire. So nobody can block
+/// the fabric: while a packet stands anywhere, some event moves one, or tells credits.
+pub fn still_is_empty()
+    ensures { (platform : Platform) → IsPlatform platform → NeverBlocks (world_of platform) }
+{}
+
+/// In a guarded layout, where nothing can move any more, nothing is in flight.
+/// So after any run from where nothing was begun each packet that a domain made was consumed by an entry of its
+/// journal, if then no event but a begin has an effect.
+pub fn still_is_consumed()
+    ensures { (platform : Platform) → IsGuarded platform → Concludes (world_of platform) }
 {}

@@ -61,7 +61,7 @@ by_tests false false false c (Some peer) status e = absurd cc
 packet_refused : (ports : List DownstreamPort) (function : ℕ) (port : DownstreamPort) (t : Packet) (status : Status) → packet_fate ports function port t ≡ Refused status → class_of_kind t.kind ≡ NonPosted
 packet_refused ports function port t status e = by_tests _ _ _ (class_of_kind t.kind) (direct_to ports function (address_of t)) status e
 
-refused_unless : (m : Option Malformed) (ports : List DownstreamPort) (function : ℕ) (port : DownstreamPort) (bytes : List ℕ) (status : Status) → fate_unless m ports function port bytes ≡ Refused status → (cost_unless m bytes).class ≡ NonPosted
+pub refused_unless : (m : Option Malformed) (ports : List DownstreamPort) (function : ℕ) (port : DownstreamPort) (bytes : List ℕ) (status : Status) → fate_unless m ports function port bytes ≡ Refused status → (cost_unless m bytes).class ≡ NonPosted
 refused_unless None ports function port bytes status e = packet_refused ports function port (packet_of bytes) status e
 refused_unless (Some cause) ports function port bytes status e = absurd cc
 

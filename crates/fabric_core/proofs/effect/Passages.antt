@@ -63,7 +63,7 @@ module _ (P : Descriptor → Type 0) where
       let l = taken_leaves class_of class waiting frame left found in
       All-head P frame l.newer (all_right P l.older (frame ∷ l.newer) (subst (All P) l.queue h))
 
-flown_at : (w : World) (class : Class) (input : LinkEnd) (frame : Descriptor) (left : List Descriptor) → All (IsFlown w.agents.domains) (frames_of w) → eligible class (channel_at w.channels input).ingress ≡ Some (frame, left)
+pub flown_at : (w : World) (class : Class) (input : LinkEnd) (frame : Descriptor) (left : List Descriptor) → All (IsFlown w.agents.domains) (frames_of w) → eligible class (channel_at w.channels input).ingress ≡ Some (frame, left)
     → IsFlown w.agents.domains frame
 flown_at w class input frame left all found =
     taken_has (IsFlown w.agents.domains) class (channel_at w.channels input).ingress left frame

@@ -178,7 +178,7 @@ module _ (d : ℕ) where
       let none : count_in class c.egress ≡ 0 = ap (count_in class) (first_none c.egress (c.wire ++ c.ingress) (quiet_at platform end)) in
       omega (arith, none)
 
-start_settled : (platform : Platform) → IsPlatform platform → IsSettled (agents_of platform)
+pub start_settled : (platform : Platform) → IsPlatform platform → IsSettled (agents_of platform)
 start_settled platform laws = subst IsSettled (agents.start_seen platform) (settled (starting_domains platform) (boxes_of platform) (agents.kept_at_start platform laws))
 
 pub start_fabric : (platform : Platform) → IsGuarded platform → IsFabric (world_of platform)
