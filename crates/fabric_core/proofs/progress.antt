@@ -13,3 +13,4 @@ pub mod Losses
 pub mod LostEnds
 pub mod Drained
 pub mod InFlight
+pub mod NewFabrics

@@ -17,12 +17,15 @@ ghost use Rattle.fabric_core.specs.Places.{AreFlown, ArePartition, AreWhereabout
 ghost use Rattle.fabric_core.specs.Runs.{HaveBegun, Run};
 ghost use Rattle.fabric_core.specs.Leaving.{AreLeaving, has};
 ghost use Rattle.fabric_core.specs.Stations.{events_at, is_quiet, taking};
+ghost use Rattle.fabric_core.specs.Still.{Concludes, NeverBlocks};
 ghost use Rattle.fabric_core.specs.TakenOut.{NoneCanTell};
 ghost use Rattle.fabric_core.specs.Trails.{standing_at};
 ghost use Rattle.fabric_core.specs.World.{is_guarded, world_of};
 
 use crate::event::Event;
-use crate::laws::{every_event_keeps_a_fabric, other_domains_can_be_taken_out};
+use crate::laws::{
+    every_event_keeps_a_fabric, other_domains_can_be_taken_out, still_is_consumed, still_is_empty,
+};
 use crate::leaving::leaving;
 use crate::quiet::is_quiet;
 use crate::station::Station;
@@ -76,14 +79,22 @@ impl Fabric {
     /// it, each event of the domain moves, and the domain ends with the same journal and state (memory,
     /// registers, records of completions, open Tags, counts, what is in flight), the same packets at the same
     /// places, and the same violations by its functions.
+    ///
+    /// In no fabric, guarded or not, can anybody block it. Take any run from this start after which no event but a
+    /// begin would move anything: no packet is left anywhere. In a guarded fabric nothing is in flight then, so an
+    /// entry of its domain's journal consumed each packet that was made.
     pub fn new(alloc: Global, layout: &Layout) -> Result<Fabric, NoMemory>
         ensures start { IfOk result (λ fabric. fabric ≡ world_of layout.now) }
         ensures guarded { IfOk result (λ fabric. is_guarded fabric ≡ list_all is_guarded_port layout.now.ports) }
         ensures isolated { IfOk result (λ fabric. is_guarded fabric ≡ true → NoneCanTell fabric) }
+        ensures unblocked { IfOk result (λ fabric. NeverBlocks fabric) }
+        ensures consumed { IfOk result (λ fabric. is_guarded fabric ≡ true → Concludes fabric) }
     {
-        // for the proof: what holds of every platform, and what no domain can tell
+        // for the proof: what holds of every platform, what no domain can tell, and that nobody blocks the fabric
         let _ = layout.ports();
         other_domains_can_be_taken_out();
+        still_is_empty();
+        still_is_consumed();
         Ok(Fabric {
             interconnect: Interconnect::new(alloc, layout)?,
             agents: Agents::new(alloc, layout)?,
