@@ -1,11 +1,10 @@
 -- Lines that are added one after another, none of which is faulty, are read.
-use Rattle.std.proofs.Common.{◌≡◌, ℕ, ◌==◌, Bool, true, false, cond, refl, ap, sym, ◌∙◌, List, [], ◌∷◌, ◌++◌, length, Option, Some, None, Ok, Err, append_assoc}
-use Rattle.std.specs.Prelude.{◌&&◌, map, Result, codes}
+use Rattle.std.proofs.Common.{◌≡◌, ℕ, true, false, refl, ap, sym, ◌∙◌, List, [], ◌∷◌, ◌++◌, Option, Some, None, Ok, append_assoc}
+use Rattle.std.specs.Prelude.{map}
 use Rattle.std.specs.List.{flat_map}
 use Rattle.std.proofs.lemmas.Bool.{cond-false}
 use Rattle.std.proofs.lemmas.List.{append-nil}
 use Rattle.fab_types.specs.declared.faults.layout.LayoutCause.{LayoutCause}
-use Rattle.fab_types.specs.declared.faults.layout.LayoutFault.{LayoutFault}
 use Rattle.text.specs.Text.{is_comment, is_last, pieces}
 use Rattle.text.proofs.Pieces.{some-piece}
 use Rattle.layout_line.specs.declared.lines.LayoutLine.{LayoutLine}

@@ -1,6 +1,6 @@
 -- What holds of each element, where it stands in the whole list, holds of the list.
-use Rattle.std.proofs.Common.{◌≡◌, Bool, true, false, cond, refl, sym, ◌∙◌, List, [], ◌∷◌, ◌++◌, Option, Some, append_assoc}
-use Rattle.std.specs.Prelude.{◌&&◌, ◌||◌, map}
+use Rattle.std.proofs.Common.{◌≡◌, Bool, true, false, cond, refl, sym, ◌∙◌, List, [], ◌∷◌, ◌++◌, Some, append_assoc}
+use Rattle.std.specs.Prelude.{◌||◌, map}
 use Rattle.std.specs.List.{flat_map, list_all, list_any, find}
 use Rattle.std.proofs.lemmas.Bool.{and_from, and_parts}
 use Rattle.layout_line.specs.declared.lines.LayoutLine.{LayoutLine}

@@ -1,13 +1,12 @@
 -- Functions are added, below the ports of the whole tree.
-use Rattle.std.proofs.Common.{◌≡◌, ℕ, ◌+◌, ◌%◌, ◌==◌, Bool, true, false, refl, ap, sym, subst, ◌∙◌, List, [], ◌∷◌, ◌++◌, Option, Some, None}
-use Rattle.std.specs.Prelude.{◌&&◌, ◌||◌, not, nat_le, map, option_map}
-use Rattle.std.specs.List.{list_all, list_any, flat_map}
+use Rattle.std.proofs.Common.{◌≡◌, ◌+◌, ◌%◌, ◌==◌, true, false, refl, ap, subst, ◌∙◌, List, [], ◌∷◌, ◌++◌, Option, Some, None}
+use Rattle.std.specs.Prelude.{◌&&◌, nat_le, map, option_map}
+use Rattle.std.specs.List.{list_all}
 use Rattle.std.proofs.lemmas.Bool.{and_parts}
 use Rattle.platform.specs.declared.parts.DownstreamPort.{DownstreamPort}
 use Rattle.platform.specs.declared.parts.EndpointFunction.{EndpointFunction}
-use Rattle.platform.specs.Owners.{is_function}
 use Rattle.platform.specs.Platform.{Platform}
-use Rattle.platform.specs.Tree.{is_switch, is_taken, port_leading_to}
+use Rattle.platform.specs.Tree.{is_taken, port_leading_to}
 use Rattle.layout.specs.Laws.{IsPlatform, is_no_switch, is_placed, is_placed_below}
 use Rattle.layout.specs.Places.{IsWellPlaced, are_other_functions}
 use Rattle.layout.specs.Rules.{fault_of, function_fault, function_fault_below}

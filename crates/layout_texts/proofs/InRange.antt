@@ -1,9 +1,9 @@
 -- The numbers of a platform have room in the fields of its lines.
-use Rattle.std.proofs.Common.{◌≡◌, ℕ, ◌+◌, ◌*◌, ◌/◌, ◌%◌, ◌^◌, ◌==◌, ◌≤◌, ◌<◌, Bool, true, false, cond, refl, ap, sym, subst, ◌∙◌, List, [], ◌∷◌, ◌++◌, Option, Some, None, arith, append_assoc, eqb-true}
-use Rattle.std.specs.Prelude.{◌&&◌, ◌||◌, not, nat_le, nat_lt, MatchOption, is_some, map}
-use Rattle.std.specs.List.{flat_map, list_all, list_any, find}
+use Rattle.std.proofs.Common.{◌≡◌, ℕ, ◌+◌, ◌^◌, ◌==◌, ◌≤◌, ◌<◌, Bool, true, false, cond, refl, ap, sym, subst, ◌∙◌, List, [], ◌∷◌, ◌++◌, Option, Some, None, arith, append_assoc, eqb-true}
+use Rattle.std.specs.Prelude.{◌&&◌, ◌||◌, nat_le, nat_lt, MatchOption, map}
+use Rattle.std.specs.List.{flat_map, list_all}
 use Rattle.std.proofs.lemmas.Bool.{and_from, and_parts, lt-ltb}
-use Rattle.std.proofs.lemmas.List.{append-nil, map-append}
+use Rattle.std.proofs.lemmas.List.{map-append}
 use Rattle.fab_types.specs.Controls.{bits_of}
 use Rattle.fab_types.specs.Id.{bus_of, id_of}
 use Rattle.platform.specs.declared.parts.LayoutVersion.{LayoutVersion}
@@ -19,11 +19,10 @@ use Rattle.platform.specs.declared.parts.CreditLine.{CreditLine}
 use Rattle.platform.specs.Owners.{is_function, owns_port}
 use Rattle.platform.specs.Platform.{Platform}
 use Rattle.platform.specs.Tree.{id_below, is_switch, is_taken, port_above, port_at, port_leading_to, switch_on}
-use Rattle.layout_line.specs.declared.lines.LayoutLine.{LayoutLine}
 use Rattle.layout_line.specs.declared.lines.LayoutLine.TheVariants as line
 use Rattle.layout.specs.Laws.{IsPlatform, ends_low, has_domain, is_good_budget, is_good_credit, is_hung, is_hung_below, is_hung_by, is_inside, is_known, is_known_map, is_nested, is_nested_on, is_placed, is_placed_below}
 use Rattle.layout.specs.Rules.{is_within, last_controls}
-use Rattle.line_texts.specs.Ranges.{IsInRange, IsPortLine, IsTarget}
+use Rattle.line_texts.specs.Ranges.{IsInRange, IsTarget}
 use Rattle.layout_texts.specs.HasLines.{HasLines, has_map_line, has_port_line, has_vector_line}
 use Rattle.layout_texts.specs.PlatformLines.{budget_says, credit_says, egress_lines, frames_lines, function_says, lines_of, map_says, part_lines, parts_or, port_says, ports_before, split_behind, switch_or_root, switch_says, target_says, tree_lines, vector_lines}
 use Rattle.layout_texts.proofs.After.{AreInRange, in-range-both}

@@ -1,11 +1,10 @@
 -- Every platform that is read keeps the rules, and so is read from its own text.
-use Rattle.std.proofs.Common.{◌≡◌, ℕ, ◌≤◌, ◌<◌, ◌^◌, Bool, true, false, cond, refl, ap, sym, ◌∙◌, List, [], ◌∷◌, ◌++◌, length, Option, Some, None, Ok, Err, arith}
+use Rattle.std.proofs.Common.{◌≡◌, ℕ, Bool, true, false, cond, refl, sym, List, [], ◌∷◌, Option, Some, None, Ok, Err, arith}
 use Rattle.std.specs.Prelude.{◌&&◌, Result}
 use Rattle.std.specs.Str.{bytes_eq}
 use Rattle.std.proofs.lemmas.Bool.{and_parts}
 use Rattle.fab_types.specs.declared.faults.layout.LayoutCause.{LayoutCause}
 use Rattle.fab_types.specs.declared.faults.layout.LayoutCause.TheVariants as cause
-use Rattle.fab_types.specs.declared.faults.layout.LayoutFault.{LayoutFault}
 use Rattle.text.specs.Text.{is_comment, is_last, pieces}
 use Rattle.platform.specs.declared.parts.LayoutVersion.{LayoutVersion}
 use Rattle.platform.specs.Platform.{Platform, no_lines}

@@ -1,12 +1,12 @@
 -- Tests over a list that is cut at one element, or whose elements are changed where the tests do not look.
-use Rattle.std.proofs.Common.{◌≡◌, ℕ, zero, suc, ◌+◌, ◌≤◌, ◌<◌, Bool, true, false, cond, refl, ap, sym, ◌∙◌, List, [], ◌∷◌, ◌++◌, length, get_or, length-append, Option, Some, None, arith}
-use Rattle.std.specs.Prelude.{◌&&◌, ◌||◌, not, count_by, is_some, map, option_map}
+use Rattle.std.proofs.Common.{◌≡◌, ℕ, zero, suc, ◌≤◌, ◌<◌, Bool, true, false, cond, refl, List, [], ◌∷◌, ◌++◌, length, get_or, length-append, Option, Some, None, arith}
+use Rattle.std.specs.Prelude.{◌||◌, count_by, map, option_map}
 use Rattle.std.specs.List.{AllPairs, list_all, list_any, find}
 use Rattle.std.proofs.lemmas.List.Sums.{sum_by-append}
 use Rattle.std.proofs.lemmas.List.{get_or_append_left}
 use Rattle.std.proofs.Math.Seq.{get_or-append_seam}
 use Rattle.layout.specs.Laws.{each_pair}
-use Rattle.layout.proofs.Bools.{and-first, and-second, and-both, or-first, or-second, not-true, true-not}
+use Rattle.layout.proofs.Bools.{and-first, and-second, and-both}
 
 any-not-here : (a b : Bool) → a ≡ false → b ≡ false → (a || b) ≡ false
 any-not-here true b h k = absurd cc

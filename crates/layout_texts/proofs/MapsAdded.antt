@@ -1,7 +1,7 @@
 -- Mappings are added, of functions and frames that were declared before.
-use Rattle.std.proofs.Common.{◌≡◌, ℕ, suc, ◌+◌, ◌==◌, ◌<◌, ◌≤◌, Bool, true, false, refl, ap, sym, subst, ◌∙◌, List, [], ◌∷◌, ◌++◌, length, get_or, Option, Some, None, arith, eqb-true}
-use Rattle.std.specs.Prelude.{◌&&◌, ◌||◌, not, count_by, nat_le, nat_lt, map}
-use Rattle.std.specs.List.{All, AllPairs, list_all, list_any, flat_map}
+use Rattle.std.proofs.Common.{◌≡◌, ℕ, ◌==◌, ◌≤◌, Bool, true, false, refl, ap, subst, ◌∙◌, List, [], ◌∷◌, ◌++◌, Some, None, eqb-true}
+use Rattle.std.specs.Prelude.{◌&&◌, not, count_by, map}
+use Rattle.std.specs.List.{AllPairs, list_all}
 use Rattle.std.proofs.lemmas.Bool.{and_parts, eq-eqb}
 use Rattle.std.proofs.lemmas.List.Folds.{list_any_none}
 use Rattle.platform.specs.declared.parts.DownstreamPort.{DownstreamPort}
@@ -12,7 +12,6 @@ use Rattle.platform.specs.declared.parts.Mapping.{Mapping}
 use Rattle.platform.specs.Owners.{is_function}
 use Rattle.platform.specs.Platform.{Platform}
 use Rattle.platform.specs.Tree.{domain_of}
-use Rattle.layout_line.specs.declared.lines.TargetText.{TargetText}
 use Rattle.layout.specs.Additions.{add, target_of_text}
 use Rattle.layout.specs.Laws.{IsPlatform, each_pair, is_home_map, is_home_target, is_known, is_known_map, is_own_frame, share_no_frame}
 use Rattle.layout.specs.Rules.{fault_of, has_full_table, is_foreign, is_foreign_frame, is_known_target, is_mapped, is_mapping_of, is_of_requester, is_past_frames, map_fault}

@@ -1,6 +1,6 @@
 -- Switches and ports stay in order with one line more.
-use Rattle.std.proofs.Common.{◌≡◌, ℕ, ◌==◌, Bool, true, false, refl, ap, sym, subst, ◌∙◌, List, [], ◌∷◌, ◌++◌, Option, Some, None, append_assoc, inl, inr}
-use Rattle.std.specs.Prelude.{◌⊎◌, is_some, map}
+use Rattle.std.proofs.Common.{◌≡◌, true, refl, ap, sym, subst, ◌∙◌, List, [], ◌∷◌, ◌++◌, Some, append_assoc, inl, inr}
+use Rattle.std.specs.Prelude.{◌⊎◌, map}
 use Rattle.std.specs.List.{list_all}
 use Rattle.platform.specs.declared.parts.Switch.{Switch}
 use Rattle.platform.specs.declared.parts.DownstreamPort.{DownstreamPort}

@@ -1,17 +1,16 @@
 -- Ports are added, whose switches were added before.
-use Rattle.std.proofs.Common.{◌≡◌, ℕ, ◌+◌, ◌%◌, ◌^◌, ◌==◌, ◌<◌, ◌≤◌, Bool, true, false, cond, refl, ap, sym, subst, ◌∙◌, List, [], ◌∷◌, ◌++◌, length, Option, Some, None, arith, append_assoc}
-use Rattle.std.specs.Prelude.{◌&&◌, ◌||◌, not, count_by, nat_le, nat_lt, is_some, map, option_and_then, option_map}
-use Rattle.std.specs.List.{list_all, list_any, find}
+use Rattle.std.proofs.Common.{◌≡◌, ◌+◌, ◌==◌, ◌<◌, ◌≤◌, Bool, true, false, refl, ap, sym, subst, ◌∙◌, List, [], ◌∷◌, ◌++◌, Option, Some, None, arith, append_assoc}
+use Rattle.std.specs.Prelude.{◌&&◌, count_by, nat_le, nat_lt, is_some, map, option_map}
+use Rattle.std.specs.List.{list_all}
 use Rattle.std.proofs.lemmas.Bool.{and_from, and_parts, eq-eqb}
 use Rattle.std.proofs.lemmas.List.{append-nil, map-append}
 use Rattle.fab_types.specs.Controls.{bits_of}
-use Rattle.fab_types.specs.Id.{bus_of, function_of}
+use Rattle.fab_types.specs.Id.{bus_of}
 use Rattle.platform.specs.declared.parts.Switch.{Switch}
 use Rattle.platform.specs.declared.parts.DownstreamPort.{DownstreamPort}
 use Rattle.platform.specs.Platform.{Platform}
 use Rattle.platform.specs.Tree.{is_on_bus, port_above, port_at, switch_on}
 use Rattle.layout_line.specs.declared.lines.PortText.{PortText}
-use Rattle.layout.specs.Additions.{add}
 use Rattle.layout.specs.Laws.{IsPlatform, are_apart, has_domain, is_inside, is_nested, is_nested_on}
 use Rattle.layout.specs.Rules.{buses_are_outside, buses_meet, fault_of, has_bad_fields, is_past_port_limits, owner_differs, port_fault, port_fault_below, port_fault_on, window_is_outside, windows_meet}
 use Rattle.layout.proofs.Given.{count-map}
@@ -20,7 +19,7 @@ use Rattle.layout_texts.specs.PlatformLines.{port_says}
 use Rattle.layout_texts.proofs.After.{after, both-after, one-after}
 use Rattle.layout_texts.proofs.Lists.{all-at, any-map, count-room, none-found, none-passes, pair-front}
 use Rattle.layout_texts.proofs.Prefixes.{above-same, hang-more, hangs_from, on-same}
-use Rattle.layout_texts.proofs.Rules.{AreApart, IsPortRow, above-most, apart-parts, no-not, not-less, not-most, or-no, port-row, skip}
+use Rattle.layout_texts.proofs.Rules.{IsPortRow, above-most, apart-parts, no-not, not-less, not-most, or-no, port-row, skip}
 use Rattle.layout_texts.proofs.Stripped.{above-stripped, at-stripped, no-vectors, stage, stripped}
 use Rattle.layout.proofs.Bools.{all-found}
 

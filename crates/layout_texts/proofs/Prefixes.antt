@@ -1,7 +1,7 @@
 -- What stands in the lists so far stands in the whole lists.
-use Rattle.std.proofs.Common.{◌≡◌, ℕ, ◌+◌, ◌==◌, Bool, true, false, refl, ap, sym, ◌∙◌, List, ◌++◌, Option, Some, None}
+use Rattle.std.proofs.Common.{◌≡◌, ℕ, ◌+◌, ◌==◌, Bool, true, false, refl, ap, ◌∙◌, List, ◌++◌, Option, Some, None}
 use Rattle.std.specs.Prelude.{is_some, option_and_then}
-use Rattle.std.specs.List.{list_all, find}
+use Rattle.std.specs.List.{list_all}
 use Rattle.fab_types.specs.Id.{bus_of}
 use Rattle.platform.specs.declared.parts.Switch.{Switch}
 use Rattle.platform.specs.declared.parts.DownstreamPort.{DownstreamPort}

@@ -1,7 +1,7 @@
 -- What the lines of a layout have holds with one line more, if nothing is wrong with it.
-use Rattle.std.proofs.Common.{◌≡◌, ℕ, ◌%◌, ◌^◌, ◌==◌, ◌<◌, ◌≤◌, Bool, true, false, cond, refl, ap, sym, subst, ◌∙◌, List, [], ◌∷◌, ◌++◌, Option, Some, None, arith, eqb-true}
+use Rattle.std.proofs.Common.{◌≡◌, ℕ, ◌%◌, ◌^◌, ◌==◌, ◌<◌, Bool, true, false, cond, refl, sym, subst, ◌∙◌, List, [], ◌∷◌, ◌++◌, Option, Some, None, arith, eqb-true}
 use Rattle.std.specs.Prelude.{◌&&◌, ◌||◌, not, nat_le, nat_lt, is_some, map}
-use Rattle.std.specs.List.{list_all, list_any, find}
+use Rattle.std.specs.List.{list_all, list_any}
 use Rattle.std.proofs.lemmas.Bool.{and_from, and_parts, eq-eqb, lt-ltb}
 use Rattle.std.proofs.lemmas.Bool.Decides.{nat_tests}
 use Rattle.fab_types.specs.Controls.{bits_of, controls_egress}
@@ -12,7 +12,6 @@ use Rattle.platform.specs.declared.parts.LayoutVersion.{LayoutVersion}
 use Rattle.platform.specs.declared.parts.Switch.{Switch}
 use Rattle.platform.specs.declared.parts.DownstreamPort.{DownstreamPort}
 use Rattle.platform.specs.declared.parts.EndpointFunction.{EndpointFunction}
-use Rattle.platform.specs.declared.parts.Mapping.{Mapping}
 use Rattle.platform.specs.declared.parts.BudgetLine.{BudgetLine}
 use Rattle.platform.specs.declared.parts.CreditLine.{CreditLine}
 use Rattle.platform.specs.Owners.{is_function, owns_port}
@@ -23,8 +22,7 @@ use Rattle.layout_line.specs.declared.lines.CreditText.{CreditText}
 use Rattle.layout_line.specs.declared.lines.EgressText.{EgressText}
 use Rattle.layout_line.specs.declared.lines.MapText.{MapText}
 use Rattle.layout_line.specs.declared.lines.PortText.{PortText}
-use Rattle.layout_line.specs.declared.lines.SwitchText.{SwitchText}
-use Rattle.layout.specs.Additions.{budget_line, credit_line, map_line, port_line, root_line, switch_line, with_vector}
+use Rattle.layout.specs.Additions.{budget_line, credit_line, map_line, port_line, with_vector}
 use Rattle.layout.specs.Laws.{IsPlatform, are_apart, each_pair, is_hung, is_hung_below, is_hung_by, is_nested}
 use Rattle.layout.specs.Rules.{budget_fault, buses_are_outside, buses_meet, credit_fault, egress_fault, has_bad_fields, has_vectors, is_past_port_limits, owner_differs, window_is_outside, windows_meet, is_first_version, last_controls, port_fault, port_fault_below, port_fault_on, takes_vector}
 use Rattle.layout.proofs.Bools.{all-more, all-not, all-weaker, any-stays, not-false, or-first, or-second, or-weaker, pair-more}
@@ -34,7 +32,7 @@ use Rattle.line_texts.specs.Ranges.{IsMapLine, IsPortLine}
 use Rattle.layout_texts.specs.HasLines.{AreInOrder, are_of_other_domains, are_of_other_links, has_map_line, has_port_line, has_vector_line, is_port_of}
 use Rattle.layout_texts.proofs.Lists.{all-at, any-map}
 use Rattle.layout_texts.proofs.OrderKept.{front-of, order-given, order-none, order-port, order-switch}
-use Rattle.layout_texts.proofs.Rules.{AreApart, apart-parts, is-false, le-true}
+use Rattle.layout_texts.proofs.Rules.{apart-parts, le-true}
 
 -- all of `HasLines` but that there is a top switch, which the end of a text tells
 pub record HasRows (p : Platform) : Type 0 where

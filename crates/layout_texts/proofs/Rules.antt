@@ -1,9 +1,9 @@
 -- What the rules of one port say, part by part, and lines whose rules all pass.
-use Rattle.std.proofs.Common.{◌≡◌, ℕ, ◌+◌, ◌%◌, ◌^◌, ◌==◌, ◌<◌, ◌≤◌, Bool, true, false, cond, refl, List, Option, Some, None, arith}
+use Rattle.std.proofs.Common.{◌≡◌, ℕ, ◌%◌, ◌==◌, ◌<◌, ◌≤◌, Bool, true, false, cond, refl, Option, Some, None, arith}
 use Rattle.std.specs.Prelude.{◌&&◌, ◌||◌, not, nat_le, nat_lt}
 use Rattle.std.proofs.lemmas.Bool.{and_parts}
 use Rattle.std.proofs.lemmas.Bool.Decides.{nat_tests}
-use Rattle.fab_types.specs.Controls.{bits_of, controls_egress}
+use Rattle.fab_types.specs.Controls.{bits_of}
 use Rattle.fab_types.specs.Id.{bus_of, function_of}
 use Rattle.fab_types.specs.declared.faults.layout.LayoutCause.{LayoutCause}
 use Rattle.platform.specs.declared.parts.LayoutVersion.{LayoutVersion}

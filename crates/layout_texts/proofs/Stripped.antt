@@ -1,7 +1,6 @@
 -- Ports without their vectors, as they are before any `egress` line.
-use Rattle.std.proofs.Common.{◌≡◌, ℕ, ◌==◌, Bool, true, false, refl, ap, ◌∙◌, List, [], ◌∷◌, ◌++◌, Option, Some, None}
+use Rattle.std.proofs.Common.{◌≡◌, ℕ, ◌==◌, Bool, true, false, refl, ap, ◌∙◌, List, [], ◌∷◌, Option, Some, None}
 use Rattle.std.specs.Prelude.{◌&&◌, ◌||◌, is_some, map, option_and_then, option_map}
-use Rattle.std.specs.List.{list_any, find}
 use Rattle.fab_types.specs.Id.{bus_of}
 use Rattle.platform.specs.declared.parts.Switch.{Switch}
 use Rattle.platform.specs.declared.parts.DownstreamPort.{DownstreamPort}

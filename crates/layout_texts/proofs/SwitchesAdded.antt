@@ -1,7 +1,7 @@
 -- A switch is added, whose port above was added before.
-use Rattle.std.proofs.Common.{◌≡◌, ℕ, ◌+◌, ◌==◌, ◌<◌, ◌≤◌, Bool, true, false, cond, refl, ap, sym, subst, ◌∙◌, List, [], ◌∷◌, ◌++◌, length, Option, Some, None, arith, eqb-true}
-use Rattle.std.specs.Prelude.{◌&&◌, ◌||◌, not, nat_le, nat_lt, is_none, is_some, map, option_and_then, option_map}
-use Rattle.std.specs.List.{list_all, list_any, find}
+use Rattle.std.proofs.Common.{◌≡◌, ℕ, ◌+◌, ◌==◌, ◌≤◌, true, false, refl, ap, sym, subst, ◌∙◌, List, [], ◌∷◌, ◌++◌, length, Option, Some, None, arith, eqb-true}
+use Rattle.std.specs.Prelude.{◌||◌, nat_le, nat_lt, is_none, is_some, map, option_and_then, option_map}
+use Rattle.std.specs.List.{list_all, list_any}
 use Rattle.std.proofs.lemmas.Bool.{and_parts, eq-eqb}
 use Rattle.std.proofs.lemmas.Bool.Decides.{nat_tests}
 use Rattle.fab_types.specs.Id.{bus_of, id_of}
@@ -18,8 +18,8 @@ use Rattle.layout_texts.proofs.After.{after, one-after}
 use Rattle.layout_texts.proofs.Lists.{all-at, length-room, none-passes, pair-front}
 use Rattle.layout_texts.proofs.PortsAdded.{tree}
 use Rattle.layout_texts.proofs.Prefixes.{above-same, hangs_by, hangs_from, third-not}
-use Rattle.layout_texts.proofs.Rules.{above-most, is-false, lt-from, no-not, or-no, skip}
-use Rattle.layout_texts.proofs.Stripped.{at-stripped, stage, stripped, third-stripped}
+use Rattle.layout_texts.proofs.Rules.{above-most, is-false, no-not, or-no, skip}
+use Rattle.layout_texts.proofs.Stripped.{at-stripped, stripped, third-stripped}
 
 none-of : (o : Option ℕ) → is_none o ≡ true → o ≡ None
 none-of None h = refl

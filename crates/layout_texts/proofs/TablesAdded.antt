@@ -1,7 +1,7 @@
 -- Budgets and credits are added.
-use Rattle.std.proofs.Common.{◌≡◌, ℕ, ◌==◌, Bool, true, false, refl, ap, sym, subst, ◌∙◌, List, [], ◌∷◌, ◌++◌, Option, Some, None}
-use Rattle.std.specs.Prelude.{◌&&◌, ◌||◌, not, map}
-use Rattle.std.specs.List.{list_all, list_any, flat_map}
+use Rattle.std.proofs.Common.{◌≡◌, ◌==◌, true, refl, ap, subst, ◌∙◌, List, [], ◌∷◌, ◌++◌, Some, None}
+use Rattle.std.specs.Prelude.{map}
+use Rattle.std.specs.List.{list_all}
 use Rattle.platform.specs.declared.parts.BudgetLine.{BudgetLine}
 use Rattle.platform.specs.declared.parts.CreditLine.{CreditLine}
 use Rattle.platform.specs.Owners.{owns_port}

@@ -1,7 +1,7 @@
 -- The tree of switches and ports is added, without vectors.
 use Rattle.std.proofs.Common.{◌≡◌, ℕ, ◌==◌, Bool, true, false, cond, refl, ap, sym, subst, ◌∙◌, List, [], ◌∷◌, ◌++◌, Option, Some, None, append_assoc}
-use Rattle.std.specs.Prelude.{◌&&◌, MatchOption, is_some, map}
-use Rattle.std.specs.List.{list_all, find}
+use Rattle.std.specs.Prelude.{MatchOption, is_some, map}
+use Rattle.std.specs.List.{list_all}
 use Rattle.std.proofs.lemmas.Bool.{eq-eqb}
 use Rattle.std.proofs.lemmas.List.{append-nil}
 use Rattle.fab_types.specs.Id.{bus_of}
@@ -9,8 +9,7 @@ use Rattle.platform.specs.declared.parts.Switch.{Switch}
 use Rattle.platform.specs.declared.parts.DownstreamPort.{DownstreamPort}
 use Rattle.platform.specs.Platform.{Platform}
 use Rattle.platform.specs.Tree.{port_at, switch_on}
-use Rattle.layout_line.specs.declared.lines.LayoutLine.{LayoutLine}
-use Rattle.layout.specs.Laws.{IsPlatform, is_hung, is_hung_below, is_hung_by, is_nested, is_nested_on}
+use Rattle.layout.specs.Laws.{IsPlatform, is_hung, is_hung_below, is_hung_by, is_nested}
 use Rattle.layout.specs.Places.{IsWellPlaced}
 use Rattle.layout.proofs.Bools.{all-more, all-weaker}
 use Rattle.layout.proofs.Nesting.{nested-some}

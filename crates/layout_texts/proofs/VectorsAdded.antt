@@ -1,24 +1,23 @@
 -- Vectors are given to the ports that have one.
-use Rattle.std.proofs.Common.{◌≡◌, ℕ, ◌^◌, ◌==◌, Bool, true, false, cond, refl, ap, sym, subst, ◌∙◌, List, [], ◌∷◌, ◌++◌, Option, Some, None, append_assoc}
-use Rattle.std.specs.Prelude.{◌&&◌, ◌||◌, not, nat_lt, is_some, map}
-use Rattle.std.specs.List.{list_all, list_any, find, flat_map}
+use Rattle.std.proofs.Common.{◌≡◌, ℕ, ◌==◌, Bool, true, false, refl, ap, sym, subst, ◌∙◌, List, [], ◌∷◌, ◌++◌, Option, Some, None, append_assoc}
+use Rattle.std.specs.Prelude.{◌&&◌, ◌||◌, not, map}
+use Rattle.std.specs.List.{list_all, list_any, flat_map}
 use Rattle.std.proofs.lemmas.Bool.{and_parts, cond-false, cond-true, eq-eqb, eqb-true}
 use Rattle.std.proofs.lemmas.List.{map-append}
 use Rattle.std.proofs.lemmas.List.Folds.{list_any-append}
-use Rattle.fab_types.specs.Controls.{controls_egress}
 use Rattle.platform.specs.declared.parts.DownstreamPort.{DownstreamPort}
 use Rattle.platform.specs.Platform.{Platform}
 use Rattle.platform.specs.Tree.{port_at}
 use Rattle.layout_line.specs.declared.lines.EgressText.{EgressText}
 use Rattle.layout_line.specs.declared.lines.LayoutLine.TheVariants as line
-use Rattle.layout.specs.Additions.{add, with_vector}
+use Rattle.layout.specs.Additions.{with_vector}
 use Rattle.layout.specs.Laws.{IsPlatform, are_apart, each_pair, keeps_home}
-use Rattle.layout.specs.Rules.{egress_fault, fault_of, has_foreign_bit, is_first_version, is_let_abroad, lets_abroad, takes_vector}
+use Rattle.layout.specs.Rules.{egress_fault, fault_of, has_foreign_bit, is_let_abroad, lets_abroad, takes_vector}
 use Rattle.layout_texts.specs.HasLines.{HasLines, has_port_line, has_vector_line}
 use Rattle.layout_texts.specs.PlatformLines.{egress_lines, vector_lines}
 use Rattle.layout_texts.proofs.After.{after, all-after, one-after}
 use Rattle.layout_texts.proofs.Lists.{all-at, any-map, find-back, none-found, none-passes, pair-back, pair-front}
-use Rattle.layout_texts.proofs.Rules.{AreApart, apart-parts, is-false, no-not, or-no, port-row, skip}
+use Rattle.layout_texts.proofs.Rules.{apart-parts, is-false, no-not, or-no, port-row, skip}
 use Rattle.layout_texts.proofs.Stripped.{stage, stripped}
 
 abbrev gives : ℕ → ℕ → EgressText

@@ -1,13 +1,12 @@
 -- All lines of a platform are added, and give the platform.
-use Rattle.std.proofs.Common.{◌≡◌, ℕ, ◌==◌, ◌≤◌, ◌<◌, Bool, true, false, cond, refl, ap, sym, ◌∙◌, List, [], ◌∷◌, ◌++◌, Option, Some, None, arith, eqb-true}
-use Rattle.std.specs.Prelude.{◌&&◌, ◌||◌, not, nat_le, map}
+use Rattle.std.proofs.Common.{◌≡◌, ℕ, ◌==◌, Bool, true, false, cond, refl, ap, sym, ◌∙◌, List, [], ◌∷◌, ◌++◌, Some, None, arith, eqb-true}
+use Rattle.std.specs.Prelude.{nat_le, map}
 use Rattle.std.specs.List.{flat_map}
 use Rattle.std.proofs.lemmas.Bool.{and_from, le-leb}
 use Rattle.std.proofs.lemmas.Bool.Decides.{nat_tests}
 use Rattle.std.proofs.lemmas.List.{append-nil}
 use Rattle.platform.specs.declared.parts.DownstreamPort.{DownstreamPort}
 use Rattle.platform.specs.Platform.{Platform, no_lines}
-use Rattle.layout_line.specs.declared.lines.LayoutLine.{LayoutLine}
 use Rattle.layout_line.specs.declared.lines.LayoutLine.TheVariants as line
 use Rattle.layout.specs.Laws.{IsPlatform}
 use Rattle.layout.specs.Places.{IsWellPlaced}
@@ -18,7 +17,7 @@ use Rattle.layout_texts.proofs.After.{after, both-after, one-after}
 use Rattle.layout_texts.proofs.FunctionsAdded.{functions-added}
 use Rattle.layout_texts.proofs.MapsAdded.{maps-added}
 use Rattle.layout_texts.proofs.PortsAdded.{tree}
-use Rattle.layout_texts.proofs.Rules.{no-not, or-no, skip}
+use Rattle.layout_texts.proofs.Rules.{no-not, skip}
 use Rattle.layout_texts.proofs.Stripped.{stage, stripped}
 use Rattle.layout_texts.proofs.TablesAdded.{budgets-added, credits-added}
 use Rattle.layout_texts.proofs.TreeAdded.{tree-added}

@@ -1,3 +1,5 @@
 pub mod BytesRead
 pub mod CommandsRead
 pub mod ScriptsRead
+pub mod CommandsInRange
+pub mod ScriptsInRange

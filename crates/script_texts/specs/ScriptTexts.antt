@@ -1,5 +1,5 @@
 -- The text of a whole script, and what its lines are.
-use Rattle.std.specs.Prelude.{ℕ, ◌+◌, List, [], ◌∷◌, ◌++◌}
+use Rattle.std.specs.Prelude.{ℕ, ◌+◌, List, [], ◌∷◌, ◌++◌, map}
 use Rattle.script.specs.declared.lines.Command.{Command}
 use Rattle.script.specs.declared.lines.Line.{Line}
 use Rattle.script_texts.specs.CommandTexts.{command_text}
@@ -13,3 +13,7 @@ script_text (command ∷ commands) = command_text command ++ (10 ∷ script_text
 abbrev pub numbered : ℕ → List Command → List Line
 numbered number [] = []
 numbered number (command ∷ commands) = record { number = number; command = command } ∷ numbered (number + 1) commands
+
+-- the commands of such lines
+abbrev pub commands_of : List Line → List Command
+commands_of lines = map (λ (line : Line). line.command) lines

@@ -3,4 +3,7 @@
 
 mod laws;
 
-pub use laws::{commands_are_read_back, scripts_are_read_back};
+pub use laws::{
+    commands_are_in_range, commands_are_read_back, each_script_has_a_text, scripts_are_in_range,
+    scripts_are_read_back,
+};
