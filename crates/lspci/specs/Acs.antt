@@ -1,0 +1,63 @@
+-- The ACS capability of a function (PCIe 4.0, 7.7.8).
+use Rattle.std.specs.Prelude.{ℕ, ◌+◌, ◌==◌, ◌&&◌, ◌||◌, Bool, true, false, nat_le, is_none, unwrap_or, List, Option, Some, None, if◌then◌else◌}
+use Rattle.text.specs.Text.{◌>>=◌}
+use Rattle.lspci.specs.declared.acs.Acs.{Acs}
+use Rattle.lspci.specs.declared.acs.Acs.TheVariants.{Absent, Unknown, Standard, Wide}
+use Rattle.lspci.specs.declared.capabilities.PortType.{PortType}
+use Rattle.lspci.specs.declared.capabilities.PortType.TheVariants as port
+use Rattle.lspci.specs.Spaces.{word_at, long_at}
+use Rattle.lspci.specs.Headers.{vendor_of, device_of}
+use Rattle.lspci.specs.Capabilities.{extended_of, has_extended, port_type_of, register_at}
+
+abbrev pub is_in : ℕ → ℕ → ℕ → Bool
+is_in least most device = nat_le least device && nat_le device most
+
+-- Device IDs of Intel's root ports with registers of 32 bits
+abbrev pub is_wide_device : ℕ → Bool
+is_wide_device device =
+    is_in 0x9d10 0x9d1b device || is_in 0xa110 0xa11f device || is_in 0xa167 0xa16a device
+    || is_in 0xa290 0xa29f device || is_in 0xa2e7 0xa2ee device
+
+abbrev pub is_root_port : Option PortType → Bool
+is_root_port (Some port.RootPort) = true
+is_root_port _ = false
+
+abbrev pub is_number : ℕ → Option ℕ → Bool
+is_number wanted None = false
+is_number wanted (Some number) = number == wanted
+
+abbrev pub passes : (ℕ → Bool) → Option ℕ → Bool
+passes test None = false
+passes test (Some number) = test number
+
+abbrev pub has_wide_registers : List ℕ → Bool
+has_wide_registers bytes =
+    is_root_port (port_type_of bytes) && is_number 0x8086 (vendor_of bytes) && passes is_wide_device (device_of bytes)
+
+-- two registers of 16 bits, 4 and 6 bytes behind the start
+abbrev pub standard_acs : List ℕ → ℕ → Option Acs
+standard_acs bytes offset = do
+  first ← register_at (offset + 4)
+  capability ← word_at bytes first
+  second ← register_at (offset + 6)
+  control ← word_at bytes second
+  Some (Standard capability control)
+
+-- two registers of 32 bits, 4 and 8 bytes behind the start
+abbrev pub wide_acs : List ℕ → ℕ → Option Acs
+wide_acs bytes offset = do
+  first ← register_at (offset + 4)
+  capability ← long_at bytes first
+  second ← register_at (offset + 8)
+  control ← long_at bytes second
+  Some (Wide capability control)
+
+abbrev pub acs_at : List ℕ → Option ℕ → Acs
+acs_at bytes None = Absent
+acs_at bytes (Some offset) = unwrap_or (if has_wide_registers bytes then wide_acs bytes offset else standard_acs bytes offset) Unknown
+
+-- the capability has ID 000Dh
+unfoldable pub acs_of : List ℕ → Acs
+acs_of bytes =
+    if is_none (port_type_of bytes) then Absent
+    else (if has_extended bytes then acs_at bytes (extended_of bytes 0x0d) else Unknown)

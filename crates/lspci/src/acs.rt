@@ -1,0 +1,86 @@
+//! The ACS capability of a function (PCIe 4.0, 7.7.8).
+
+ghost use Rattle.std.specs.Prelude.{◌≡◌};
+ghost use Rattle.lspci.specs.Acs.{acs_of, has_wide_registers, is_wide_device, standard_acs, wide_acs};
+
+use crate::capabilities::PortType;
+use crate::space::ConfigSpace;
+
+/// What a dump shows of a function's ACS registers.
+#[derive(Clone, Copy, Debug, PartialEq, Eq)]
+pub enum Acs {
+    /// The function has no such capability.
+    Absent,
+    /// The extended configuration space isn't shown, or the registers aren't.
+    Unknown,
+    /// The capability register, and the control register behind it.
+    Standard { capability: u16, control: u16 },
+    /// The same, in registers of 32 bits: an erratum of Intel root ports.
+    Wide { capability: u32, control: u32 },
+}
+
+/// Has an Intel root port of this Device ID the registers of 32 bits?
+fn is_wide_device(device: u16) -> bool
+    ensures { result ≡ is_wide_device device }
+{
+    0x9d10 <= device && device <= 0x9d1b
+        || 0xa110 <= device && device <= 0xa11f
+        || 0xa167 <= device && device <= 0xa16a
+        || 0xa290 <= device && device <= 0xa29f
+        || 0xa2e7 <= device && device <= 0xa2ee
+}
+
+impl ConfigSpace<'_> {
+    fn has_wide_registers(&self) -> bool
+        ensures { result ≡ has_wide_registers self.now.bytes.now }
+    {
+        match (self.port_type(), self.vendor(), self.device()) {
+            (Some(PortType::RootPort), Some(0x8086), Some(device)) => is_wide_device(device),
+            _ => false,
+        }
+    }
+
+    fn standard_acs(&self, offset: u16) -> Option<Acs>
+        ensures { result ≡ standard_acs self.now.bytes.now offset }
+    {
+        let capability = self.word(offset.checked_add(4)?)?;
+        let control = self.word(offset.checked_add(6)?)?;
+        Some(Acs::Standard {
+            capability,
+            control,
+        })
+    }
+
+    fn wide_acs(&self, offset: u16) -> Option<Acs>
+        ensures { result ≡ wide_acs self.now.bytes.now offset }
+    {
+        let capability = self.long(offset.checked_add(4)?)?;
+        let control = self.long(offset.checked_add(8)?)?;
+        Some(Acs::Wide {
+            capability,
+            control,
+        })
+    }
+
+    #[tactic(auto, unfolding(crate::specs::Acs::acs_of))]
+    /// The ACS registers of the function. Without a PCI Express capability it has none.
+    pub fn acs(&self) -> Acs
+        ensures { result ≡ acs_of self.now.bytes.now }
+    {
+        if self.port_type().is_none() {
+            return Acs::Absent;
+        }
+        if !self.has_extended() {
+            return Acs::Unknown;
+        }
+        let Some(offset) = self.extended_capability(0x0d) else {
+            return Acs::Absent;
+        };
+        let registers = if self.has_wide_registers() {
+            self.wide_acs(offset)
+        } else {
+            self.standard_acs(offset)
+        };
+        registers.unwrap_or(Acs::Unknown)
+    }
+}

@@ -1,0 +1,119 @@
+//! What a line of a dump says.
+
+ghost use Rattle.std.specs.Prelude.{◌≡◌, ◌+◌, ◌≤◌, length};
+ghost use Rattle.lspci.specs.Lines.{byte_at, device_line, dump_line_of, location_of, row_bytes, row_line, row_of};
+
+use fab_types::Bdf;
+use text::{at_blank, cut, hex_byte, hexadecimal, id};
+
+/// Where a device is: its PCI segment (which `lspci` calls a domain), and its ID there.
+#[derive(Clone, Copy, Debug, PartialEq, Eq)]
+pub struct Location {
+    /// The number of the PCI segment, mostly 0.
+    pub segment: u32,
+    /// Bus, device and function.
+    pub id: Bdf,
+}
+
+/// Sixteen bytes of a configuration space.
+#[derive(Clone, Copy, Debug)]
+pub struct Row {
+    /// The offset of the first one.
+    pub offset: u16,
+    /// The bytes, by rising offsets.
+    pub bytes: [u8; 16],
+}
+
+/// What a line of a dump says.
+#[derive(Clone, Copy, Debug)]
+pub enum DumpLine {
+    /// A device begins.
+    Device(Location),
+    /// Bytes of its configuration space.
+    Row(Row),
+    /// A detail of the device, in words, which is passed over.
+    Detail,
+    /// Nothing: the device ends.
+    Blank,
+}
+
+/// A location, as `00:1c.0` or `0000:00:1c.0`.
+fn location_of(word: &[u8]) -> Option<Location>
+    ensures { result ≡ location_of word.now }
+{
+    if let Some(id) = id(word) {
+        return Some(Location { segment: 0, id });
+    }
+    let parts = cut(word, b':')?;
+    let segment = hexadecimal(parts.before, 4, 8)? as u32;
+    let id = id(parts.after)?;
+    Some(Location { segment, id })
+}
+
+fn device_line(line: &[u8]) -> Option<DumpLine>
+    ensures { result ≡ device_line line.now }
+{
+    let parts = at_blank(line)?;
+    Some(DumpLine::Device(location_of(parts.before)?))
+}
+
+/// The byte that two digits behind a blank spell.
+fn byte_at(text: &[u8], place: usize) -> Option<u8>
+    requires { place + 3 ≤ length text.now }
+    ensures { result ≡ byte_at text.now place }
+{
+    if text[place] == b' ' {
+        hex_byte(&text[place + 1..place + 3])
+    } else {
+        None
+    }
+}
+
+/// The bytes of a row.
+fn row_bytes(text: &[u8]) -> Option<[u8; 16]>
+    ensures { result ≡ row_bytes text.now }
+{
+    if text.len() != 48 {
+        return None;
+    }
+    let mut bytes = [0; 16];
+    for place in 0..16 {
+        let Some(byte) = byte_at(text, 3 * place) else {
+            return None;
+        };
+        bytes[place] = byte;
+    }
+    Some(bytes)
+}
+
+/// A row, as ` 86 80 ..` behind its offset.
+fn row_of(offset: &[u8], text: &[u8]) -> Option<Row>
+    ensures { result ≡ row_of offset.now text.now }
+{
+    let offset = hexadecimal(offset, 2, 3)? as u16;
+    let bytes = row_bytes(text)?;
+    Some(Row { offset, bytes })
+}
+
+fn row_line(line: &[u8]) -> Option<DumpLine>
+    ensures { result ≡ row_line line.now }
+{
+    let parts = cut(line, b':')?;
+    Some(DumpLine::Row(row_of(parts.before, parts.after)?))
+}
+
+/// What a line of a dump says, if it has one of the forms.
+pub fn dump_line_of(line: &[u8]) -> Option<DumpLine>
+    ensures { result ≡ dump_line_of line.now }
+{
+    if line.is_empty() {
+        return Some(DumpLine::Blank);
+    }
+    if line[0] == b' ' || line[0] == b'\t' {
+        return Some(DumpLine::Detail);
+    }
+    match device_line(line) {
+        Some(device) => Some(device),
+        None => row_line(line),
+    }
+}
