@@ -9,6 +9,11 @@ ENABLES = [0x0f, 0x0f, 0x0c, 0x06, 0x00, 0xff, 0xff, 0x3c, 0x8f]
 
 
 class Deal:
+    owners, least_ports, most_ports = 3, 1, 5   # so many domains, and ports of a switch
+    branching = 0.4                             # how often a port leads to a switch
+    foreign = 0.004                             # how often a vector lets through to a port of any domain
+    budgets = [5, 400, 400, 400]
+
     def __init__(self, number):
         self.dice = random.Random(number)
         self.lines, self.functions = [], []
@@ -27,10 +32,10 @@ class Deal:
         self.switches -= 1
         self.lines.append(f'switch {text(bus << 8)} {above}')
         inner, bus = bus + 1, bus + 2
-        for device in range(self.dice.randrange(1, 6)):
+        for device in range(self.dice.randrange(self.least_ports, self.most_ports + 1)):
             port, place, first, low = f'{inner:02x}:{device:02x}.0', len(self.lines), bus, base
-            own = owner or self.dice.randrange(1, 4)
-            if depth < 3 and self.switches and self.dice.random() < 0.4:
+            own = owner or self.dice.randrange(1, self.owners + 1)
+            if depth < 3 and self.switches and self.dice.random() < self.branching:
                 bus, base = self.switch(port, bus, base, own, depth + 1)
             else:
                 if self.dice.random() < 0.9:
@@ -42,7 +47,7 @@ class Deal:
 
     def layout(self):
         self.switch('root', 1, 0x90000000, None, 1)
-        head = [f'pciefab {self.version}', 'frames 12']
+        head = [f'pciefab {self.version}', f'frames {3 * self.owners + 3}']
         self.lines += self.vectors()
         for bdf, own, _ in self.functions:
             peers = [peer for peer, owner, _ in self.functions if owner == own]
@@ -56,7 +61,7 @@ class Deal:
                 limits = [self.dice.randrange(low, low + 5) for low in (1, 16) * 3]
                 self.lines.append(f'credit {text(bdf)} ' + ' '.join(map(str, limits)))
         for own in sorted({own for _, own, _ in self.functions}):
-            self.lines.append(f'budget {own} {self.dice.choice([5, 400, 400, 400])}')
+            self.lines.append(f'budget {own} {self.dice.choice(self.budgets)}')
         return self.garbled(head + self.lines)
 
     def vectors(self):
@@ -71,7 +76,7 @@ class Deal:
             vector = 0xffffffff
             for _, other, first, *_, owner in ports:
                 is_good = other[:2] == port[:2] and other != port and owner == own and int(first, 16) in below
-                if is_good and self.dice.random() < 0.7 or self.dice.random() < 0.004:
+                if is_good and self.dice.random() < 0.7 or self.dice.random() < self.foreign:
                     vector &= ~(1 << int(other[3:5], 16))
             lines.append(f'egress {port} {vector:08x}')
         return lines

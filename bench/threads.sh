@@ -10,48 +10,23 @@
 #         have the completion of their last read: no packet is under way by then. By one thread it is the time of all begins,
 #         and of sweeps until nothing moves.
 #
-# It builds the programs in a temporary folder, from the sources of this repository and from the texts in bench/threads (which
-# aren't named .rt, since no gate reads them), and proves what has not been proved on this machine before.
+# It builds the programs in a temporary folder, from the sources of this repository and from the texts in bench/threads, and
+# proves what has not been proved on this machine before.
 set -euo pipefail
 here=$(cd "$(dirname "$0")/.." && pwd)
 work=$(mktemp -d)
 trap 'rm -rf "$work"' EXIT
-mkdir "$work/crates"
-cp "$here/HANDLES" "$work"
+. "$here/bench/crates.sh"
 
 rings='fab_types frame_log crew wiring'
 turns='fab_types frame_log credit layout bridge vetted port domain locks monitor wiring link_side plan port_work'
 floods='fab_types layout injector fabric_core sweeps even_gate port_threads'
 
-# names_below NAME..: these crates and those that they stand on, each once.
-names_below() {
-    awk -v tops="$*" '
-        function add(name,   parts, count, at) {
-            if (!(name in libraries) || name in added) return
-            added[name] = 1
-            print name
-            count = split(libraries[name], parts, " ")
-            for (at = 1; at <= count; at++) add(parts[at])
-        }
-        /^[a-z]/ { name = $1; sub(/:.*/, "", name); sub(/^[^:]*:/, ""); libraries[name] = $0 }
-        END { count = split(tops, names, " "); for (at = 1; at <= count; at++) add(names[at]) }
-    ' "$here/crates.txt"
-}
-
-for crate in $(names_below $rings $turns $floods); do
-    mkdir "$work/crates/$crate"
-    tar -C "$here/crates/$crate" --exclude=./out --exclude=./must-fail --exclude=./more-edits -cf - . |
-        tar -C "$work/crates/$crate" -xf -
-    grep -E "^$crate:" "$here/crates.txt" >> "$work/crates.txt"
-done
+copy_crates $rings $turns $floods
 for name in rings turns floods; do
-    mkdir -p "$work/crates/$name/src"
-    for text in "$here/bench/threads/$name"/*.rt.txt; do
-        cp "$text" "$work/crates/$name/src/$(basename "$text" .txt)"
-    done
-    echo "$name: ${!name}" >> "$work/crates.txt"
+    add_program "$name" "$here/bench/threads/$name" ${!name}
 done
-(cd "$work" && rt ci > "$work/log" 2>&1) || { tail -20 "$work/log"; exit 1; }
+build
 
 # shortest PROGRAM WORD..: the line of the shortest of five runs.
 shortest() {

@@ -25,7 +25,8 @@ struct WithoutMonitor<C> {
 
 impl<C: Clock> Gate for WithoutMonitor<C> {
     fn before(&self, worker: WorkerId, turn: u32) -> bool {
-        self.even.before(worker, turn) && worker != WorkerId::Monitor
+        let is_monitor = worker == WorkerId::Monitor;
+        self.even.before(worker, turn) && !is_monitor
     }
 }
 
