@@ -14,3 +14,4 @@ pub mod LostEnds
 pub mod Drained
 pub mod InFlight
 pub mod NewFabrics
+pub mod Elsewhere

@@ -1,17 +1,38 @@
 -- Where nothing moves any more (PCIe 4.0, 2.4.1 and 2.6.1): that no event has an effect, and that no packet is left.
-use Rattle.std.specs.Prelude.{◌≡◌, ℕ, false, List, [], None}
+use Rattle.std.specs.Prelude.{◌≡◌, ⊤, ℕ, false, List, [], All, None, IsSome}
+use Rattle.fab_types.specs.declared.origin.Origin.TheVariants as origin
 use Rattle.fab_types.specs.declared.outcome.Outcome.{Outcome}
 use Rattle.fab_types.specs.declared.place.Place.{Place}
+use Rattle.agents.specs.Agents.{outbox_place}
 use Rattle.domains.specs.Aliens.{flown}
+use Rattle.domains.specs.Domains.{place_of_function}
+use Rattle.interconnect.specs.Passes.{index_of}
+use Rattle.topology.specs.Links.{sender_of}
 use Rattle.fabric_core.specs.declared.event.Event.{Event}
+use Rattle.fabric_core.specs.declared.station.Station.{Station}
+use Rattle.fabric_core.specs.declared.station.Station.TheVariants as station
 use Rattle.fabric_core.specs.Events.{effect, is_begin}
 use Rattle.fabric_core.specs.Runs.{Run}
+use Rattle.fabric_core.specs.Stations.{events_at}
 use Rattle.fabric_core.specs.Trails.{standing_at}
 use Rattle.fabric_core.specs.World.{World}
 
 -- no event that is no begin moves anything
 pub record IsStill (w : World) : Type 0 where
   pub idle : (event : Event) → is_begin event ≡ false → effect w event ≡ None
+
+-- has the fabric such a station?
+abbrev pub HasStation : World → Station → Type 0
+HasStation w (station.FunctionOutbox function) = IsSome (outbox_place w.agents.outboxes (origin.Function function))
+HasStation w (station.HostOutbox domain) = IsSome (outbox_place w.agents.outboxes (origin.Host domain))
+HasStation w (station.Port port) = IsSome (index_of w.tree.places port)
+HasStation w (station.Link direction) = IsSome (sender_of w.tree.links direction)
+HasStation w station.Host = ⊤
+HasStation w (station.Function function) = IsSome (place_of_function w.agents.domains function)
+
+-- no event of the station moves anything
+abbrev pub IsIdleAt : World → Station → Type 0
+IsIdleAt w s = All (λ event. effect w event ≡ None) (events_at s)
 
 -- no packet waits or travels anywhere
 pub record IsEmpty (w : World) : Type 0 where

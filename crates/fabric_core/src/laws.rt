@@ -17,6 +17,7 @@ ghost use Rattle.guarded_routes.specs.Guarded.{IsGuarded};
 ghost use Rattle.lane.specs.Lanes.{class_of};
 ghost use Rattle.domains.specs.Domains.{Made, made};
 ghost use Rattle.fabric_core.specs.declared.event.Event.{Event};
+ghost use Rattle.fabric_core.specs.declared.station.Station.{Station};
 ghost use Rattle.fabric_core.specs.Events.{effect};
 ghost use Rattle.fabric_core.specs.Invariant.{IsFabric, IsConsistent};
 ghost use Rattle.fabric_core.specs.Isolation.{IsApart};
@@ -24,7 +25,7 @@ ghost use Rattle.fabric_core.specs.Orders.{AreOrdered, GoesBy, KeepsToWay, StayO
 ghost use Rattle.fabric_core.specs.Places.{HaveOnePlace, IsFlown};
 ghost use Rattle.fabric_core.specs.Runs.{Run};
 ghost use Rattle.fabric_core.specs.Soundness.{IsGuardedFabric};
-ghost use Rattle.fabric_core.specs.Still.{Concludes, NeverBlocks};
+ghost use Rattle.fabric_core.specs.Still.{Concludes, HasStation, IsIdleAt, IsStill, NeverBlocks};
 ghost use Rattle.fabric_core.specs.TakenOut.{CanBeLeft, CannotTell};
 ghost use Rattle.fabric_core.specs.World.{World, is_guarded, world_of};
 
@@ -138,4 +139,11 @@ pub fn still_is_empty()
 /// journal, if then no event but a begin has an effect.
 pub fn still_is_consumed()
     ensures { (platform : Platform) → IsGuarded platform → Concludes (world_of platform) }
+{}
+
+/// Nothing can move in a fabric where nothing can move at its own stations.
+/// Events of outboxes, ports, links and functions that it hasn't never have an effect, so the events of the stations that
+/// it has are enough to look at.
+pub fn nothing_moves_elsewhere()
+    ensures { (w : World) → ((s : Station) → HasStation w s → IsIdleAt w s) → IsStill w }
 {}
