@@ -47,7 +47,7 @@ fn place(numbers: &[u16], frame: u16) -> Option<usize>
 }
 
 impl HostMemory {
-    ghost use Rattle.host_memory.specs.MemoryLends.{LendsPart};
+    ghost use Rattle.host_memory.specs.MemoryLends.{LendsPart, LendsPartIf};
 
     /// The memory of a domain at its start: its frames, all zero. It answers `NoMemory` where memory
     /// was refused. No other call takes memory.
@@ -93,9 +93,10 @@ impl HostMemory {
     }
 
     /// Lends the bytes of this range in this frame to be written.
-    /// There are none where the frame isn't of the domain, or hasn't the range. No clause says what the memory
-    /// then is: `write` says it.
+    /// There are none where the frame isn't of the domain, or hasn't the range: then the memory stays as it is. Once a
+    /// loan ends, the memory has there what was left in it, and all other bytes stay.
     pub fn part_mut(&mut self, frame: u16, range: Range<usize>) -> Option<&mut [u8]>
+        ensures* writes_back { sem 𝓛 (LendsPartIf self.entry frame range.start result) }
         ensures part { option_copied_mut result ≡ part_of self.old frame range.start range.end }
         ensures size { IfSome result (λ part. length part.now + range.start ≡ range.end) }
     {
@@ -106,9 +107,10 @@ impl HostMemory {
         }
     }
 
-    // Is there such a part?
-    fn has_part(&self, frame: u16, start: usize, end: usize) -> bool
-        ensures { result ≡ is_some (part_of self.now frame start end) }
+    // Is there such a part? It is asked of a memory that may be written, since `part_mut` lends its own again for it.
+    fn has_part(&mut self, frame: u16, start: usize, end: usize) -> bool
+        ensures found { result ≡ is_some (part_of self.old frame start end) }
+        ensures kept { self.new ≡ self.old }
     {
         self.part(frame, start..end).is_some()
     }

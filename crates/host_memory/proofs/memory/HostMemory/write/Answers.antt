@@ -7,4 +7,4 @@ returns-else-has_part c =
     let start = c.args.offset in
     let end = start + length c.args.bytes.now in
     let low : start ≤ end = omega arith in
-    sym (unwritten c.args.self.now c.args.frame start end c.args.bytes.now low c.requires (sym c.has_part.ensures ∙ c.if-has_part.false))
+    c.has_part.ensures.kept ∙ sym (unwritten c.args.self.now c.args.frame start end c.args.bytes.now low c.requires (sym c.has_part.ensures.found ∙ c.if-has_part.false))
