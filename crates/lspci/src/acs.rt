@@ -62,8 +62,8 @@ impl ConfigSpace<'_> {
         })
     }
 
-    #[tactic(auto, unfolding(crate::specs::Acs::acs_of))]
     /// The ACS registers of the function. Without a PCI Express capability it has none.
+    #[tactic(auto, unfolding(crate::specs::Acs::acs_of))]
     pub fn acs(&self) -> Acs
         ensures { result ≡ acs_of self.now.bytes.now }
     {

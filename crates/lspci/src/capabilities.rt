@@ -63,8 +63,8 @@ impl ConfigSpace<'_> {
         Some(Entry { id, next })
     }
 
-    #[tactic(auto, using(crate::proofs::Walks::capability_none, crate::proofs::Walks::capability_step))]
     /// The place of this capability among so many entries, the first of which is at this offset.
+    #[tactic(auto, using(crate::proofs::Walks::capability_none, crate::proofs::Walks::capability_step))]
     fn capability_from(&self, id: u16, left: u16, offset: u16) -> Option<u16>
         ensures { result ≡ capability_from self.now.bytes.now id left offset }
     {

@@ -17,8 +17,10 @@ pub struct Device {
     pub line: u32,
     /// Where it is.
     pub location: Location,
-    pub(crate) first: usize,
-    pub(crate) count: usize,
+    /// The number of its first byte, among those of all devices of the dump.
+    pub first: usize,
+    /// How many bytes of its configuration space are shown: 64, 128, 256 or 4,096.
+    pub count: usize,
 }
 
 /// The devices of a machine with their configuration spaces, as a dump shows them.
@@ -56,8 +58,8 @@ impl Dump {
         }
     }
 
-    #[tactic(auto, unfolding(crate::specs::Reading::closed))]
     /// Ends the device whose rows are read, if there is one.
+    #[tactic(auto, unfolding(crate::specs::Reading::closed))]
     pub(crate) fn close(&mut self) -> Result<(), DumpCause>
         ensures { IsStep (closed self.old) result self.new }
     {
@@ -135,8 +137,8 @@ impl Dump {
         }
     }
 
-    #[tactic(auto, unfolding(crate::specs::Reading::with_line))]
     /// Reads one line.
+    #[tactic(auto, unfolding(crate::specs::Reading::with_line))]
     pub(crate) fn take_line(&mut self, number: u32, line: &[u8]) -> Result<(), DumpCause>
         ensures { IsStep (with_line self.old number line.now) result self.new }
     {
