@@ -1,5 +1,5 @@
 -- The ACS capability of a function (PCIe 4.0, 7.7.8).
-use Rattle.std.specs.Prelude.{ℕ, ◌+◌, ◌==◌, ◌&&◌, ◌||◌, Bool, true, false, nat_le, is_none, unwrap_or, List, Option, Some, None, if◌then◌else◌}
+use Rattle.std.specs.Prelude.{ℕ, ◌+◌, ◌==◌, ◌&&◌, ◌||◌, Bool, true, false, nat_le, nat_lt, is_none, unwrap_or, List, length, Option, Some, None, if◌then◌else◌}
 use Rattle.text.specs.Text.{◌>>=◌}
 use Rattle.lspci.specs.declared.acs.Acs.{Acs}
 use Rattle.lspci.specs.declared.acs.Acs.TheVariants.{Absent, Unknown, Standard, Wide}
@@ -56,8 +56,13 @@ abbrev pub acs_at : List ℕ → Option ℕ → Acs
 acs_at bytes None = Absent
 acs_at bytes (Some offset) = unwrap_or (if has_wide_registers bytes then wide_acs bytes offset else standard_acs bytes offset) Unknown
 
+-- the lists of capabilities may go on where nothing is shown
+abbrev pub is_cut : List ℕ → Bool
+is_cut bytes = nat_lt (length bytes) 0x100
+
 -- the capability has ID 000Dh
 unfoldable pub acs_of : List ℕ → Acs
 acs_of bytes =
-    if is_none (port_type_of bytes) then Absent
-    else (if has_extended bytes then acs_at bytes (extended_of bytes 0x0d) else Unknown)
+    if is_cut bytes then Unknown
+    else (if is_none (port_type_of bytes) then Absent
+    else (if has_extended bytes then acs_at bytes (extended_of bytes 0x0d) else Unknown))

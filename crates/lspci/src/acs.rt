@@ -11,7 +11,7 @@ use crate::space::ConfigSpace;
 pub enum Acs {
     /// The function has no such capability.
     Absent,
-    /// The extended configuration space isn't shown, or the registers aren't.
+    /// They aren't shown: not even the first 256 bytes are, or of a PCI Express function no more than those.
     Unknown,
     /// The capability register, and the control register behind it.
     Standard { capability: u16, control: u16 },
@@ -62,11 +62,16 @@ impl ConfigSpace<'_> {
         })
     }
 
-    /// The ACS registers of the function. Without a PCI Express capability it has none.
+    /// The ACS registers of the function.
+    /// Where the lists of capabilities may go on beyond what is shown, they are unknown. Without a PCI Express
+    /// capability it has none.
     #[tactic(auto, unfolding(crate::specs::Acs::acs_of))]
     pub fn acs(&self) -> Acs
         ensures { result ≡ acs_of self.now.bytes.now }
     {
+        if self.bytes.len() < 0x100 {
+            return Acs::Unknown;
+        }
         if self.port_type().is_none() {
             return Acs::Absent;
         }
