@@ -1,0 +1,7 @@
+//! Tests of the reader of dumps, by its public calls.
+#![tactic(auto)]
+
+#[cfg(test)]
+mod dumps;
+#[cfg(test)]
+mod faults;
