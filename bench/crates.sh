@@ -41,7 +41,11 @@ add_program() {
 }
 
 # build: proves all that is there and hasn't been proved on this machine before, and leaves each program NAME as
-# crates/NAME/out/NAME.
+# crates/NAME/out/NAME. Where that fails it prints what the checks refused, and the end of what they said.
 build() {
-    (cd "$work" && rt ci > "$work/log" 2>&1) || { tail -20 "$work/log"; exit 1; }
+    (cd "$work" && rt ci > "$work/log" 2>&1) || {
+        grep -E 'not proved|error' "$work/log" | head -20
+        tail -20 "$work/log"
+        exit 1
+    }
 }

@@ -1,16 +1,25 @@
 #!/usr/bin/env bash
-# Runs the tests of what is refused memory (refusals.rt and refused_calls.rt of crates/run_tests/src) again and again, each time
-# with another of the process's requests for memory refused alone, as many runs side by side as there are processors. What was
-# refused, an event or a call, has to say so, to leave all as it was, and to do its work when it is made again; else a test fails.
-# And each run has to give back as much memory as one that was refused nothing. It prints how many runs passed, and each that
-# didn't. Words: every how manieth request is refused (each, if there is no such word), and the program of the tests, as `./test`
-# leaves it. It wants `cc`.
+# Runs tests of what is refused memory again and again, each time with another of the process's requests for memory refused alone,
+# as many runs side by side as there are processors. What was refused, an event or a call, has to say so, to leave all as it was,
+# and to do its work when it is made again; else a test fails. And each run has to give back as much memory as one that was refused
+# nothing. It prints how many runs passed, and each that didn't. A word: every how manieth request is refused (each, if there is
+# none). It wants `cc`.
+#
+# It builds the tests in a temporary folder, from the sources of this repository and from the texts in bench/refused_events, and
+# proves what has not been proved on this machine before.
 set -euo pipefail
 here=$(cd "$(dirname "$0")/.." && pwd)
 step=${1:-1}
-program=$(realpath "${2:-$here/crates/run_tests/out/run_tests_tests}")
 work=$(mktemp -d)
 trap 'rm -rf "$work"' EXIT
+. "$here/bench/crates.sh"
+
+libraries='fab_types frame_log layout domain script fabric_core sweeps layout_tests'
+copy_crates $libraries
+add_program refused "$here/bench/refused_events" $libraries
+cp "$here/crates/run_tests/src/moves.rt" "$work/crates/refused/src"
+build
+program=$work/crates/refused/out/refused_tests
 cc -O2 -shared -fPIC -o "$work/refuse.so" "$here/bench/refusals/refuse.c" -ldl
 cd "$work"
 

@@ -9,8 +9,4 @@ mod moves;
 #[cfg(test)]
 mod places;
 #[cfg(test)]
-mod refusals;
-#[cfg(test)]
-mod refused_calls;
-#[cfg(test)]
 mod taken_out;
