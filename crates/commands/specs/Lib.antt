@@ -3,3 +3,4 @@ pub mod First
 pub mod Report
 pub mod Runs
 pub mod Isolated
+pub mod Settled

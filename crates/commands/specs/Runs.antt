@@ -13,6 +13,7 @@ use Rattle.inputs.specs.Inputs.{AreFiles, AreInputs}
 use Rattle.commands.specs.Driving.{IsDriven}
 use Rattle.commands.specs.Isolated.{IsIsolated}
 use Rattle.commands.specs.Report.{IsReport}
+use Rattle.commands.specs.Settled.{Settles}
 use Rattle.reports.specs.Report.{IsPart}
 use Rattle.journal_text.specs.Journals.{IsReadBack, journal_text}
 use Rattle.journal_text.specs.Reading as journal
@@ -21,7 +22,7 @@ use Rattle.journal_text.specs.declared.read.JournalLine.{JournalLine}
 
 -- What `run` prints: the fabric of the one file is driven by the other, and of that the begins that were refused, as
 -- they came, and then the report. Where the layout is guarded, no domain can tell that run from the one that is left when
--- all other domains' events are taken out
+-- all other domains' events are taken out. And where nothing moves any more at its end, no packet is left
 pub record RunPrints (holds : List ℕ → List ℕ → Type 0) (layout_name script_name : List ℕ) (text : List ℕ) : Type 0 where
   pub platform : Platform
   pub lines : List Line
@@ -30,6 +31,7 @@ pub record RunPrints (holds : List ℕ → List ℕ → Type 0) (layout_name scr
   pub refused : List ℕ
   pub driven : IsDriven platform lines world refused
   pub isolated : IsIsolated platform lines world
+  pub settled : Settles platform world
   pub report : List ℕ
   pub reports : IsReport world report
   pub all : text ≡ refused ++ report

@@ -6,6 +6,7 @@ ghost use Rattle.fabric_core.specs.Stations.{events_at};
 ghost use Rattle.commands.specs.Driving.{Begins, Does, Drives, IsDriven};
 ghost use Rattle.inputs.specs.Endings.{IsRunFault};
 ghost use Rattle.commands.specs.Isolated.{IsIsolated};
+ghost use Rattle.commands.specs.Settled.{Settles};
 ghost use Rattle.reports.specs.Writing.{Wrote};
 
 use fab_types::Outcome;
@@ -17,7 +18,7 @@ use script::{Command, Line};
 use std::alloc::Global;
 use std::io::Write;
 use std::sync::Wait;
-use sweeps::{stations, sweeps};
+use sweeps::{a_sweep_that_moves_nothing_is_the_last, stations, sweeps};
 
 /// Runs the fabric of a layout by these lines, from its start. For each begin that is refused, a line is
 /// written at once. A line's bytes go into its event, and with that they go.
@@ -30,8 +31,12 @@ pub fn driven<'a, R: Wait, W: Write>(
 ) -> Result<Fabric, Fault<'a>>
     ensures ok { IfOk result (λ fabric. Wrote (W.contents out.old) (W.contents out.new) (IsDriven layout.now lines.items fabric)) }
     ensures isolated { IfOk result (λ fabric. IsIsolated layout.now lines.items fabric) }
+    ensures settled { IfOk result (λ fabric. Settles layout.now fabric) }
     ensures fault { IfErr result (λ fault. IsRunFault fault) }
 {
+    // for the proof: what holds of every platform, and that nothing moves after a sweep that moves nothing
+    let _ = layout.ports();
+    a_sweep_that_moves_nothing_is_the_last();
     let mut fabric = Fabric::new(alloc, layout)?;
     let stations = stations(alloc, layout, fabric.domains())?;
     drive_all(rt, &mut fabric, &stations, lines, out)?;

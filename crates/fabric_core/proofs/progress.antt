@@ -15,3 +15,4 @@ pub mod Drained
 pub mod InFlight
 pub mod NewFabrics
 pub mod Elsewhere
+pub mod Stations

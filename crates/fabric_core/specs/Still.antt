@@ -1,5 +1,5 @@
 -- Where nothing moves any more (PCIe 4.0, 2.4.1 and 2.6.1): that no event has an effect, and that no packet is left.
-use Rattle.std.specs.Prelude.{◌≡◌, ⊤, ℕ, false, List, [], All, None, IsSome}
+use Rattle.std.specs.Prelude.{◌≡◌, ⊤, ℕ, false, List, [], ◌++◌, map, All, Contains, None, IsSome}
 use Rattle.fab_types.specs.declared.origin.Origin.TheVariants as origin
 use Rattle.fab_types.specs.declared.outcome.Outcome.{Outcome}
 use Rattle.fab_types.specs.declared.place.Place.{Place}
@@ -7,6 +7,7 @@ use Rattle.agents.specs.Agents.{outbox_place}
 use Rattle.domains.specs.Aliens.{flown}
 use Rattle.domains.specs.Domains.{place_of_function}
 use Rattle.interconnect.specs.Passes.{index_of}
+use Rattle.platform.specs.Platform.{Platform}
 use Rattle.topology.specs.Links.{sender_of}
 use Rattle.fabric_core.specs.declared.event.Event.{Event}
 use Rattle.fabric_core.specs.declared.station.Station.{Station}
@@ -15,7 +16,7 @@ use Rattle.fabric_core.specs.Events.{effect, is_begin}
 use Rattle.fabric_core.specs.Runs.{Run}
 use Rattle.fabric_core.specs.Stations.{events_at}
 use Rattle.fabric_core.specs.Trails.{standing_at}
-use Rattle.fabric_core.specs.World.{World}
+use Rattle.fabric_core.specs.World.{World, world_of}
 
 -- no event that is no begin moves anything
 pub record IsStill (w : World) : Type 0 where
@@ -49,3 +50,12 @@ pub record HasNoneInFlight (w : World) : Type 0 where
 -- and where it comes to a stop, all that any domain made was consumed
 pub record Concludes (start : World) : Type 0 where
   pub consumed : (events : List Event) (outcomes : List Outcome) (w : World) → Run start events outcomes w → IsStill w → HasNoneInFlight w
+
+-- is the station one of the platform's?
+abbrev pub IsStationOf : Platform → Station → Type 0
+IsStationOf platform (station.FunctionOutbox function) = Contains (map (λ line. line.id) platform.functions) function
+IsStationOf platform (station.HostOutbox domain) = Contains (map (λ d. d.share.domain) (world_of platform).agents.domains) domain
+IsStationOf platform (station.Port port) = Contains (map (λ line. line.id) platform.switches ++ map (λ line. line.id) platform.ports) port
+IsStationOf platform (station.Link direction) = Contains (map (λ line. line.id) platform.switches ++ map (λ line. line.id) platform.functions) direction.lower
+IsStationOf platform station.Host = ⊤
+IsStationOf platform (station.Function function) = Contains (map (λ line. line.id) platform.functions) function

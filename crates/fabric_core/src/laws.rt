@@ -25,7 +25,7 @@ ghost use Rattle.fabric_core.specs.Orders.{AreOrdered, GoesBy, KeepsToWay, StayO
 ghost use Rattle.fabric_core.specs.Places.{HaveOnePlace, IsFlown};
 ghost use Rattle.fabric_core.specs.Runs.{Run};
 ghost use Rattle.fabric_core.specs.Soundness.{IsGuardedFabric};
-ghost use Rattle.fabric_core.specs.Still.{Concludes, HasStation, IsIdleAt, IsStill, NeverBlocks};
+ghost use Rattle.fabric_core.specs.Still.{Concludes, HasStation, IsIdleAt, IsStationOf, IsStill, NeverBlocks};
 ghost use Rattle.fabric_core.specs.TakenOut.{CanBeLeft, CannotTell};
 ghost use Rattle.fabric_core.specs.World.{World, is_guarded, world_of};
 
@@ -146,4 +146,10 @@ pub fn still_is_consumed()
 /// it has are enough to look at.
 pub fn nothing_moves_elsewhere()
     ensures { (w : World) → ((s : Station) → HasStation w s → IsIdleAt w s) → IsStill w }
+{}
+
+/// A fabric has the stations of its layout and no others, whatever was done.
+/// Each is an outbox, a port or a function that the layout names, a direction of a link above one, or the host.
+pub fn stations_are_those_of_the_layout()
+    ensures { (platform : Platform) → IsPlatform platform → (events : List Event) → (outcomes : List Outcome) → (w : World) → Run (world_of platform) events outcomes w → (s : Station) → HasStation w s → IsStationOf platform s }
 {}

@@ -27,7 +27,7 @@ pub use laws::{
     fabrics_start_sound, guarded_fabrics_stay_sound, new_packets_stand_behind,
     nothing_moves_elsewhere, only_non_posted_are_answered, other_domains_can_be_taken_out,
     packets_have_one_place, packets_keep_their_order, posted_packets_keep_to_their_way,
-    still_is_consumed, still_is_empty, what_is_left_can_be_run,
+    stations_are_those_of_the_layout, still_is_consumed, still_is_empty, what_is_left_can_be_run,
 };
 pub use port_queue::LeavingClasses;
 pub use purge::purge_run;

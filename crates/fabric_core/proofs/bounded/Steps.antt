@@ -1,5 +1,5 @@
 -- What happens on one direction of a link keeps its credits within the start (PCIe 4.0, 2.6.1).
-use Rattle.std.proofs.Common.{◌≡◌, ◌+◌, ◌-◌, ◌<◌, ◌≤◌, Bool, true, false, cond, List, [], ◌∷◌, ◌++◌, Option, Some, None, refl, subst, arith}
+use Rattle.std.proofs.Common.{◌≡◌, ◌+◌, ◌<◌, ◌≤◌, Bool, true, false, cond, List, [], ◌∷◌, ◌++◌, Option, Some, None, refl, subst, arith}
 use Rattle.frame_log.specs.Descriptor.{Descriptor}
 use Rattle.credit.specs.Kinds.{Class, Cost, Kind, cost_of}
 use Rattle.credit.specs.Limits.{MayStart, at}

@@ -17,6 +17,7 @@ returns g c =
         refused = refused.0;
         driven = rw c.into_lines.ensures at refused.1;
         isolated = rw c.into_lines.ensures at c.in_ok-fabric.ensures.isolated;
+        settled = c.in_ok-fabric.ensures.settled;
         report = written.0;
         reports = written.1;
         all = refl;
