@@ -7,3 +7,4 @@ pub mod places
 pub mod order
 pub mod runs
 pub mod progress
+pub mod moves

@@ -22,3 +22,4 @@ pub mod TakenOut
 pub mod Comparisons
 pub mod Purging
 pub mod Still
+pub mod MovesLeft

@@ -21,6 +21,7 @@ ghost use Rattle.fabric_core.specs.declared.station.Station.{Station};
 ghost use Rattle.fabric_core.specs.Events.{effect};
 ghost use Rattle.fabric_core.specs.Invariant.{IsFabric, IsConsistent};
 ghost use Rattle.fabric_core.specs.Isolation.{IsApart};
+ghost use Rattle.fabric_core.specs.MovesLeft.{MovesEnd};
 ghost use Rattle.fabric_core.specs.Orders.{AreOrdered, GoesBy, KeepsToWay, StayOrdered, OrderOf};
 ghost use Rattle.fabric_core.specs.Places.{HaveOnePlace, IsFlown};
 ghost use Rattle.fabric_core.specs.Runs.{Run};
@@ -152,4 +153,12 @@ pub fn nothing_moves_elsewhere()
 /// Each is an outbox, a port or a function that the layout names, a direction of a link above one, or the host.
 pub fn stations_are_those_of_the_layout()
     ensures { (platform : Platform) → IsPlatform platform → (events : List Event) → (outcomes : List Outcome) → (w : World) → Run (world_of platform) events outcomes w → (s : Station) → HasStation w s → IsStationOf platform s }
+{}
+
+/// Nobody keeps a fabric busy: without begins its moves end, in any layout.
+/// Take any run from where nothing was begun. Each event that has an effect then, and is no begin, leaves fewer moves
+/// (`moves_left`), whichever it is; a begin adds 330 at most. So for each begin that was accepted at most 330 events of the
+/// run moved anything else.
+pub fn moves_end()
+    ensures { (platform : Platform) → IsPlatform platform → MovesEnd (world_of platform) }
 {}

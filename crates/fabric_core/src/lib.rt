@@ -24,7 +24,7 @@ pub use event::Event;
 pub use fabric::Fabric;
 pub use laws::{
     events_leave_other_domains_alone, every_event_keeps_a_fabric, every_event_keeps_the_invariant,
-    fabrics_start_sound, guarded_fabrics_stay_sound, new_packets_stand_behind,
+    fabrics_start_sound, guarded_fabrics_stay_sound, moves_end, new_packets_stand_behind,
     nothing_moves_elsewhere, only_non_posted_are_answered, other_domains_can_be_taken_out,
     packets_have_one_place, packets_keep_their_order, posted_packets_keep_to_their_way,
     stations_are_those_of_the_layout, still_is_consumed, still_is_empty, what_is_left_can_be_run,

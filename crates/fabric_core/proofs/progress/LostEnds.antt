@@ -46,13 +46,14 @@ use Rattle.fabric_core.proofs.soundness.Sites.{Standing, own_output_end, standin
 -- ---- what it takes
 
 -- the packet of the class that came from an end, and what its home's entry makes
-record Takes (w : World) (class : Class) (lost : Lost) (l : Losing) : Type 0 where
-  same : l.lost ≡ lost
-  frame : Descriptor
-  left : List Descriptor
-  taken : eligible class (channel_at w.channels lost.input).ingress ≡ Some (frame, left)
-  at_port : is_at_port_of w.agents.domains frame.domain lost.place ≡ true
-  made : aliened w.agents.domains frame.domain lost.place frame ≡ Some l.made
+pub record Takes (w : World) (class : Class) (lost : Lost) (l : Losing) : Type 0 where
+  pub same : l.lost ≡ lost
+  pub frame : Descriptor
+  pub left : List Descriptor
+  pub taken : eligible class (channel_at w.channels lost.input).ingress ≡ Some (frame, left)
+  pub is : l.taken ≡ taken_from w.channels lost.input (frame, left)
+  pub at_port : is_at_port_of w.agents.domains frame.domain lost.place ≡ true
+  pub made : aliened w.agents.domains frame.domain lost.place frame ≡ Some l.made
 
 module _ (w : World) (class : Class) where
   takes_made : (lost : Lost) (l : Losing) (taken : Descriptor × List Descriptor) (o : Option Made) → eligible class (channel_at w.channels lost.input).ingress ≡ Some taken → aliened w.agents.domains taken.0.domain lost.place taken.0 ≡ o
@@ -60,7 +61,15 @@ module _ (w : World) (class : Class) where
   takes_made lost l taken None e made is h = absurd cc
   takes_made lost l taken (Some m) e made is h =
       let same : ◌≡◌ {A = Losing} (record { lost = lost; taken = taken_from w.channels lost.input taken; made = m }) l = same_Some _ l h in
-      record { same = sym (ap (λ (x : Losing). x.lost) same); frame = taken.0; left = taken.1; taken = e; at_port = is; made = made ∙ ap (λ (x : Losing). Some x.made) same }
+      record {
+        same = sym (ap (λ (x : Losing). x.lost) same);
+        frame = taken.0;
+        left = taken.1;
+        taken = e;
+        is = sym (ap (λ (x : Losing). x.taken) same);
+        at_port = is;
+        made = made ∙ ap (λ (x : Losing). Some x.made) same;
+      }
 
   takes_if : (lost : Lost) (l : Losing) (taken : Descriptor × List Descriptor) (b : Bool) → eligible class (channel_at w.channels lost.input).ingress ≡ Some taken → is_at_port_of w.agents.domains taken.0.domain lost.place ≡ b
       → cond b (losing_with lost (taken_from w.channels lost.input taken) (aliened w.agents.domains taken.0.domain lost.place taken.0)) None ≡ Some l → Takes w class lost l
@@ -72,23 +81,23 @@ module _ (w : World) (class : Class) where
   takes_eligible lost l (Some taken) e h = takes_if lost l taken (is_at_port_of w.agents.domains taken.0.domain lost.place) e refl h
 
   -- where it takes it
-  record Loses (id : ℕ) (l : Losing) : Type 0 where
-    lost : Lost
-    at : lost_among w.tree w.routes w.channels w.ports id class ≡ Some lost
-    takes : Takes w class lost l
+  pub record Loses (id : ℕ) (l : Losing) : Type 0 where
+    pub lost : Lost
+    pub at : lost_among w.tree w.routes w.channels w.ports id class ≡ Some lost
+    pub takes : Takes w class lost l
 
-  loses_by : (id : ℕ) (l : Losing) (o : Option Lost) → lost_among w.tree w.routes w.channels w.ports id class ≡ o → losing_by w class o ≡ Some l → Loses id l
+  pub loses_by : (id : ℕ) (l : Losing) (o : Option Lost) → lost_among w.tree w.routes w.channels w.ports id class ≡ o → losing_by w class o ≡ Some l → Loses id l
   loses_by id l None at h = absurd cc
   loses_by id l (Some lost) at h = record { lost = lost; at = at; takes = takes_eligible lost l (eligible class (channel_at w.channels lost.input).ingress) refl h }
 
 -- ---- its own output
 
 -- which port it is, and where its answers leave
-record Leaves (w : World) (id : ℕ) (lost : Lost) : Type 0 where
-  number : ℕ
-  index : index_of w.tree.places id ≡ Some number
-  input : (get_or w.tree.places number no_place).input ≡ Some lost.input
-  own : lost.own ≡ record { node = (get_or w.tree.places number no_place).node; output = (port_number w number).config.own }
+pub record Leaves (w : World) (id : ℕ) (lost : Lost) : Type 0 where
+  pub number : ℕ
+  pub index : index_of w.tree.places id ≡ Some number
+  pub input : (get_or w.tree.places number no_place).input ≡ Some lost.input
+  pub own : lost.own ≡ record { node = (get_or w.tree.places number no_place).node; output = (port_number w number).config.own }
 
 module _ (w : World) (class : Class) (id : ℕ) (lost : Lost) where
   leaves_with : (number : ℕ) (input : LinkEnd) (o : Option Loss) → index_of w.tree.places id ≡ Some number → (get_or w.tree.places number no_place).input ≡ Some input
@@ -109,7 +118,7 @@ module _ (w : World) (class : Class) (id : ℕ) (lost : Lost) where
   leaves_from number None index from h = absurd cc
   leaves_from number (Some input) index from h = leaves_of number input (eligible class (channel_at w.channels input).ingress) index from h
 
-  leaves : (o : Option ℕ) → index_of w.tree.places id ≡ o → lost_number w.tree w.routes w.channels w.ports class o ≡ Some lost → Leaves w id lost
+  pub leaves : (o : Option ℕ) → index_of w.tree.places id ≡ o → lost_number w.tree w.routes w.channels w.ports class o ≡ Some lost → Leaves w id lost
   leaves None index h = absurd cc
   leaves (Some number) index h = leaves_from number (get_or w.tree.places number no_place).input index refl h
 

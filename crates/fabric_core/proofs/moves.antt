@@ -1,0 +1,21 @@
+-- Each event that moves something, and is no begin, leaves fewer moves; so moves end.
+pub mod Sums
+pub mod Directions
+pub mod Channels
+pub mod Links
+pub mod Boxes
+pub mod Ports
+pub mod Ahead
+pub mod Headers
+pub mod Replies
+pub mod AlienReplies
+pub mod Sent
+pub mod OnLinks
+pub mod Taking
+pub mod Turns
+pub mod Losses
+pub mod AtHost
+pub mod AtFunctions
+pub mod Begins
+pub mod Starts
+pub mod Runs
