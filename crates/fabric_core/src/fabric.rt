@@ -11,6 +11,7 @@ ghost use Rattle.fab_types.specs.declared.class.Class.{Class};
 ghost use Rattle.fabric_core.specs.Credits.{HasCredits, HaveCredits, channel_of};
 ghost use Rattle.fabric_core.specs.Events.{StepsTo, is_begin, takes_packet};
 ghost use Rattle.fabric_core.specs.Isolation.{AreApart, IsApart, domain_of, home};
+ghost use Rattle.fabric_core.specs.MovesLeft.{MovesEnd};
 ghost use Rattle.fabric_core.specs.Orderly.{IsOrderly};
 ghost use Rattle.fabric_core.specs.Orders.{AreInOrder};
 ghost use Rattle.fabric_core.specs.Places.{AreFlown, ArePartition, AreWhereabouts, HaveOnePlace};
@@ -24,7 +25,8 @@ ghost use Rattle.fabric_core.specs.World.{is_guarded, world_of};
 
 use crate::event::Event;
 use crate::laws::{
-    every_event_keeps_a_fabric, other_domains_can_be_taken_out, still_is_consumed, still_is_empty,
+    every_event_keeps_a_fabric, moves_end, other_domains_can_be_taken_out, still_is_consumed,
+    still_is_empty,
 };
 use crate::leaving::leaving;
 use crate::quiet::is_quiet;
@@ -83,18 +85,25 @@ impl Fabric {
     /// In no fabric, guarded or not, can anybody block it. Take any run from this start after which no event but a
     /// begin would move anything: no packet is left anywhere. In a guarded fabric nothing is in flight then, so an
     /// entry of its domain's journal consumed each packet that was made.
+    ///
+    /// Nor can anybody keep it busy: in any run from this start at most 330 events move anything for each begin that was
+    /// accepted, the begin itself aside. So where nothing more begins, it comes to a stop after so many events that move
+    /// something, whichever are chosen.
     pub fn new(alloc: Global, layout: &Layout) -> Result<Fabric, NoMemory>
         ensures start { IfOk result (λ fabric. fabric ≡ world_of layout.now) }
         ensures guarded { IfOk result (λ fabric. is_guarded fabric ≡ list_all is_guarded_port layout.now.ports) }
         ensures isolated { IfOk result (λ fabric. is_guarded fabric ≡ true → NoneCanTell fabric) }
         ensures unblocked { IfOk result (λ fabric. NeverBlocks fabric) }
         ensures consumed { IfOk result (λ fabric. is_guarded fabric ≡ true → Concludes fabric) }
+        ensures ends { IfOk result (λ fabric. MovesEnd fabric) }
     {
-        // for the proof: what holds of every platform, what no domain can tell, and that nobody blocks the fabric
+        // for the proof: what holds of every platform, what no domain can tell, and that nobody blocks the fabric or keeps it
+        // busy
         let _ = layout.ports();
         other_domains_can_be_taken_out();
         still_is_empty();
         still_is_consumed();
+        moves_end();
         Ok(Fabric {
             interconnect: Interconnect::new(alloc, layout)?,
             agents: Agents::new(alloc, layout)?,

@@ -3,7 +3,7 @@ use Rattle.fabric_core.proofs.runs.FirstRuns.{untold_new}
 use Rattle.fabric_core.proofs.order.OrderAtStart.{order_new}
 use Rattle.fabric_core.proofs.soundness.Orderly.{guarded_new}
 use Rattle.fabric_core.proofs.invariant.Starting.{kept_new}
-use Rattle.fabric_core.proofs.progress.NewFabrics.{consumed_new, unblocked_new}
+use Rattle.fabric_core.proofs.progress.NewFabrics.{consumed_new, ending_new, unblocked_new}
 use Rattle.fabric_core.proofs.fabric.Fabric.new.Goals as goal
 
 pub invariant_of-result : goal.invariant_of-result
@@ -29,3 +29,7 @@ returns-clause-unblocked c =
 pub returns-clause-consumed : goal.returns-clause-consumed
 returns-clause-consumed c =
     consumed_new c.args.layout.now c.in_ok-new.field-0 c.in_ok-new-2.field-0 c.new-3.result.violations c.new-4.result.items c.ports.ensures.laws c.still_is_consumed.ensures c.in_ok-new.ensures.start c.in_ok-new-2.ensures.start c.new-3.ensures c.new-4.ensures.items
+
+pub returns-clause-ends : goal.returns-clause-ends
+returns-clause-ends c =
+    ending_new c.args.layout.now c.in_ok-new.field-0 c.in_ok-new-2.field-0 c.new-3.result.violations c.new-4.result.items c.ports.ensures.laws c.moves_end.ensures c.in_ok-new.ensures.start c.in_ok-new-2.ensures.start c.new-3.ensures c.new-4.ensures.items
