@@ -138,9 +138,12 @@ count_run test [] outcomes = 0
 count_run test (event ∷ events) [] = 0
 count_run test (event ∷ events) (outcome ∷ outcomes) = if test event outcome then 1 + count_run test events outcomes else count_run test events outcomes
 
--- Wherever a run from here leads: an event that has an effect leaves fewer moves, if it is no begin; a begin adds 330 at
--- most. So to each begin that was accepted there are at most 330 events that moved anything
+-- Wherever a run from here leads: an event that has an effect leaves fewer moves, if it is no begin, and a begin adds 330 at
+-- most. So of a run from here at most 330 events move anything for each begin that is accepted; and from wherever it leads
+-- no more do than moves are left there, and 330 for each begin from then on
 pub record MovesEnd (start : World) : Type 0 where
   pub less : (events : List Event) (outcomes : List Outcome) (w v : World) (event : Event) → Run start events outcomes w → is_begin event ≡ false → effect w event ≡ Some v → moves_left v < moves_left w
   pub more : (events : List Event) (outcomes : List Outcome) (w v : World) (event : Event) → Run start events outcomes w → is_begin event ≡ true → effect w event ≡ Some v → moves_left v ≤ moves_left w + 330
   pub few : (events : List Event) (outcomes : List Outcome) (w : World) → Run start events outcomes w → count_run is_move events outcomes + moves_left w ≤ 330 * count_run has_begun events outcomes
+  pub further : (events events' : List Event) (outcomes outcomes' : List Outcome) (w v : World) → Run start events outcomes w → Run w events' outcomes' v
+      → count_run is_move events' outcomes' + moves_left v ≤ 330 * count_run has_begun events' outcomes' + moves_left w

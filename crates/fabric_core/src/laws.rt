@@ -157,8 +157,8 @@ pub fn stations_are_those_of_the_layout()
 
 /// Nobody keeps a fabric busy: without begins its moves end, in any layout.
 /// Take any run from where nothing was begun. Each event that has an effect then, and is no begin, leaves fewer moves
-/// (`moves_left`), whichever it is; a begin adds 330 at most. So for each begin that was accepted at most 330 events of the
-/// run moved anything else.
+/// (`moves_left`), whichever it is; a begin adds 330 at most. So for each begin that was accepted at most 330 other events
+/// of the run moved anything. From wherever it led no more do than moves are left there, where nothing more begins.
 pub fn moves_end()
     ensures { (platform : Platform) → IsPlatform platform → MovesEnd (world_of platform) }
 {}

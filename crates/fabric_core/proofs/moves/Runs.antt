@@ -74,12 +74,16 @@ module _ (platform : Platform) (laws : IsPlatform platform) where
       let begins = more_begun (has_begun event outcome) (count_run has_begun events outcomes) in
       omega (arith, one, rest, moves, begins)
 
+  after : (events : List Event) (outcomes : List Outcome) (w : World) → Run (world_of platform) events outcomes w → IsAfterRun platform w
+  after events outcomes w run = after_run platform (world_of platform) w events outcomes (at_start platform laws) run
+
   pub moves_end : MovesEnd (world_of platform)
   moves_end = record {
-    less = λ events outcomes w v event run is e. let after = after_run platform (world_of platform) w events outcomes (at_start platform laws) run in move_fewer w after.kept (laid w after) event is v e;
-    more = λ events outcomes w v event run is e. begin_adds w (laid w (after_run platform (world_of platform) w events outcomes (at_start platform laws) run)) event is v e;
+    less = λ events outcomes w v event run is e. let reached = after events outcomes w run in move_fewer w reached.kept (laid w reached) event is v e;
+    more = λ events outcomes w v event run is e. begin_adds w (laid w (after events outcomes w run)) event is v e;
     few = λ events outcomes w run.
         let counts = run_counts (world_of platform) w events outcomes (at_start platform laws) run in
         let none = none_left platform in
         omega (arith, counts, none);
+    further = λ events events' outcomes outcomes' w v run further. run_counts w v events' outcomes' (after events outcomes w run) further;
   }
