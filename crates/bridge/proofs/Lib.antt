@@ -6,3 +6,4 @@ pub mod Hosts
 pub mod Apart
 pub mod Held
 pub mod Grouped
+pub mod Addresses

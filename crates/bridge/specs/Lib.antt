@@ -1,5 +1,7 @@
 pub mod Tables
 pub mod Routes
+pub mod Windows
+pub mod WindowedPorts
 pub mod Groups
 pub mod SwitchTables
 pub mod Owners

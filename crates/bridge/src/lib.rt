@@ -7,6 +7,7 @@ mod routing;
 mod switch;
 mod switches;
 mod target;
+mod windows;
 
 pub use route::Route;
 pub use routing::Bridge;

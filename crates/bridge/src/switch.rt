@@ -1,9 +1,7 @@
 //! A switch and its own ports.
 
 ghost use Rattle.std.specs.Prelude.{◌≡◌, ◌==◌, IfOk, option_map};
-ghost use Rattle.std.specs.List.{find};
 ghost use Rattle.fab_types.specs.Id.{bus_of};
-ghost use Rattle.platform.specs.Owners.{holds_address};
 ghost use Rattle.platform.specs.Tree.{is_on_bus};
 ghost use Rattle.platform.specs.Tree.{port_at, internal_bus};
 ghost use Rattle.bridge.specs.Routes.{to_holder};
@@ -11,6 +9,7 @@ ghost use Rattle.bridge.specs.Groups.{Group, group_of, holder_of, port_to_bus_of
 
 use crate::route::Route;
 use crate::target::Target;
+use crate::windows::WindowedPorts;
 use fab_types::{NoMemory, PortId};
 use platform::{DownstreamPort, Switch, find_port, internal_bus, is_on_bus};
 use std::alloc::Global;
@@ -20,7 +19,7 @@ use std::marker::Model;
 #[derive(Debug, Drop)]
 pub(crate) struct SwitchRoutes {
     line: Switch,
-    ports: Vec<DownstreamPort>,
+    ports: WindowedPorts,
     // by bus number: the port that has the bus below it
     table: Vec<Option<PortId>>,
 }
@@ -28,9 +27,9 @@ pub(crate) struct SwitchRoutes {
 impl Model for SwitchRoutes {
     ghost Value = { Group };
 
-    ghost view = { λ s. record { line = s.line; ports = s.ports.items } };
+    ghost view = { λ s. record { line = s.line; ports = s.ports } };
 
-    ghost invariant = { λ s. s.table.items ≡ bus_table_of s.ports.items };
+    ghost invariant = { λ s. s.table.items ≡ bus_table_of s.ports };
 }
 
 fn port_to_bus(ports: &[DownstreamPort], bus: u8) -> Option<PortId>
@@ -52,15 +51,6 @@ fn bus_table_of(alloc: Global, ports: &[DownstreamPort]) -> Result<Vec<Option<Po
     )
 }
 
-fn port_to_address(ports: &[DownstreamPort], address: u64) -> Option<PortId>
-    ensures { result ≡ option_map (λ port. port.id) (find (λ port. holds_address port address) ports.now) }
-{
-    ports
-        .iter()
-        .find(|port| port.holds_address(address))
-        .map(|port| port.id)
-}
-
 impl SwitchRoutes {
     /// The switch of this line, with its ports among these.
     pub(crate) fn new(
@@ -77,7 +67,11 @@ impl SwitchRoutes {
             .filter(|port| is_on_bus(bus, port))
             .collect(alloc)?;
         let table = bus_table_of(alloc, &ports)?;
-        Ok(SwitchRoutes { line, ports, table })
+        Ok(SwitchRoutes {
+            line,
+            ports: WindowedPorts::new(alloc, ports)?,
+            table,
+        })
     }
 
     /// Is its upstream port this one?
@@ -98,7 +92,7 @@ impl SwitchRoutes {
     pub(crate) fn port_at(&self, id: PortId) -> Option<DownstreamPort>
         ensures { result ≡ port_at self.now.ports id }
     {
-        find_port(&self.ports, id).copied()
+        find_port(self.ports.as_slice(), id).copied()
     }
 
     /// By bus number: its port that has the bus below it.
@@ -114,13 +108,12 @@ impl SwitchRoutes {
         self.table[usize::from(bus)]
     }
 
-    // by the table for a bus, by a search for an address: a switch has at most eight windows
     fn holder(&self, target: Option<Target>) -> Option<PortId>
         ensures { result ≡ option_map (λ port. port.id) (holder_of self.now target) }
     {
         match target {
             Some(Target::Bus(bus)) => self.port_to_bus(bus),
-            Some(Target::Address(address)) => port_to_address(&self.ports, address),
+            Some(Target::Address(address)) => self.ports.port_to_address(address),
             None => None,
         }
     }

@@ -47,6 +47,53 @@ fn packets_go_to_the_port_that_has_their_target_below(rt: HostRuntime) -> Result
 }
 
 #[test]
+fn requests_go_by_the_first_and_the_last_byte_of_windows(rt: HostRuntime) -> Result<(), Fail> {
+    let layout = Layout::read(rt.alloc(), EXAMPLE)?;
+    let bridge = Bridge::new(rt.alloc(), &layout)?;
+    let from_above = |address: u64| bridge.route(port(0x0100), &request(address));
+    assert_eq!(rt; from_above(0), Route::Nobody);
+    assert_eq!(rt; from_above(0x8fff_ffff), Route::Nobody);
+    assert_eq!(rt; from_above(0x9000_0000), Route::Port(port(0x0200)));
+    assert_eq!(rt; from_above(0x900f_ffff), Route::Port(port(0x0200)));
+    assert_eq!(rt; from_above(0x9010_0000), Route::Port(port(0x0208)));
+    assert_eq!(rt; from_above(0x9020_0000), Route::Port(port(0x0208)));
+    assert_eq!(rt; from_above(0x902f_ffff), Route::Port(port(0x0208)));
+    assert_eq!(rt; from_above(0x9030_0000), Route::Port(port(0x0210)));
+    assert_eq!(rt; from_above(0x903f_ffff), Route::Port(port(0x0210)));
+    assert_eq!(rt; from_above(0x9040_0000), Route::Nobody);
+    assert_eq!(rt; from_above(0x1_9000_0000), Route::Nobody);
+    assert_eq!(rt; from_above(u64::MAX), Route::Nobody);
+    Ok(())
+}
+
+const APART: &str = "pciefab 1
+frames 4
+switch 01:00.0 root
+port 02:00.0 03 03 fff00000 ffffffff 1f 1
+port 02:01.0 04 04 00000000 000fffff 1f 1
+port 02:02.0 05 05 7ff00000 800fffff 1f 1
+";
+
+#[test]
+fn windows_may_stand_apart_and_in_any_order(rt: HostRuntime) -> Result<(), Fail> {
+    let layout = Layout::read(rt.alloc(), APART)?;
+    let bridge = Bridge::new(rt.alloc(), &layout)?;
+    let from_above = |address: u64| bridge.route(port(0x0100), &request(address));
+    assert_eq!(rt; from_above(0), Route::Port(port(0x0208)));
+    assert_eq!(rt; from_above(0xf_ffff), Route::Port(port(0x0208)));
+    assert_eq!(rt; from_above(0x10_0000), Route::Nobody);
+    assert_eq!(rt; from_above(0x7fef_ffff), Route::Nobody);
+    assert_eq!(rt; from_above(0x7ff0_0000), Route::Port(port(0x0210)));
+    assert_eq!(rt; from_above(0x800f_ffff), Route::Port(port(0x0210)));
+    assert_eq!(rt; from_above(0x8010_0000), Route::Nobody);
+    assert_eq!(rt; from_above(0xffef_ffff), Route::Nobody);
+    assert_eq!(rt; from_above(0xfff0_0000), Route::Port(port(0x0200)));
+    assert_eq!(rt; from_above(0xffff_ffff), Route::Port(port(0x0200)));
+    assert_eq!(rt; from_above(0x1_0000_0000), Route::Nobody);
+    Ok(())
+}
+
+#[test]
 fn a_switch_has_a_table_of_its_ports_by_256_bus_numbers(rt: HostRuntime) -> Result<(), Fail> {
     let layout = Layout::read(rt.alloc(), EXAMPLE)?;
     let bridge = Bridge::new(rt.alloc(), &layout)?;

@@ -5,11 +5,11 @@ use Rattle.bridge.proofs.switch.SwitchRoutes.port_to_bus.Goals as goal
 
 pub index-requires : goal.index-requires
 index-requires c =
-    let long : length c.self.inside.table.items ≡ 256 = ap length c.self.invariant ∙ length-table_of 256 (port_to_bus_of c.self.inside.ports.items) in
+    let long : length c.self.inside.table.items ≡ 256 = ap length c.self.invariant ∙ length-table_of 256 (port_to_bus_of c.self.inside.ports) in
     omega (arith, c.ranges.bus.fits)
 
 pub returns : goal.returns
 returns c =
     let within : c.from.result < 256 = omega (arith, c.ranges.bus.fits) in
-    table_of-read 256 (port_to_bus_of c.self.inside.ports.items) c.self.inside.table.items c.from.result c.index.result.now c.self.invariant within c.index.ensures
-    ∙ ap (port_to_bus_of c.self.inside.ports.items) c.from.ensures ∙ ap (λ (group : Group). port_to_bus_of group.ports c.args.bus) c.self.view_is
+    table_of-read 256 (port_to_bus_of c.self.inside.ports) c.self.inside.table.items c.from.result c.index.result.now c.self.invariant within c.index.ensures
+    ∙ ap (port_to_bus_of c.self.inside.ports) c.from.ensures ∙ ap (λ (group : Group). port_to_bus_of group.ports c.args.bus) c.self.view_is
