@@ -1,0 +1,7 @@
+pub mod PageSteps
+pub mod FreeSteps
+pub mod Grown
+pub mod Added
+pub mod Hex
+pub mod Begins
+pub mod Joined

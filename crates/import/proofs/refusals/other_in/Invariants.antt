@@ -1,0 +1,8 @@
+use Rattle.std.proofs.Common.{◌≡◌, ◌==◌, drop}
+use Rattle.std.specs.List.{find}
+use Rattle.std.specs.Prelude.{◌&&◌, not}
+use Rattle.import.specs.Domains.{is_in}
+use Rattle.import.proofs.refusals.other_in.Given as goal
+
+abbrev pub invariant-loop-owner : goal.invariant-loop-owner
+invariant-loop-owner l = find (λ owner. is_in l.port l.buses owner.id && not (owner.domain == l.domain)) (drop l.owner-index l.owners) ≡ find (λ owner. is_in l.port l.buses owner.id && not (owner.domain == l.domain)) l.owners

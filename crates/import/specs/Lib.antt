@@ -1,0 +1,14 @@
+pub mod Roles
+pub mod Pages
+pub mod Owners
+pub mod Trees
+pub mod Domains
+pub mod Statements
+pub mod Stated
+pub mod Fields
+pub mod Refusals
+pub mod DraftViews
+pub mod Drafts
+pub mod DeviceViews
+pub mod Devices
+pub mod Imports

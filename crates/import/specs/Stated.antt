@@ -1,0 +1,12 @@
+-- The lines that devices have in a layout, with numbers that have room in their fields.
+use Rattle.std.specs.Prelude.{ℕ, ◌<◌, ◌^◌}
+use Rattle.layout_line.specs.declared.lines.LayoutLine.{LayoutLine}
+use Rattle.layout_line.specs.declared.lines.LayoutLine.TheVariants.{Port, Switch, Function, Map}
+use Rattle.line_texts.specs.Ranges.{IsId, IsMapLine, IsPortLine}
+
+abbrev pub IsStated : LayoutLine → Type 0
+IsStated (Port port) = IsPortLine port
+IsStated (Switch switch) = IsId switch.id × IsId switch.above
+IsStated (Function function) = IsId function.id × (function.bar < 2 ^ 32)
+IsStated (Map line) = IsMapLine line
+IsStated _ = ⊥

@@ -1,0 +1,74 @@
+//! Why there is no layout of a dump, and why a layout hasn't all of it.
+
+use fab_types::{Bdf, LayoutCause};
+use lspci::Location;
+use thiserror::Error;
+
+/// Why there is no layout of a dump.
+#[derive(Clone, Copy, Debug, PartialEq, Eq, Error)]
+pub enum ImportFault {
+    /// No root port stands on bus 00.
+    #[error("no root port stands on bus 00")]
+    NoRoot,
+    /// No root port has the ID that was asked for.
+    #[error("no root port is {id}")]
+    NotRoot { id: Bdf },
+    /// The list of owners names a device that the dump hasn't.
+    #[error("{id} has an owner, and there is no such device")]
+    NoDevice { id: Bdf },
+    /// Below one port of the top switch stand two devices of different owners.
+    #[error("{one} and {other} have different owners, and stand below one port")]
+    TwoOwners { one: Bdf, other: Bdf },
+    /// Memory was refused.
+    #[error("out of memory")]
+    NoMemory,
+}
+
+/// Why a layout hasn't a device, or something of it.
+#[derive(Clone, Copy, Debug, PartialEq, Eq, Error)]
+pub enum Reason {
+    /// The device is of another PCI segment than 0000.
+    #[error("it is of another PCI segment")]
+    Segment,
+    /// It is none that a layout has.
+    #[error("it is no port of PCI Express and no endpoint, but, say, a bridge to conventional PCI")]
+    Kind,
+    /// It isn't below the ports of the top switch, and is none of these.
+    #[error("it is outside of the tree that was asked for")]
+    Outside,
+    /// No port of the layout leads to it.
+    #[error("no port of the layout leads to it")]
+    Unreached,
+    /// It isn't function 0, or, of an endpoint or an upstream port, not of device 0.
+    #[error("a layout has function 0 alone")]
+    Function,
+    /// Its buses have no room in a layout.
+    #[error("its buses have no room in a layout")]
+    Buses,
+    /// The port has no window below 4 GB.
+    #[error("it has no window for memory below 4 GB")]
+    Window,
+    /// The function has no page inside the port's window.
+    #[error("none of its base address registers begins a page in the window of the port above")]
+    Page,
+    /// A rule of layouts is against it.
+    #[error("{0}")]
+    Rule(LayoutCause),
+    /// The port has a prefetchable window besides that for memory, which alone the layout has.
+    #[error("its prefetchable window: a layout has one window of a port")]
+    FurtherWindow,
+    /// The port has controls besides V, B, R, C and U, which alone the layout has.
+    #[error("its controls besides V, B, R, C and U")]
+    FurtherControls,
+}
+
+/// Something that a layout hasn't.
+#[derive(Clone, Copy, Debug, PartialEq, Eq)]
+pub struct LeftOut {
+    /// The line of the dump at which the device begins, counted from 1.
+    pub line: u32,
+    /// Where the device is.
+    pub location: Location,
+    /// Why the layout hasn't it, or something of it.
+    pub reason: Reason,
+}

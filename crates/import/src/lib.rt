@@ -1,0 +1,20 @@
+//! A layout from the devices of a real machine, as `lspci` shows them.
+#![tactic(auto)]
+
+mod devices;
+mod domains;
+mod draft;
+mod fault;
+mod imports;
+mod line;
+mod names;
+mod owners;
+mod pages;
+mod refusals;
+mod role;
+mod statements;
+mod tree;
+
+pub use fault::{ImportFault, LeftOut, Reason};
+pub use imports::{Import, import_dump};
+pub use owners::{Owner, owners_of};
