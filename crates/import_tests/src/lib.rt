@@ -1,0 +1,7 @@
+//! Tests of `import`, by its public calls.
+#![tactic(auto)]
+
+#[cfg(test)]
+mod machine;
+#[cfg(test)]
+mod trees;
