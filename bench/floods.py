@@ -8,7 +8,7 @@ from deal import Deal, write
 
 class Flood(Deal):
     foreign = 0
-    budgets = [40, 400, 4000, 16384]
+    budgets = [40, 4000, 16384, 16384]
 
     def __init__(self, number):
         super().__init__(number)
@@ -16,13 +16,13 @@ class Flood(Deal):
         self.owners = self.dice.choice([1, 3, 8, 31])
         self.least_ports, self.most_ports = self.dice.choice([(1, 3), (1, 5), (1, 8), (8, 8)])
         self.branching = self.dice.choice([0.4, 0.4, 1])
-        self.switches = self.dice.randrange(1, 9)
+        self.switches = self.dice.choice([1, 1, 1, 1, 2, 3, 5, 8])
 
     def garbled(self, lines):
         return lines
 
     def script(self):
-        return [self.command() for _ in range(self.dice.choice([3, 30, 300, 1500]))]
+        return [self.command() for _ in range(self.dice.choice([30, 300, 1500]))]
 
 
 if __name__ == '__main__':

@@ -14,7 +14,8 @@
 #             layout at one place; replayed alone it gives the domain
 #   rings     both ends of each came back, with as many places as it has and nothing between them but what was taken out; requests
 #             of one maker and class stand in one in their order
-#   records   each injector got those of its own in the journal's domain, in their order, and no other
+#   records   each injector got records of its own in the journal's domain, in their order, and no other; in a guarded layout all
+#             of them, else those of alien completions may be missing
 #   list      it has of each port reports from 0 on, none missing and none twice
 #   guarded   no journal has an Alien entry, and no worker a packet without a case
 #   threads   none is left, after two minutes at most
