@@ -1,6 +1,5 @@
 #!/usr/bin/env bash
 # Floods fabrics in threads for MINUTES, and looks at what each leaves: bench/soak.sh MINUTES [SEED].
-# (Not finished: the program isn't wholly proved yet, so this ends before the first run.)
 #
 # Each run is of a random layout, guarded or not, of one switch or of up to eight with eight ports each. A thread for each
 # injector asks for random begins, as fast as its ring takes them, mostly more than the domain's budget has. A gate holds
