@@ -6,7 +6,7 @@ use Rattle.clap.specs.declared.builder.action.ArgAction.TheVariants.{Set}
 use Rattle.clap.specs.declared.builder.command.Command.{Command}
 use Rattle.clap.specs.declared.builder.command.Command.TheViews.{out-Command}
 use Rattle.clap.specs.declared.parser.matches.ArgMatches.{ArgMatches}
-use Rattle.text.specs.Text.{◌>>=◌, decimal}
+use Rattle.text.specs.Text.{◌>>=◌, decimal, id_at}
 use Rattle.command_line.specs.declared.request.Request.{Request}
 use Rattle.command_line.specs.declared.request.Request.TheVariants as request
 
@@ -15,6 +15,10 @@ use Rattle.command_line.specs.declared.request.Request.TheVariants as request
 -- a word that has to be there
 abbrev pub word_rule : Text → Rule
 word_rule name = record (new_rule name) { required = true; action = Some Set }
+
+-- a word behind `--` and its name, which may be there
+abbrev pub option_rule : Text → Rule
+option_rule name = record (new_rule name) { long = Some name; action = Some Set }
 
 abbrev pub first_command : App
 first_command = with_rule (new_app (codes "first")) (word_rule (codes "HEX"))
@@ -49,6 +53,9 @@ replay_command = domain_command (codes "replay") (codes "JOURNAL")
 abbrev pub draw_command : App
 draw_command = with_rule (new_app (codes "draw")) (word_rule (codes "LAYOUT"))
 
+abbrev pub import_command : App
+import_command = with_rule (with_rule (with_rule (new_app (codes "import")) (word_rule (codes "DUMP"))) (option_rule (codes "owners"))) (option_rule (codes "root"))
+
 abbrev pub program : App
 program = let plain = new_app (codes "pciefab") in record plain { top = record plain.top { no_binary_name = true; subcommand_required = true } }
 
@@ -57,10 +64,11 @@ abbrev pub run_commands : App
 run_commands = with_subcommand (with_subcommand (with_subcommand program first_command.top) run_command.top) alone_command.top
 
 -- `first HEX`, `run LAYOUT SCRIPT`, `alone LAYOUT SCRIPT DOMAIN`, `journal LAYOUT SCRIPT DOMAIN`,
--- `replay LAYOUT JOURNAL DOMAIN`, `threads LAYOUT SCRIPT TURNS` and `draw LAYOUT`; help is the library's own
+-- `replay LAYOUT JOURNAL DOMAIN`, `threads LAYOUT SCRIPT TURNS`, `draw LAYOUT` and `import DUMP [--owners FILE] [--root ID]`;
+-- help is the library's own
 abbrev pub commands : App
 commands =
-    with_subcommand (with_subcommand (with_subcommand (with_subcommand run_commands journal_command.top) replay_command.top) threads_command.top) draw_command.top
+    with_subcommand (with_subcommand (with_subcommand (with_subcommand (with_subcommand run_commands journal_command.top) replay_command.top) threads_command.top) draw_command.top) import_command.top
 
 -- a command is this, and no argument of it is one of its subcommands too
 abbrev pub IsDefined : Command → App → Type 0
@@ -76,6 +84,7 @@ pub data Asked : Type 0 where
   Replay : Text → Text → ℕ → Asked  -- the files of these names, a layout and a journal of the domain of this number
   Threads : Text → Text → ℕ → Asked  -- a run of the files on threads, each of which makes so many turns
   Draw : Text → Asked  -- the drawing of the file of this name, a layout
+  Import : Text → Option Text → Option ℕ → Asked  -- the layout of the file of this name, a dump, with a list of owners, below this root port
 
 -- the names of the files of a layout and of this
 abbrev pub files_in : Text → List Row → Option (Text × Text)
@@ -97,6 +106,17 @@ domain_in second rows = number_in second (codes "DOMAIN") rows
 abbrev pub turns_within : Text × Text × ℕ → Option Asked
 turns_within words = if nat_le 1 words.2 && nat_le words.2 1000000 then Some (Threads words.0 words.1 words.2) else None
 
+-- the ID behind `--root`, if it is there
+abbrev pub root_in : Option Text → Option (Option ℕ)
+root_in None = Some None
+root_in (Some word) = option_map Some (id_at word)
+
+abbrev pub import_in : List Row → Option Asked
+import_in rows = do
+  dump ← first_of (codes "DUMP") rows
+  root ← root_in (first_of (codes "root") rows)
+  Some (Import dump (first_of (codes "owners") rows) root)
+
 -- what the words of a subcommand ask for, by its name
 abbrev pub asked_of : Text × List Row → Option Asked
 asked_of entered =
@@ -107,7 +127,8 @@ asked_of entered =
     else (if bytes_eq entered.0 (codes "replay") then option_map (λ a. Replay a.0 a.1 a.2) (domain_in (codes "JOURNAL") entered.1)
     else (if bytes_eq entered.0 (codes "threads") then number_in (codes "SCRIPT") (codes "TURNS") entered.1 >>= turns_within
     else (if bytes_eq entered.0 (codes "draw") then option_map Draw (first_of (codes "LAYOUT") entered.1)
-    else None))))))
+    else (if bytes_eq entered.0 (codes "import") then import_in entered.1
+    else None)))))))
 
 -- the kinds of error that the words may be refused by, none where they are taken
 abbrev pub errors_of : List Text → Kinds
@@ -131,6 +152,7 @@ asked_by (request.Journal files domain) = Some (Journal files.layout.now files.s
 asked_by (request.Replay layout journal domain) = Some (Replay layout.now journal.now domain)
 asked_by (request.Threads files turns) = Some (Threads files.layout.now files.script.now turns)
 asked_by (request.Draw layout) = Some (Draw layout.now)
+asked_by (request.Import dump owners root) = Some (Import dump.now (option_map (λ word. word.now) owners) root)
 
 -- a request is for what was asked
 abbrev pub IsAsked : Request → Asked → Type 0

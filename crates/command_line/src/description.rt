@@ -2,7 +2,7 @@
 
 ghost use Rattle.std.specs.Prelude.{◌≡◌, IfOk};
 ghost use Rattle.clap.specs.Words.{App, app_of, new_app, with_rule};
-ghost use Rattle.command_line.specs.CommandLine.{IsDefined, commands, domain_command, draw_command, files_command, first_command, run_commands, third_command, threads_command, word_rule};
+ghost use Rattle.command_line.specs.CommandLine.{IsDefined, commands, domain_command, draw_command, files_command, first_command, import_command, option_rule, run_commands, third_command, threads_command, word_rule};
 
 use clap::{Arg, ArgAction, Command};
 use std::alloc::{AllocError, Global};
@@ -31,6 +31,9 @@ const THREADS_ABOUT: &str =
 const DRAW_ABOUT: &str =
     "Prints the tree of a layout as a drawing in SVG: switches, ports with their controls, and functions in the colours of their domains";
 
+const IMPORT_ABOUT: &str =
+    "Prints the layout of a real machine, from what `lspci -xxxx` printed there: what is below its root ports, or below one of them";
+
 const PACKET_HELP: &str = "The bytes of the packet in lower-case hexadecimal, or - for no bytes";
 
 const LAYOUT_HELP: &str =
@@ -45,6 +48,13 @@ const DOMAIN_HELP: &str = "The number of the domain, 1 to 31";
 
 const TURNS_HELP: &str =
     "How many turns each thread makes, 1 to 1000000; the sweeps of the script are passed over";
+
+const DUMP_HELP: &str = "The file of what `lspci -xxxx` printed";
+
+const OWNERS_HELP: &str =
+    "A file of who owns what: in each line the ID of a device in its machine, a blank, and a domain";
+
+const ROOT_HELP: &str = "The ID of the only root port whose tree is wanted, as 00:1c.0";
 
 const EXAMPLE: &str = "\
 Example: a posted write of the bytes 11 22 33 44 to address 0x1000, which is mapped to frame 0
@@ -73,6 +83,22 @@ fn with_word<'a>(
 {
     let word = Arg::new(alloc, name)
         .required(true)
+        .action(ArgAction::Set)
+        .help(help);
+    command.arg(word)
+}
+
+/// The command with a word more behind `--` and this name, which may be there.
+fn with_option<'a>(
+    alloc: Global,
+    command: Command<'a>,
+    name: &'a str,
+    help: &'a str,
+) -> Result<Command<'a>, AllocError>
+    ensures { (app : App) → IsDefined command.entry app → IfOk result (λ more. IsDefined more (with_rule app (option_rule name.entry.now))) }
+{
+    let word = Arg::new(alloc, name)
+        .long(name)
         .action(ArgAction::Set)
         .help(help);
     command.arg(word)
@@ -150,6 +176,15 @@ fn draw_definition<'a>(alloc: Global) -> Result<Command<'a>, AllocError>
     with_word(alloc, plain, "LAYOUT", LAYOUT_HELP)
 }
 
+fn import_definition<'a>(alloc: Global) -> Result<Command<'a>, AllocError>
+    ensures { IfOk result (λ command. IsDefined command import_command) }
+{
+    let plain = subcommand(alloc, "import", IMPORT_ABOUT);
+    let with_dump = with_word(alloc, plain, "DUMP", DUMP_HELP)?;
+    let with_owners = with_option(alloc, with_dump, "owners", OWNERS_HELP)?;
+    with_option(alloc, with_owners, "root", ROOT_HELP)
+}
+
 /// The program with the commands of a run.
 fn with_runs<'a>(alloc: Global) -> Result<Command<'a>, AllocError>
     ensures { IfOk result (λ command. app_of command ≡ run_commands) }
@@ -176,8 +211,10 @@ pub fn definition<'a>(alloc: Global) -> Result<Command<'a>, AllocError>
     let replay = with_domain(alloc, "replay", REPLAY_ABOUT, "JOURNAL", JOURNAL_HELP)?;
     let threads = threads_definition(alloc)?;
     let draw = draw_definition(alloc)?;
+    let import = import_definition(alloc)?;
     let with_journal = with_runs(alloc)?.subcommand(journal)?;
     let with_replay = with_journal.subcommand(replay)?;
     let with_threads = with_replay.subcommand(threads)?;
-    with_threads.subcommand(draw)
+    let with_draw = with_threads.subcommand(draw)?;
+    with_draw.subcommand(import)
 }

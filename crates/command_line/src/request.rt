@@ -3,14 +3,15 @@
 ghost use Rattle.std.specs.Prelude.{◌≡◌, MatchResult, codes, map, option_map};
 ghost use Rattle.std.specs.Option.{option_and_then};
 ghost use Rattle.clap.specs.Words.{first_of, found_of, rows_of};
-ghost use Rattle.command_line.specs.CommandLine.{Ask, Asked, IsAsked, asked_by, asked_in, domain_in, files_in, number_in};
+ghost use Rattle.command_line.specs.CommandLine.{Ask, Asked, IsAsked, asked_by, asked_in, domain_in, files_in, import_in, number_in, root_in};
 
 use crate::description::definition;
 use clap::ArgMatches;
 use clap::error::ErrorKind;
+use fab_types::Bdf;
 use std::alloc::{AllocError, Global};
 use std::convert::AsStr;
-use text::decimal;
+use text::{decimal, id};
 use thiserror::Error;
 
 /// The most turns that a worker may be asked to make.
@@ -76,6 +77,12 @@ pub enum Request<'a> {
     /// To print the drawing of a layout.
     Draw {
         layout: &'a str,
+    },
+    /// To print the layout of a dump, by a list of owners, of what is below this root port.
+    Import {
+        dump: &'a str,
+        owners: Option<&'a str>,
+        root: Option<Bdf>,
     },
 }
 
@@ -149,6 +156,7 @@ fn requested<'a>(matches: &ArgMatches<'a>) -> Option<Request<'a>>
             let layout = word_in(words, "LAYOUT")?;
             Some(Request::Draw { layout })
         }
+        ("import", words) => import_in(words),
         _ => None,
     }
 }
@@ -158,6 +166,26 @@ fn word_in<'a>(words: &ArgMatches<'a>, name: &str) -> Option<&'a str>
     ensures { option_map (λ word. word.now) result ≡ first_of name.now (rows_of (found_of words.now)) }
 {
     words.get_str(name)
+}
+
+/// The ID that the word behind `--root` is, if it is there. None where it is none.
+fn root_in<'a>(words: &ArgMatches<'a>) -> Option<Option<Bdf>>
+    ensures { result ≡ root_in (first_of (codes "root") (rows_of (found_of words.now))) }
+{
+    match word_in(words, "root") {
+        None => Some(None),
+        Some(word) => Some(Some(id(word.as_bytes())?)),
+    }
+}
+
+/// What the words of `import` ask for.
+fn import_in<'a>(words: &ArgMatches<'a>) -> Option<Request<'a>>
+    ensures { option_and_then asked_by result ≡ import_in (rows_of (found_of words.now)) }
+{
+    let dump = word_in(words, "DUMP")?;
+    let owners = word_in(words, "owners");
+    let root = root_in(words)?;
+    Some(Request::Import { dump, owners, root })
 }
 
 /// The names of the files of a layout and of this.

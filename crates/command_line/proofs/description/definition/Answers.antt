@@ -8,6 +8,7 @@ returns c =
     let journal_is = c.in_ok-with_journal.ensures.shape c.in_ok-journal.ensures.1 ∙ ap₂ with_subcommand c.in_ok-with_runs.ensures (ap (λ (a : App). a.top) c.in_ok-journal.ensures.0) in
     let replay_is = c.in_ok-with_replay.ensures.shape c.in_ok-replay.ensures.1 ∙ ap₂ with_subcommand journal_is (ap (λ (a : App). a.top) c.in_ok-replay.ensures.0) in
     let threads_is = c.in_ok-with_threads.ensures.shape c.in_ok-threads.ensures.1 ∙ ap₂ with_subcommand replay_is (ap (λ (a : App). a.top) c.in_ok-threads.ensures.0) in
-    IfOk-weaker c.subcommand-4.result _ _
-    (λ r h. h.shape c.in_ok-draw.ensures.1 ∙ ap₂ with_subcommand threads_is (ap (λ (a : App). a.top) c.in_ok-draw.ensures.0))
-    c.subcommand-4.ensures
+    let draw_is = c.in_ok-with_draw.ensures.shape c.in_ok-draw.ensures.1 ∙ ap₂ with_subcommand threads_is (ap (λ (a : App). a.top) c.in_ok-draw.ensures.0) in
+    IfOk-weaker c.subcommand-5.result _ _
+    (λ r h. h.shape c.in_ok-import.ensures.1 ∙ ap₂ with_subcommand draw_is (ap (λ (a : App). a.top) c.in_ok-import.ensures.0))
+    c.subcommand-5.ensures
