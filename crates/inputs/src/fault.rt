@@ -5,10 +5,11 @@ ghost use Rattle.inputs.specs.Endings.{exit_code, status_of};
 
 use command_line::WordsFault;
 use fab_types::{
-    LayoutCause, LayoutFault, NoMemory, ReplayFault, ScriptCause, ScriptFault, StartFault,
+    Bdf, LayoutCause, LayoutFault, NoMemory, ReplayFault, ScriptCause, ScriptFault, StartFault,
     StopFault,
 };
 use journals::LineFault;
+use lspci::DumpFault;
 use std::alloc::AllocError;
 use std::io;
 use std::io::ErrorKind;
@@ -59,6 +60,24 @@ pub enum Fault<'a> {
     /// The entry in a line of a journal is illegal after those before it.
     #[error("journal {line}: Illegal")]
     IllegalEntry { line: u32 },
+    /// A line of a dump is faulty.
+    #[error("dump {line}: {cause}", line = .0.line, cause = .0.cause)]
+    Dump(DumpFault),
+    /// A line of a list of owners is not understood.
+    #[error("owners {line}: Line")]
+    OwnersLine { line: u32 },
+    /// No root port stands on bus 00 of a dump.
+    #[error("import: no root port stands on bus 00")]
+    NoRoot,
+    /// No root port of a dump has this ID.
+    #[error("import: no root port is {id}", id = Bdf::from_bits(*.id))]
+    NotRoot { id: u16 },
+    /// A list of owners names this device, which a dump hasn't.
+    #[error("import: {id} has an owner, and there is no such device", id = Bdf::from_bits(*.id))]
+    NoDevice { id: u16 },
+    /// Below one port of a layout's top switch these devices of a dump have different owners.
+    #[error("import: {one} and {other} have different owners, and stand below one port", one = Bdf::from_bits(*.one), other = Bdf::from_bits(*.other))]
+    TwoOwners { one: u16, other: u16 },
     /// No domain of this number owns a port.
     #[error("domain {number}: none")]
     NoDomain { number: u32 },
