@@ -1,16 +1,17 @@
 //! The program over given words, files and outputs.
 
-ghost use Rattle.std.specs.Prelude.{◌≡◌, OnOk, map};
+ghost use Rattle.std.specs.Prelude.{◌≡◌, OnOk, false, map};
 ghost use Rattle.command_line.specs.CommandLine.{Ask, Asked, IsAsked};
 ghost use Rattle.reports.specs.Writing.{Wrote};
 ghost use Rattle.inputs.specs.Endings.{status_of};
-ghost use Rattle.program.specs.Asked.{AskedPrints};
+ghost use Rattle.program.specs.Asked.{AskedPrints, begins_with_import};
 
 use command_line::Request;
 use commands::first::first;
 use commands::replay::replay;
 use commands::run::{alone, journal, run};
 use draw_command::draw;
+use import_command::import_layout;
 use inputs::{ExitStatus, Fault, FileGiver};
 use std::alloc::Global;
 use std::convert::AsStr;
@@ -22,7 +23,8 @@ use threads_command::threads;
 
 /// Carries out the command that the words are, without the program's name. What it prints goes to
 /// `out`, and where it stops before its work is done, one line of why goes to `err`. The files are those that
-/// the words name. Where the words ask for a command and it is done, it has written what that prints.
+/// the words name. Where the words ask for a command and it is done, it has written what that prints; and where they
+/// begin with `import`, one line goes to `err` on how much a layout hasn't of the machine, if there is anything.
 pub fn command<R, S: AsStr, F: FileGiver, O: Write, E: Write>(
     rt: &R,
     alloc: Global,
@@ -34,11 +36,36 @@ pub fn command<R, S: AsStr, F: FileGiver, O: Write, E: Write>(
 where
     R: Threads + Wait + Clock + Copy + Send + Sync + Drop + 'static,
     ensures asked { (asked : Asked) → Ask (map S.text words.now) asked → result ≡ ExitStatus.Done → Wrote (O.contents out.old) (O.contents out.new) (AskedPrints (F.holds files.now) asked) }
-    ensures silent { result ≡ ExitStatus.Done → err.new ≡ err.old }
+    ensures silent { result ≡ ExitStatus.Done → begins_with_import (map S.text words.now) ≡ false → err.new ≡ err.old }
 {
-    match carried_out(rt, alloc, words, files, out) {
-        Ok(()) => ExitStatus::Done,
+    let mut left_out = 0usize;
+    match carried_out(rt, alloc, words, files, out, &mut left_out) {
+        Ok(()) => {
+            if begins_with_import(words) {
+                tell_left_out(left_out, err);
+            }
+            ExitStatus::Done
+        }
         Err(fault) => stopped(fault, err),
+    }
+}
+
+/// Is the first word `import`?
+fn begins_with_import<S: AsStr>(words: &[S]) -> bool
+    ensures { result ≡ begins_with_import (map S.text words.now) }
+{
+    match words.first() {
+        Some(word) => word.as_str() == "import",
+        None => false,
+    }
+}
+
+/// Tells how much a layout hasn't of a machine.
+fn tell_left_out<E: Write>(count: usize, err: &mut E) {
+    if count > 0 {
+        // Where the line cannot be written, the comments of the layout tell.
+        let _ = writeln!(err, "left out: {count}, as comments of the layout say");
+        let _ = err.flush();
     }
 }
 
@@ -48,13 +75,14 @@ fn carried_out<'a, R, S: AsStr, F: FileGiver, O: Write>(
     words: &'a [S],
     files: &F,
     out: &mut O,
+    left_out: &mut usize,
 ) -> Result<(), Fault<'a>>
 where
     R: Threads + Wait + Clock + Copy + Send + Sync + Drop + 'static,
     ensures { (asked : Asked) → Ask (map S.text words.entry.now) asked → OnOk result (Wrote (O.contents out.old) (O.contents out.new) (AskedPrints (F.holds files.now) asked)) }
 {
     let request = command_line::read_request(alloc, words)?;
-    perform(rt, alloc, request, files, out)?;
+    perform(rt, alloc, request, files, out, left_out)?;
     out.flush()?;
     Ok(())
 }
@@ -65,6 +93,7 @@ fn perform<'a, R, F: FileGiver, O: Write>(
     request: Request<'a>,
     files: &F,
     out: &mut O,
+    left_out: &mut usize,
 ) -> Result<(), Fault<'a>>
 where
     R: Threads + Wait + Clock + Copy + Send + Sync + Drop + 'static,
@@ -95,6 +124,10 @@ where
             turns,
         } => threads(rt, alloc, files, names, turns, out),
         Request::Draw { layout } => draw(alloc, files, layout, out),
+        Request::Import { dump, owners, root } => {
+            *left_out = import_layout(alloc, files, dump, owners, root, out)?;
+            Ok(())
+        }
     }
 }
 

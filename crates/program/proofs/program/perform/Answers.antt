@@ -1,7 +1,7 @@
 use Rattle.std.proofs.Common.{refl}
-use Rattle.std.specs.Prelude.{OnOk}
+use Rattle.std.specs.Prelude.{OnOk, option_map}
 use Rattle.reports.specs.Writing.{Wrote}
-use Rattle.command_line.specs.CommandLine.{First, Run, Alone, Journal, Replay, Threads, Draw}
+use Rattle.command_line.specs.CommandLine.{First, Run, Alone, Journal, Replay, Threads, Draw, Import}
 use Rattle.command_line.specs.declared.request.Request.TheVariants as request
 use Rattle.program.specs.Asked.{AskedPrints}
 use Rattle.command_line.proofs.Asking.{asked_alone}
@@ -41,3 +41,10 @@ pub returns-in-Draw : goal.returns-in-Draw
 returns-in-Draw g c = λ asked is.
     asked_alone (λ a. OnOk c.draw.result (Wrote (g.O.Write.contents c.args.out.now) (g.O.Write.contents c.draw.new.out) (AskedPrints (g.F.FileGiver.holds c.args.files.now) a)))
     (request.Draw c.in-Draw.layout) (Draw c.in-Draw.layout.now) asked refl c.draw.ensures.ok (rw c.in-Draw.is at is)
+
+pub returns-in-Import : goal.returns-in-Import
+returns-in-Import g c = λ asked is.
+    let written = c.in_ok-import_layout.ensures.ok in
+    asked_alone (λ a. Wrote (g.O.Write.contents c.args.out.now) (g.O.Write.contents c.import_layout.new.out) (AskedPrints (g.F.FileGiver.holds c.args.files.now) a))
+    (request.Import c.in-Import.dump c.in-Import.owners c.in-Import.root) (Import c.in-Import.dump.now (option_map (λ word. word.now) c.in-Import.owners) c.in-Import.root) asked refl
+    (written.0, ((_, written.1), written.2)) (rw c.in-Import.is at is)
