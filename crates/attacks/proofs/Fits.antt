@@ -1,0 +1,37 @@
+-- The requests of attacks are well formed.
+use Rattle.std.proofs.Common.{◌≡◌, ◌+◌, ◌*◌, ◌%◌, ◌≤◌, ◌⊎◌, ℕ, refl, inl, inr, arith, lit<}
+use Rattle.tlp_view.specs.Malformed.{has_bad_enables}
+use Rattle.tlp_view.specs.Requests.{RequestFits}
+use Rattle.attacks.specs.declared.attack.Attack.{Attack}
+use Rattle.attacks.specs.declared.attack.Harm.{Harm}
+use Rattle.attacks.specs.declared.attack.Harm.TheVariants.{FrameWritten, FrameRead, RegistersWritten, RegistersRead, Completion, Counts}
+use Rattle.attacks.specs.Packets.{address_of, head_of}
+
+-- the first DW of a page, or that of its buffer
+place : (page : ℕ) (harm : Harm) → (address_of page harm % 4096 ≡ 0) ⊎ (address_of page harm % 4096 ≡ 1024)
+place page (RegistersWritten peer) = inr (omega arith)
+place page (RegistersRead peer) = inr (omega arith)
+place page (FrameWritten frame) = inl (omega arith)
+place page (FrameRead frame) = inl (omega arith)
+place page Completion = inl (omega arith)
+place page Counts = inl (omega arith)
+
+aligned_at : (a : ℕ) → (a % 4096 ≡ 0) ⊎ (a % 4096 ≡ 1024) → a % 4 ≡ 0
+aligned_at a (inl h) = omega arith
+aligned_at a (inr h) = omega arith
+
+within_at : (a : ℕ) → (a % 4096 ≡ 0) ⊎ (a % 4096 ≡ 1024) → a % 4096 + 4 * 1 ≤ 4096
+within_at a (inl h) = omega arith
+within_at a (inr h) = omega arith
+
+pub fits : (attack : Attack) → RequestFits (head_of attack) 1
+unfolding has_bad_enables
+fits attack = record {
+  some = omega arith;
+  most = omega arith;
+  first = lit< tt;
+  last = lit< tt;
+  enables = refl;
+  aligned = aligned_at (address_of attack.page attack.harm) (place attack.page attack.harm);
+  within = within_at (address_of attack.page attack.harm) (place attack.page attack.harm);
+}

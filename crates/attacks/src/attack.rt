@@ -1,0 +1,126 @@
+//! A packet that harms, and how.
+
+ghost use Rattle.std.specs.Prelude.{◌≡◌, IfOk};
+ghost use Rattle.tlp_view.specs.Requests.{packet_bytes};
+ghost use Rattle.attacks.specs.Packets.{address_of, head_of, packet_of, payload};
+
+use crate::control::Control;
+use fab_types::{AddressType, Bdf, NoMemory, PacketBytes, PortId};
+use std::alloc::Global;
+use tlp_view::{Attributes, Enables, RequestBuf, RequestHead};
+
+/// Where a register page has its buffer, which takes any bytes.
+const BUFFER: u64 = 0x400;
+
+/// What a write writes.
+const PAYLOAD: [u8; 4] = [0xde, 0xad, 0xbe, 0xef];
+
+/// A way in which a domain harms another, the worst first.
+#[derive(Clone, Copy, Debug, PartialEq, Eq)]
+pub enum Way {
+    /// A frame of memory is written.
+    FrameWritten,
+    /// A frame of memory is read, and the attacker gets the data.
+    FrameRead,
+    /// A register page is written.
+    RegistersWritten,
+    /// A register page is read, and the attacker gets the data.
+    RegistersRead,
+    /// A completion comes that the other didn't ask for.
+    Completion,
+    /// The other's counts change.
+    Counts,
+}
+
+/// What is harmed, and how.
+#[derive(Clone, Copy, Debug, PartialEq, Eq)]
+pub enum Harm {
+    /// The frame of memory of this number is written.
+    FrameWritten(u16),
+    /// That frame is read, and the attacker gets the data.
+    FrameRead(u16),
+    /// The register page of this function is written.
+    RegistersWritten(Bdf),
+    /// That page is read, and the attacker gets the data.
+    RegistersRead(Bdf),
+    /// A completion comes that the other didn't ask for.
+    Completion,
+    /// The other's counts change.
+    Counts,
+}
+
+/// What a request does with a page.
+#[derive(Clone, Copy, Debug, PartialEq, Eq)]
+pub enum Deed {
+    /// It reads 1 DW.
+    Read,
+    /// It writes 1 DW.
+    Write,
+}
+
+/// A request that a function may submit to harm a domain.
+#[derive(Clone, Copy, Debug, PartialEq, Eq)]
+pub struct Attack {
+    /// What it harms.
+    pub harm: Harm,
+    /// The port that would stop it.
+    pub port: PortId,
+    /// The control by which that port would stop it.
+    pub control: Control,
+    /// Whether it reads or writes.
+    pub deed: Deed,
+    /// Does it claim that its address is translated?
+    pub is_translated: bool,
+    /// The Requester ID that it bears.
+    pub requester: Bdf,
+    /// The page that it is for, a number of 52 bits.
+    pub page: u64,
+}
+
+/// The address of a page, and there of the buffer that a harmed register page has.
+fn address_of(page: u64, harm: &Harm) -> u64
+    ensures { result ≡ address_of page harm.now }
+{
+    let start = page % 0x10_0000_0000_0000 * 4096;
+    match harm {
+        Harm::RegistersWritten(_) | Harm::RegistersRead(_) => start + BUFFER,
+        Harm::FrameWritten(_) | Harm::FrameRead(_) | Harm::Completion | Harm::Counts => start,
+    }
+}
+
+fn head_of(attack: &Attack) -> RequestHead
+    ensures { result ≡ head_of attack.now }
+{
+    let address_type = if attack.is_translated {
+        AddressType::Translated
+    } else {
+        AddressType::Untranslated
+    };
+    RequestHead {
+        requester: attack.requester,
+        tag: 0,
+        enables: Enables { first: 15, last: 0 },
+        address: address_of(attack.page, &attack.harm),
+        address_type,
+        attributes: Attributes {
+            id_based_ordering: false,
+            relaxed_ordering: false,
+            no_snoop: false,
+        },
+    }
+}
+
+impl Attack {
+    /// The bytes of the request (PCIe 4.0, 2.2.7): of 1 DW, all bytes enabled, with Tag 0. It is for the first DW of the
+    /// page, or of a register page's buffer.
+    pub fn bytes(&self, alloc: Global) -> Result<PacketBytes, NoMemory>
+        ensures { IfOk result (λ bytes. bytes ≡ packet_bytes (packet_of self.now)) }
+    {
+        let head = head_of(self);
+        let request = match self.deed {
+            Deed::Read => RequestBuf::read(head, 1),
+            Deed::Write => RequestBuf::write(head, &PAYLOAD),
+        };
+        PacketBytes::copy_of(alloc, request.bytes())
+    }
+}

@@ -1,0 +1,45 @@
+//! What an audit finds.
+
+use crate::attack::Harm;
+use crate::control::Control;
+use fab_types::{Bdf, DomainId, PacketBytes, PortId};
+
+/// A packet that was seen to harm a domain, and the clear control that let it pass.
+/// It was submitted in a fresh fabric, and nothing else was begun there.
+#[derive(Drop)]
+pub struct Witness {
+    /// The domain whose function submitted it.
+    pub attacker: DomainId,
+    /// The domain that it harmed.
+    pub victim: DomainId,
+    /// What it harmed, and how.
+    pub harm: Harm,
+    /// The function that submitted it.
+    pub function: Bdf,
+    /// The port that would have stopped it.
+    pub port: PortId,
+    /// The control by which that port would have stopped it, which is clear.
+    pub control: Control,
+    /// The bytes of the packet.
+    pub bytes: PacketBytes,
+}
+
+/// What one domain was seen to do to another.
+#[derive(Drop)]
+pub struct Pair {
+    /// The domain whose functions submit.
+    pub attacker: DomainId,
+    /// The domain that is harmed.
+    pub victim: DomainId,
+    /// One witness for each way of harm for which one was found, the worst first.
+    pub witnesses: Vec<Witness>,
+}
+
+/// What an audit finds.
+#[derive(Drop)]
+pub enum Findings {
+    /// The layout is guarded: no domain can tell the others from none.
+    Guarded,
+    /// It isn't: what was found for each two domains, in either order.
+    Unguarded(Vec<Pair>),
+}

@@ -1,0 +1,13 @@
+//! What a domain may try against another, in a layout that isn't guarded: packets, and the control that lets each pass.
+#![tactic(auto)]
+
+mod attack;
+mod control;
+mod findings;
+mod path;
+mod requests;
+
+pub use attack::{Attack, Deed, Harm, Way};
+pub use control::{Control, is_clear};
+pub use findings::{Findings, Pair, Witness};
+pub use requests::tries;
