@@ -1,0 +1,85 @@
+//! What is seen of a domain after an attack.
+
+ghost use Rattle.std.specs.Prelude.{◌≡◌, ◌≢◌, IsTrue, true};
+ghost use Rattle.std.specs.List.{list_any};
+ghost use Rattle.audit.specs.Harms.{IsSeen, is_served, is_success};
+ghost use Rattle.host_memory.specs.Pages.{page_of};
+
+use attacks::Harm;
+use domain::{Domain, Entry, Record};
+use fab_types::{Bdf, Origin, PacketBytes, Parties, Status, same_origin};
+
+/// Is the frame another now?
+fn differs_in_frame(old: &Domain, new: &Domain, number: u16) -> bool
+    ensures { IsTrue result → page_of new.now.state.frames number ≢ page_of old.now.state.frames number }
+{
+    match (old.frame(number), new.frame(number)) {
+        (Some(old), Some(new)) => old != new,
+        _ => false,
+    }
+}
+
+/// Is the register page another now?
+fn differs_in_registers(old: &Domain, new: &Domain, function: Bdf) -> bool
+    ensures { IsTrue result → page_of new.now.state.registers function ≢ page_of old.now.state.registers function }
+{
+    match (old.registers(function), new.registers(function)) {
+        (Some(old), Some(new)) => old != new,
+        _ => false,
+    }
+}
+
+/// Is it a successful completion of a request of this function?
+fn is_success(delivery: &Record, function: Bdf) -> bool
+    ensures { result ≡ is_success function delivery.now }
+{
+    same_origin(delivery.owner(), Origin::Function(function)) && delivery.status() == Status::SC
+}
+
+/// Is it the entry of a packet with these bytes, which the function of another domain made?
+fn is_served(entry: &Entry, function: Bdf, bytes: &PacketBytes) -> bool
+    ensures { result ≡ is_served function bytes.now entry.now }
+{
+    match entry {
+        Entry::Alien(_, Parties::Upward(sender), others) => *sender == function
+            && *others == *bytes,
+        _ => false,
+    }
+}
+
+/// Did the function get data that the domain gave for the packet?
+fn has_answer(new: &Domain, attacker: &Domain, function: Bdf, bytes: &PacketBytes) -> bool
+    ensures { IsTrue result → (list_any (is_served function bytes.now) new.now.journal ≡ true) × (list_any (is_success function) attacker.now.state.deliveries ≡ true) }
+{
+    let is_served = new
+        .journal()
+        .iter()
+        .any(|entry| is_served(entry, function, bytes));
+    is_served
+        && attacker
+            .records()
+            .iter()
+            .any(|delivery| is_success(delivery, function))
+}
+
+/// Is the harm seen of the domain, which was in the old state and is in the new one?
+/// The attacker is in the state that it ends in.
+pub(crate) fn is_seen(
+    harm: Harm,
+    function: Bdf,
+    bytes: &PacketBytes,
+    old: &Domain,
+    new: &Domain,
+    attacker: &Domain,
+) -> bool
+    ensures { IsTrue result → IsSeen harm function bytes.now old.now new.now attacker.now }
+{
+    match harm {
+        Harm::FrameWritten(frame) => differs_in_frame(old, new, frame),
+        Harm::FrameRead(_) => has_answer(new, attacker, function, bytes),
+        Harm::RegistersWritten(peer) => differs_in_registers(old, new, peer),
+        Harm::RegistersRead(_) => has_answer(new, attacker, function, bytes),
+        Harm::Completion => old.counts().unexpected < new.counts().unexpected,
+        Harm::Counts => old.counts() != new.counts(),
+    }
+}
