@@ -1,0 +1,109 @@
+-- The tree of a layout as text.
+use Rattle.std.specs.Prelude.{ℕ, zero, suc, ◌-◌, ◌*◌, ◌^◌, ◌==◌, ◌++◌, Bool, false, List, [], count_by, codes, min, Option, Some, None, unwrap_or, if◌then◌else◌}
+use Rattle.std.specs.Fmt.{decimal, digits, format_spec, padded_integral}
+use Rattle.std.specs.List.{find}
+use Rattle.fab_types.specs.Controls.{controls_egress}
+use Rattle.fab_types.specs.Id.{bus_of}
+use Rattle.fab_types.specs.Texts.{byte_text, id_text}
+use Rattle.fab_types.specs.declared.controls.AcsControl.{AcsControl}
+use Rattle.platform.specs.Owners.{holds_bus}
+use Rattle.platform.specs.Platform.{Platform}
+use Rattle.platform.specs.Tree.{domain_of, internal_bus}
+use Rattle.platform.specs.declared.parts.DownstreamPort.{DownstreamPort}
+use Rattle.platform.specs.declared.parts.EndpointFunction.{EndpointFunction}
+use Rattle.platform.specs.declared.parts.Switch.{Switch}
+use Rattle.attacks.specs.Controls.{is_set}
+use Rattle.findings_text.specs.declared.tree.Tree.{Tree}
+use Rattle.attacks.specs.declared.control.Control.TheVariants.{SourceValidation, TranslationBlocking, RequestRedirect, CompletionRedirect, UpstreamForwarding}
+
+-- eight hexadecimal digits
+abbrev pub word_text : ℕ → List ℕ
+word_text n = padded_integral (format_spec 32 0 4 8 (2 ^ 64 - 1)) false [] (digits 16 false n)
+
+-- two blanks for each level
+abbrev pub indent : ℕ → List ℕ
+indent zero = []
+indent (suc depth) = indent depth ++ codes "  "
+
+abbrev pub letter_or_dot : Bool → List ℕ → List ℕ
+letter_or_dot is_set letter = if is_set then letter else codes "."
+
+-- `VBRCU`, with a dot for each that is clear
+abbrev pub controls_text : AcsControl → List ℕ
+controls_text controls =
+    (letter_or_dot (is_set controls SourceValidation) (codes "V") ++ letter_or_dot (is_set controls TranslationBlocking) (codes "B")
+    ++ letter_or_dot (is_set controls RequestRedirect) (codes "R"))
+    ++ (letter_or_dot (is_set controls CompletionRedirect) (codes "C") ++ letter_or_dot (is_set controls UpstreamForwarding) (codes "U"))
+
+-- the Egress Control Vector, all ones where none was given
+abbrev pub vector_of : DownstreamPort → ℕ
+vector_of port = unwrap_or port.egress_vector 4294967295
+
+abbrev pub egress_text : DownstreamPort → List ℕ
+egress_text port = if controls_egress port.controls then codes "E vector " ++ word_text (vector_of port) ++ codes "\n" else codes "\n"
+
+-- which port it is, whose, and the buses below it
+abbrev pub port_head : DownstreamPort → List ℕ
+port_head port = codes "port " ++ id_text port.id ++ codes " domain " ++ decimal port.owner ++ codes " buses " ++ byte_text port.secondary ++ codes "-" ++ byte_text port.subordinate
+
+abbrev pub window_text : DownstreamPort → List ℕ
+window_text port = codes " window " ++ word_text port.base ++ codes "-" ++ word_text port.limit ++ codes " controls "
+
+abbrev pub port_line : ℕ → DownstreamPort → List ℕ
+port_line depth port = indent (depth - 1) ++ port_head port ++ window_text port ++ controls_text port.controls ++ egress_text port
+
+abbrev pub port_lines : ℕ → Option DownstreamPort → List ℕ
+port_lines depth None = []
+port_lines depth (Some port) = port_line depth port
+
+abbrev pub switch_lines : ℕ → Option Switch → List ℕ
+switch_lines depth None = []
+switch_lines depth (Some switch) = indent depth ++ (codes "switch " ++ id_text switch.id ++ codes " bus " ++ byte_text (internal_bus switch) ++ codes "\n")
+
+abbrev pub function_words : ℕ → ℕ → ℕ → List ℕ
+function_words id owner page = codes "function " ++ id_text id ++ codes " domain " ++ decimal owner ++ codes " page " ++ word_text page ++ codes "\n"
+
+abbrev pub function_line : ℕ → List DownstreamPort → EndpointFunction → List ℕ
+function_line depth ports line = indent depth ++ function_words line.id (domain_of ports line.id) line.bar
+
+abbrev pub function_lines : ℕ → List DownstreamPort → Option EndpointFunction → List ℕ
+function_lines depth ports None = []
+function_lines depth ports (Some line) = function_line depth ports line
+
+-- how many ports stand above what is on a bus
+abbrev pub levels_above : List DownstreamPort → ℕ → ℕ
+levels_above ports bus = min (count_by (λ port. holds_bus port bus) ports) 3
+
+abbrev pub function_on : List EndpointFunction → ℕ → Option EndpointFunction
+function_on functions bus = find (λ line. bus_of line.id == bus) functions
+
+-- what a tree is made of
+pub record Parts : Type 0 where
+  pub ports : List DownstreamPort
+  pub switches : List Switch
+  pub functions : List EndpointFunction
+
+abbrev pub parts_of : Tree → Parts
+parts_of tree = record { ports = tree.ports.now; switches = tree.switches.now; functions = tree.functions.now }
+
+abbrev pub switch_on : List Switch → ℕ → Option Switch
+switch_on switches bus = find (λ switch. bus_of switch.id == bus) switches
+
+abbrev pub port_to : List DownstreamPort → ℕ → Option DownstreamPort
+port_to ports bus = find (λ port. port.secondary == bus) ports
+
+-- the lines of the port that leads to a bus, and of the switch or function on it
+abbrev pub lines_at : ℕ → List DownstreamPort → Option DownstreamPort → Option Switch → Option EndpointFunction → List ℕ
+lines_at depth ports port switch line = port_lines depth port ++ switch_lines depth switch ++ function_lines depth ports line
+
+abbrev pub lines_on : Parts → ℕ → List ℕ
+lines_on p bus = lines_at (levels_above p.ports bus * 2) p.ports (port_to p.ports bus) (switch_on p.switches bus) (function_on p.functions bus)
+
+-- the lines of the first so many buses
+unfoldable pub lines_below : Parts → ℕ → List ℕ
+lines_below p zero = []
+lines_below p (suc bus) = lines_below p bus ++ lines_on p bus
+
+-- those of all buses
+abbrev pub tree_text : Platform → List ℕ
+tree_text platform = lines_below (record { ports = platform.ports; switches = platform.switches; functions = platform.functions }) 256

@@ -1,0 +1,33 @@
+//! The tree of a layout, what an audit of it found, and which clear controls let nothing pass.
+
+ghost use Rattle.std.specs.Prelude.{OnOk};
+ghost use Rattle.std.specs.Io.KnownBytes.{Appends};
+ghost use Rattle.findings_text.specs.Witnesses.{explanation_text};
+
+use crate::findings::write_findings;
+use crate::idle::write_idle_controls;
+use crate::tree::write_tree;
+use attacks::Findings;
+use layout::Layout;
+use std::alloc::Global;
+use std::io;
+use std::io::Write;
+
+/// Writes the tree of a layout, what an audit of it found, and which clear controls let nothing pass.
+/// Where memory is refused before all of it stands ready, nothing is written, and the error is of the kind `OutOfMemory`; other
+/// errors are those of the writer.
+pub fn write_explanation<W: Write>(
+    alloc: Global,
+    out: &mut W,
+    layout: &Layout,
+    findings: &Findings,
+) -> io::Result<()>
+    ensures { OnOk result (Appends (W.contents out.old) (W.contents out.new) (explanation_text layout.now findings.now)) }
+{
+    let mut text = Vec::new(alloc);
+    write_tree(&mut text, layout)?;
+    write_findings(alloc, &mut text, findings)?;
+    write_idle_controls(&mut text, layout, findings)?;
+    out.write_all(&text)?;
+    Ok(())
+}

@@ -1,0 +1,11 @@
+//! The tree of a layout as text, and what an audit of it found.
+#![tactic(auto)]
+
+mod explanation;
+mod findings;
+mod idle;
+mod tree;
+mod witness;
+
+pub use explanation::write_explanation;
+pub use witness::write_script;
