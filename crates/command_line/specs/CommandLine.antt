@@ -53,6 +53,9 @@ replay_command = domain_command (codes "replay") (codes "JOURNAL")
 abbrev pub draw_command : App
 draw_command = with_rule (new_app (codes "draw")) (word_rule (codes "LAYOUT"))
 
+abbrev pub explain_command : App
+explain_command = with_rule (new_app (codes "explain")) (word_rule (codes "LAYOUT"))
+
 abbrev pub import_command : App
 import_command = with_rule (with_rule (with_rule (new_app (codes "import")) (word_rule (codes "DUMP"))) (option_rule (codes "owners"))) (option_rule (codes "root"))
 
@@ -64,11 +67,11 @@ abbrev pub run_commands : App
 run_commands = with_subcommand (with_subcommand (with_subcommand program first_command.top) run_command.top) alone_command.top
 
 -- `first HEX`, `run LAYOUT SCRIPT`, `alone LAYOUT SCRIPT DOMAIN`, `journal LAYOUT SCRIPT DOMAIN`,
--- `replay LAYOUT JOURNAL DOMAIN`, `threads LAYOUT SCRIPT TURNS`, `draw LAYOUT` and `import DUMP [--owners FILE] [--root ID]`;
--- help is the library's own
+-- `replay LAYOUT JOURNAL DOMAIN`, `threads LAYOUT SCRIPT TURNS`, `draw LAYOUT`, `explain LAYOUT` and
+-- `import DUMP [--owners FILE] [--root ID]`; help is the library's own
 abbrev pub commands : App
 commands =
-    with_subcommand (with_subcommand (with_subcommand (with_subcommand (with_subcommand run_commands journal_command.top) replay_command.top) threads_command.top) draw_command.top) import_command.top
+    with_subcommand (with_subcommand (with_subcommand (with_subcommand (with_subcommand (with_subcommand run_commands journal_command.top) replay_command.top) threads_command.top) draw_command.top) explain_command.top) import_command.top
 
 -- a command is this, and no argument of it is one of its subcommands too
 abbrev pub IsDefined : Command → App → Type 0
@@ -84,6 +87,7 @@ pub data Asked : Type 0 where
   Replay : Text → Text → ℕ → Asked  -- the files of these names, a layout and a journal of the domain of this number
   Threads : Text → Text → ℕ → Asked  -- a run of the files on threads, each of which makes so many turns
   Draw : Text → Asked  -- the drawing of the file of this name, a layout
+  Explain : Text → Asked  -- whether the domains of that layout are kept apart
   Import : Text → Option Text → Option ℕ → Asked  -- the layout of the file of this name, a dump, with a list of owners, below this root port
 
 -- the names of the files of a layout and of this
@@ -127,8 +131,9 @@ asked_of entered =
     else (if bytes_eq entered.0 (codes "replay") then option_map (λ a. Replay a.0 a.1 a.2) (domain_in (codes "JOURNAL") entered.1)
     else (if bytes_eq entered.0 (codes "threads") then number_in (codes "SCRIPT") (codes "TURNS") entered.1 >>= turns_within
     else (if bytes_eq entered.0 (codes "draw") then option_map Draw (first_of (codes "LAYOUT") entered.1)
+    else (if bytes_eq entered.0 (codes "explain") then option_map Explain (first_of (codes "LAYOUT") entered.1)
     else (if bytes_eq entered.0 (codes "import") then import_in entered.1
-    else None)))))))
+    else None))))))))
 
 -- the kinds of error that the words may be refused by, none where they are taken
 abbrev pub errors_of : List Text → Kinds
@@ -152,6 +157,7 @@ asked_by (request.Journal files domain) = Some (Journal files.layout.now files.s
 asked_by (request.Replay layout journal domain) = Some (Replay layout.now journal.now domain)
 asked_by (request.Threads files turns) = Some (Threads files.layout.now files.script.now turns)
 asked_by (request.Draw layout) = Some (Draw layout.now)
+asked_by (request.Explain layout) = Some (Explain layout.now)
 asked_by (request.Import dump owners root) = Some (Import dump.now (option_map (λ word. word.now) owners) root)
 
 -- a request is for what was asked

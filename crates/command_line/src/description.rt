@@ -2,7 +2,7 @@
 
 ghost use Rattle.std.specs.Prelude.{◌≡◌, IfOk};
 ghost use Rattle.clap.specs.Words.{App, app_of, new_app, with_rule};
-ghost use Rattle.command_line.specs.CommandLine.{IsDefined, commands, domain_command, draw_command, files_command, first_command, import_command, option_rule, run_commands, third_command, threads_command, word_rule};
+ghost use Rattle.command_line.specs.CommandLine.{IsDefined, commands, domain_command, draw_command, explain_command, files_command, first_command, import_command, option_rule, run_commands, third_command, threads_command, word_rule};
 
 use clap::{Arg, ArgAction, Command};
 use std::alloc::{AllocError, Global};
@@ -30,6 +30,9 @@ const THREADS_ABOUT: &str =
 
 const DRAW_ABOUT: &str =
     "Prints the tree of a layout as a drawing in SVG: switches, ports with their controls, and functions in the colours of their domains";
+
+const EXPLAIN_ABOUT: &str =
+    "Prints the tree of a layout as text, and whether its domains are kept apart: where they aren't, for each two of them what one was seen to do to the other, with a script for `run` that shows it. Exit status 0: guarded; 3: not, and something was seen; 4: not, and nothing was seen";
 
 const IMPORT_ABOUT: &str =
     "Prints the layout of a real machine, from what `lspci -xxxx` printed there: what is below its root ports, or below one of them";
@@ -176,6 +179,13 @@ fn draw_definition<'a>(alloc: Global) -> Result<Command<'a>, AllocError>
     with_word(alloc, plain, "LAYOUT", LAYOUT_HELP)
 }
 
+fn explain_definition<'a>(alloc: Global) -> Result<Command<'a>, AllocError>
+    ensures { IfOk result (λ command. IsDefined command explain_command) }
+{
+    let plain = subcommand(alloc, "explain", EXPLAIN_ABOUT);
+    with_word(alloc, plain, "LAYOUT", LAYOUT_HELP)
+}
+
 fn import_definition<'a>(alloc: Global) -> Result<Command<'a>, AllocError>
     ensures { IfOk result (λ command. IsDefined command import_command) }
 {
@@ -211,10 +221,12 @@ pub fn definition<'a>(alloc: Global) -> Result<Command<'a>, AllocError>
     let replay = with_domain(alloc, "replay", REPLAY_ABOUT, "JOURNAL", JOURNAL_HELP)?;
     let threads = threads_definition(alloc)?;
     let draw = draw_definition(alloc)?;
+    let explain = explain_definition(alloc)?;
     let import = import_definition(alloc)?;
     let with_journal = with_runs(alloc)?.subcommand(journal)?;
     let with_replay = with_journal.subcommand(replay)?;
     let with_threads = with_replay.subcommand(threads)?;
     let with_draw = with_threads.subcommand(draw)?;
-    with_draw.subcommand(import)
+    let with_explain = with_draw.subcommand(explain)?;
+    with_explain.subcommand(import)
 }

@@ -78,6 +78,10 @@ pub enum Request<'a> {
     Draw {
         layout: &'a str,
     },
+    /// To print whether the domains of a layout are kept apart.
+    Explain {
+        layout: &'a str,
+    },
     /// To print the layout of a dump, by a list of owners, of what is below this root port.
     Import {
         dump: &'a str,
@@ -155,6 +159,10 @@ fn requested<'a>(matches: &ArgMatches<'a>) -> Option<Request<'a>>
         ("draw", words) => {
             let layout = word_in(words, "LAYOUT")?;
             Some(Request::Draw { layout })
+        }
+        ("explain", words) => {
+            let layout = word_in(words, "LAYOUT")?;
+            Some(Request::Explain { layout })
         }
         ("import", words) => import_in(words),
         _ => None,

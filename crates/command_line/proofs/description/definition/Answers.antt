@@ -9,6 +9,7 @@ returns c =
     let replay_is = c.in_ok-with_replay.ensures.shape c.in_ok-replay.ensures.1 ∙ ap₂ with_subcommand journal_is (ap (λ (a : App). a.top) c.in_ok-replay.ensures.0) in
     let threads_is = c.in_ok-with_threads.ensures.shape c.in_ok-threads.ensures.1 ∙ ap₂ with_subcommand replay_is (ap (λ (a : App). a.top) c.in_ok-threads.ensures.0) in
     let draw_is = c.in_ok-with_draw.ensures.shape c.in_ok-draw.ensures.1 ∙ ap₂ with_subcommand threads_is (ap (λ (a : App). a.top) c.in_ok-draw.ensures.0) in
-    IfOk-weaker c.subcommand-5.result _ _
-    (λ r h. h.shape c.in_ok-import.ensures.1 ∙ ap₂ with_subcommand draw_is (ap (λ (a : App). a.top) c.in_ok-import.ensures.0))
-    c.subcommand-5.ensures
+    let explain_is = c.in_ok-with_explain.ensures.shape c.in_ok-explain.ensures.1 ∙ ap₂ with_subcommand draw_is (ap (λ (a : App). a.top) c.in_ok-explain.ensures.0) in
+    IfOk-weaker c.subcommand-6.result _ _
+    (λ r h. h.shape c.in_ok-import.ensures.1 ∙ ap₂ with_subcommand explain_is (ap (λ (a : App). a.top) c.in_ok-import.ensures.0))
+    c.subcommand-6.ensures
