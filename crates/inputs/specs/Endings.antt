@@ -1,5 +1,5 @@
 -- How the program ends.
-use Rattle.std.specs.Prelude.{◌≡◌, ◌≢◌, ◌⊎◌, ℕ, ⊤}
+use Rattle.std.specs.Prelude.{◌≡◌, ◌≢◌, ◌⊎◌, ℕ, ⊤, Bool, true, false}
 use Rattle.std.specs.IoError.{error_kind}
 use Rattle.std.specs.declared.io.Error.{Error}
 use Rattle.std.specs.declared.io.ErrorKind.TheVariants as error_kinds
@@ -41,6 +41,16 @@ abbrev pub exit_code : ExitStatus → ℕ
 exit_code exit_status.Done = 0
 exit_code exit_status.Stopped = 1
 exit_code exit_status.NoMemory = 2
+exit_code exit_status.Harmed = 3
+exit_code exit_status.Unguarded = 4
+
+-- is all done that was asked for?
+abbrev pub is_done : ExitStatus → Bool
+is_done exit_status.Done = true
+is_done exit_status.Stopped = false
+is_done exit_status.NoMemory = false
+is_done exit_status.Harmed = true
+is_done exit_status.Unguarded = true
 
 -- the exit status after a fault: want of memory has its own
 abbrev pub status_of : Fault → ExitStatus

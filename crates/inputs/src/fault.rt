@@ -24,6 +24,10 @@ pub enum ExitStatus {
     Stopped,
     /// Memory was refused: exit status 2.
     NoMemory,
+    /// All is done, and a domain was seen to harm another: exit status 3.
+    Harmed,
+    /// All is done, and the layout isn't guarded, but no harm was seen: exit status 4.
+    Unguarded,
 }
 
 impl ExitStatus {
@@ -35,6 +39,8 @@ impl ExitStatus {
             ExitStatus::Done => 0,
             ExitStatus::Stopped => 1,
             ExitStatus::NoMemory => 2,
+            ExitStatus::Harmed => 3,
+            ExitStatus::Unguarded => 4,
         }
     }
 }

@@ -1,9 +1,9 @@
 //! The program over given words, files and outputs.
 
-ghost use Rattle.std.specs.Prelude.{◌≡◌, OnOk, false, map};
+ghost use Rattle.std.specs.Prelude.{◌≡◌, IfOk, MatchResult, Err, Ok, false, map, true};
 ghost use Rattle.command_line.specs.CommandLine.{Ask, Asked, IsAsked};
 ghost use Rattle.reports.specs.Writing.{Wrote};
-ghost use Rattle.inputs.specs.Endings.{status_of};
+ghost use Rattle.inputs.specs.Endings.{is_done, status_of};
 ghost use Rattle.program.specs.Asked.{AskedPrints, begins_with_import};
 
 use command_line::Request;
@@ -11,6 +11,7 @@ use commands::first::first;
 use commands::replay::replay;
 use commands::run::{alone, journal, run};
 use draw_command::draw;
+use explain_command::explain;
 use import_command::import_layout;
 use inputs::{ExitStatus, Fault, FileGiver};
 use std::alloc::Global;
@@ -23,8 +24,10 @@ use threads_command::threads;
 
 /// Carries out the command that the words are, without the program's name. What it prints goes to
 /// `out`, and where it stops before its work is done, one line of why goes to `err`. The files are those that
-/// the words name. Where the words ask for a command and it is done, it has written what that prints; and where they
-/// begin with `import`, one line goes to `err` on how much a layout hasn't of the machine, if there is anything.
+/// the words name. Where the words ask for a command and it is done, it has written what that prints, and the status is
+/// that of what was printed; and where they begin with `import`, one line goes to `err` on how much a layout hasn't of the
+/// machine, if there is anything.
+#[tactic(auto, using(crate::proofs::Endings::not_done))]
 pub fn command<R, S: AsStr, F: FileGiver, O: Write, E: Write>(
     rt: &R,
     alloc: Global,
@@ -35,16 +38,16 @@ pub fn command<R, S: AsStr, F: FileGiver, O: Write, E: Write>(
 ) -> ExitStatus
 where
     R: Threads + Wait + Clock + Copy + Send + Sync + Drop + 'static,
-    ensures asked { (asked : Asked) → Ask (map S.text words.now) asked → result ≡ ExitStatus.Done → Wrote (O.contents out.old) (O.contents out.new) (AskedPrints (F.holds files.now) asked) }
-    ensures silent { result ≡ ExitStatus.Done → begins_with_import (map S.text words.now) ≡ false → err.new ≡ err.old }
+    ensures asked { (asked : Asked) → Ask (map S.text words.now) asked → is_done result ≡ true → Wrote (O.contents out.old) (O.contents out.new) (AskedPrints (F.holds files.now) asked result) }
+    ensures silent { is_done result ≡ true → begins_with_import (map S.text words.now) ≡ false → err.new ≡ err.old }
 {
     let mut left_out = 0usize;
     match carried_out(rt, alloc, words, files, out, &mut left_out) {
-        Ok(()) => {
+        Ok(status) => {
             if begins_with_import(words) {
                 tell_left_out(left_out, err);
             }
-            ExitStatus::Done
+            status
         }
         Err(fault) => stopped(fault, err),
     }
@@ -76,15 +79,25 @@ fn carried_out<'a, R, S: AsStr, F: FileGiver, O: Write>(
     files: &F,
     out: &mut O,
     left_out: &mut usize,
-) -> Result<(), Fault<'a>>
+) -> Result<ExitStatus, Fault<'a>>
 where
     R: Threads + Wait + Clock + Copy + Send + Sync + Drop + 'static,
-    ensures { (asked : Asked) → Ask (map S.text words.entry.now) asked → OnOk result (Wrote (O.contents out.old) (O.contents out.new) (AskedPrints (F.holds files.now) asked)) }
+    ensures { (asked : Asked) → Ask (map S.text words.entry.now) asked → IfOk result (λ status. Wrote (O.contents out.old) (O.contents out.new) (AskedPrints (F.holds files.now) asked status)) }
 {
     let request = command_line::read_request(alloc, words)?;
-    perform(rt, alloc, request, files, out, left_out)?;
+    let status = perform(rt, alloc, request, files, out, left_out)?;
     out.flush()?;
-    Ok(())
+    Ok(status)
+}
+
+/// The status of a command that ends in no other than `Done`.
+fn done(ended: Result<(), Fault<'_>>) -> Result<ExitStatus, Fault<'_>>
+    ensures { MatchResult ended.entry (λ _. result ≡ Ok ExitStatus.Done) (λ fault. result ≡ Err fault) }
+{
+    match ended {
+        Ok(()) => Ok(ExitStatus::Done),
+        Err(fault) => Err(fault),
+    }
 }
 
 fn perform<'a, R, F: FileGiver, O: Write>(
@@ -94,39 +107,40 @@ fn perform<'a, R, F: FileGiver, O: Write>(
     files: &F,
     out: &mut O,
     left_out: &mut usize,
-) -> Result<(), Fault<'a>>
+) -> Result<ExitStatus, Fault<'a>>
 where
     R: Threads + Wait + Clock + Copy + Send + Sync + Drop + 'static,
-    ensures { (asked : Asked) → IsAsked request.entry asked → OnOk result (Wrote (O.contents out.old) (O.contents out.new) (AskedPrints (F.holds files.now) asked)) }
+    ensures { (asked : Asked) → IsAsked request.entry asked → IfOk result (λ status. Wrote (O.contents out.old) (O.contents out.new) (AskedPrints (F.holds files.now) asked status)) }
 {
     match request {
         Request::Help(help) => {
             out.write_all(help.as_bytes())?;
-            Ok(())
+            Ok(ExitStatus::Done)
         }
-        Request::First { packet } => first(rt, alloc, packet, out),
-        Request::Run { files: names } => run(rt, alloc, files, names, out),
+        Request::First { packet } => done(first(rt, alloc, packet, out)),
+        Request::Run { files: names } => done(run(rt, alloc, files, names, out)),
         Request::Alone {
             files: names,
             domain,
-        } => alone(rt, alloc, files, names, domain, out),
+        } => done(alone(rt, alloc, files, names, domain, out)),
         Request::Journal {
             files: names,
             domain,
-        } => journal(rt, alloc, files, names, domain, out),
+        } => done(journal(rt, alloc, files, names, domain, out)),
         Request::Replay {
             layout,
             journal: text,
             domain,
-        } => replay(rt, alloc, files, layout, text, domain, out),
+        } => done(replay(rt, alloc, files, layout, text, domain, out)),
         Request::Threads {
             files: names,
             turns,
-        } => threads(rt, alloc, files, names, turns, out),
-        Request::Draw { layout } => draw(alloc, files, layout, out),
+        } => done(threads(rt, alloc, files, names, turns, out)),
+        Request::Draw { layout } => done(draw(alloc, files, layout, out)),
+        Request::Explain { layout } => explain(rt, alloc, files, layout, out),
         Request::Import { dump, owners, root } => {
             *left_out = import_layout(alloc, files, dump, owners, root, out)?;
-            Ok(())
+            Ok(ExitStatus::Done)
         }
     }
 }

@@ -1,0 +1,210 @@
+#!/usr/bin/env python3
+"""Holds what `pciefab explain` tells against `pciefab run`.
+
+`attacks.py PROGRAM random [COUNT]` deals 200 random layouts, or COUNT, and runs each script that `explain` tells of one:
+the victim's part of the report or its journal has to be another than without the script. In a guarded layout none may be
+told. `attacks.py PROGRAM cleared LAYOUT [PAIRS]` clears each of the five controls at each port of a layout in turn, and then
+PAIRS random pairs of them at two ports, and runs all candidates in each: writes, reads and FetchAdds of each function in each
+name, for each page that is a frame's number, mapped, a register page or none of these, with AT 00 and 10. Where one is seen to
+land in some way of harm, `explain` has to tell a witness of that way for these two domains. It prints what differs, and its
+last line counts.
+"""
+
+import itertools, random, re, subprocess, sys, tempfile
+
+from deal import Deal
+
+FRAME_WRITTEN, FRAME_READ, PAGE_WRITTEN, PAGE_READ, COMPLETION, COUNTS = range(6)
+WORDS = ['write to frame', 'read of frame', 'write to registers', 'read of registers', 'completion not asked for', 'counts changed']
+CONTROLS = [1, 2, 4, 8, 16]
+program = sys.argv[1]
+work = tempfile.TemporaryDirectory()
+
+
+def put(name, text):
+    path = f'{work.name}/{name}'
+    with open(path, 'w') as file:
+        file.write(text)
+    return path
+
+
+def ran(*words):
+    done = subprocess.run([program, *words], capture_output=True, text=True)
+    return done.stdout, done.returncode
+
+
+def parts(report):
+    """The lines of each domain in a report, by its number."""
+    found, own = {}, None
+    for line in report.splitlines():
+        if line.startswith('domain '):
+            own = found.setdefault(int(line.split()[1]), [])
+        if own is not None:
+            own.append(line)
+    return found
+
+
+def told(text):
+    """The witnesses of an explanation: attacker, victim, way and script; and the pairs that it names."""
+    witnesses, pairs, lines = [], set(), text.splitlines()
+    for place, line in enumerate(lines):
+        head = re.match(r'domain (\d+) reaches domain (\d+): (.*)$', line)
+        if not head:
+            continue
+        pair = int(head[1]), int(head[2])
+        pairs.add(pair)
+        if head[3] == 'none found':
+            continue
+        script = list(itertools.takewhile(lambda each: each.split()[0] in ('submit', 'sweep'), lines[place + 1:]))
+        way = next(number for number, words in enumerate(WORDS) if head[3].startswith(words))
+        witnesses.append((*pair, way, '\n'.join(script) + '\n'))
+    return witnesses, pairs
+
+
+class Lines:
+    """What the lines of a layout say."""
+
+    def __init__(self, text):
+        self.text = text
+        fields = [line.split() for line in text.splitlines()]
+        self.ports = [each for each in fields if each[0] == 'port']
+        self.owners = sorted({int(each[7]) for each in self.ports})
+        above = {each[2]: int(each[7]) for each in self.ports}
+        self.functions = {each[1]: (above[each[1][:2]], int(each[2], 16)) for each in fields if each[0] == 'function'}
+        self.maps = [(each[1], int(each[2], 16), each[3], each[4]) for each in fields if each[0] == 'map']
+        self.frames = {int(target) for _, _, kind, target in self.maps if kind == 'frame'}
+        self.is_guarded = all(int(each[6], 16) & 31 == 31 for each in self.ports)
+
+
+def cleared(text, places):
+    """The layout in which the control of each (port, control) is clear."""
+    lines = []
+    for line in text.splitlines():
+        fields = line.split()
+        if fields[0] == 'port':
+            bits = int(fields[6], 16)
+            for port, control in places:
+                if fields[1] == port:
+                    bits &= ~control
+            fields[6] = f'{bits:02x}'
+        lines.append(' '.join(fields))
+    return '\n'.join(lines) + '\n'
+
+
+def number(name):
+    bus, device, function = re.match(r'(..):(..)\.(.)', name).groups()
+    return int(bus, 16) << 8 | int(device, 16) << 3 | int(function)
+
+
+def candidates(layout, function):
+    """Packets that a function may submit, as hexadecimal."""
+    names = [number(each) for each in layout.functions] + [owner << 3 for owner in layout.owners]
+    bars = {bar for _, bar in layout.functions.values()}
+    pages = {0x100000, *layout.frames, *(page for _, page, _, _ in layout.maps)}
+    addresses = [page << 12 for page in sorted(pages)] + [bar | 0x400 for bar in sorted(bars)]
+    for name, address, at, kind in itertools.product(names, addresses, (0, 8), (0x00, 0x40, 0x4c)):
+        high = address >= 1 << 32
+        first = (kind | 0x20 * high) << 24 | at << 8 | 1
+        yield f'{first:08x}{name:04x}000f' + f'{address:0{16 if high else 8}x}' + ('deadbeef' if kind else '')
+
+
+def counts(lines):
+    words = lines[0].split()
+    return words[5], words[7]
+
+
+def rows(lines, word):
+    return [line for line in lines if line.startswith(word)]
+
+
+def harms(layout, path, function, packet, before):
+    """(victim, way) of each harm that is seen of a packet."""
+    script = put('script', f'submit {function} {packet}\nsweep 1000\n')
+    report, _ = ran('run', path, script)
+    after, attacker, found = parts(report), layout.functions[function][0], set()
+    data = [line for line in rows(after[attacker], f'record {function}') if line.split()[3] == 'SC']
+    for victim in layout.owners:
+        if victim == attacker:
+            continue
+        old, new = before[victim], after[victim]
+        if rows(old, 'frame') != rows(new, 'frame'):
+            found.add((victim, FRAME_WRITTEN))
+        if rows(old, 'regs') != rows(new, 'regs'):
+            found.add((victim, PAGE_WRITTEN))
+        if counts(old)[1] != counts(new)[1]:
+            found.add((victim, COMPLETION))
+        if counts(old) != counts(new):
+            found.add((victim, COUNTS))
+        if data:
+            journal, _ = ran('journal', path, script, str(victim))
+            if f'function {function}' in journal or f' {packet}' in journal:
+                found.add((victim, FRAME_READ if packet[4:6] == '08' else PAGE_READ))
+    return found
+
+
+def searched(layout, path):
+    """(attacker, victim, way) of each harm that some candidate does."""
+    before = parts(ran('run', path, put('nothing', 'sweep 1\n'))[0])
+    found = set()
+    for function, (attacker, _) in layout.functions.items():
+        for packet in candidates(layout, function):
+            found |= {(attacker, victim, way) for victim, way in harms(layout, path, function, packet, before)}
+    return found
+
+
+def lands(layout, path, witness):
+    attacker, victim, way, script = witness
+    script = put('told', script)
+    changed = ran('journal', path, script, str(victim))[0] != ''
+    submitter = open(script).read().split()[1]
+    return changed and layout.functions[submitter][0] == attacker != victim
+
+
+def told_right(layout, path):
+    """What is told, and how many of it are wrong."""
+    text, status = ran('explain', path)
+    witnesses, pairs = told(text)
+    wrong = sum(not lands(layout, path, witness) for witness in witnesses)
+    expected = 0 if layout.is_guarded else 3 if witnesses else 4
+    wrong += status != expected
+    wrong += layout.is_guarded and bool(witnesses)
+    wrong += not layout.is_guarded and pairs != set(itertools.permutations(layout.owners, 2))
+    return witnesses, wrong
+
+
+def of_random(count):
+    wrong = read = guarded = shown = 0
+    for deal in range(1, count + 1):
+        path = put('layout', '\n'.join(Deal(deal).layout()) + '\n')
+        text, status = ran('explain', path)
+        if status == 1:
+            continue
+        layout = Lines(open(path).read())
+        witnesses, faults = told_right(layout, path)
+        read, guarded, shown, wrong = read + 1, guarded + layout.is_guarded, shown + len(witnesses), wrong + faults
+        if faults:
+            print(f'deal {deal}: {faults} wrong')
+    print(f'{read} layouts, {guarded} guarded, {shown} witnesses, {wrong} wrong')
+    return wrong
+
+
+def of_cleared(base, pairs):
+    dice, wrong, missed, shown = random.Random(1), 0, 0, 0
+    ports = [each[1] for each in Lines(base).ports]
+    singles = [[place] for place in itertools.product(ports, CONTROLS)]
+    doubles = [list(zip(two, controls)) for two in itertools.combinations(ports, 2) for controls in itertools.product(CONTROLS, repeat=2)]
+    for places in singles + dice.sample(doubles, min(pairs, len(doubles))):
+        path = put('layout', cleared(base, places))
+        layout = Lines(open(path).read())
+        witnesses, faults = told_right(layout, path)
+        lost = searched(layout, path) - {witness[:3] for witness in witnesses}
+        wrong, missed, shown = wrong + faults, missed + len(lost), shown + len(witnesses)
+        if faults or lost:
+            print(places, f'{faults} wrong, not told:', sorted(lost))
+    print(f'{len(singles)} controls and {min(pairs, len(doubles))} pairs, {shown} witnesses, {wrong} wrong, {missed} not told')
+    return wrong + missed
+
+
+if sys.argv[2] == 'random':
+    sys.exit(of_random(int(sys.argv[3]) if len(sys.argv) > 3 else 200) > 0)
+sys.exit(of_cleared(open(sys.argv[3]).read(), int(sys.argv[4]) if len(sys.argv) > 4 else 20) > 0)
