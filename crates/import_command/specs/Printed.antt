@@ -24,5 +24,5 @@ pub record ImportPrints (holds : List ℕ → List ℕ → Type 0) (dump_name : 
   pub owners : AreOwners holds owners_name list
   pub made : Imported
   pub layout : import_of dump root list ≡ Ok made
-  pub text : reading text ≡ Ok made.platform
-  pub count : count ≡ length made.left_out
+  pub reads : reading text ≡ Ok made.platform
+  pub counts : count ≡ length made.left_out
