@@ -1,6 +1,7 @@
 //! Whether the domains of the layout in a file are kept apart.
 
 ghost use Rattle.std.specs.Prelude.{◌≡◌, ◌⊎◌, ◌==◌, IfErr, IfOk, not};
+ghost use Rattle.std.specs.List.{list_any};
 ghost use Rattle.inputs.specs.Refusals.{HasNoText, IsNoLayout};
 ghost use Rattle.reports.specs.Writing.{Wrote};
 ghost use Rattle.explain_command.specs.Explained.{ExplainPrints, has_witness, status_after};
@@ -42,6 +43,13 @@ fn has_witness(pair: &Pair) -> bool
     !pair.witnesses.is_empty()
 }
 
+/// Was harm seen of any two domains?
+fn have_witness(pairs: &[Pair]) -> bool
+    ensures { result ≡ list_any has_witness pairs.now }
+{
+    pairs.iter().any(|pair| has_witness(pair))
+}
+
 /// How the program ends after these findings.
 fn status_after(findings: &Findings) -> ExitStatus
     ensures { result ≡ status_after findings.now }
@@ -49,7 +57,7 @@ fn status_after(findings: &Findings) -> ExitStatus
     match findings {
         Findings::Guarded => ExitStatus::Done,
         Findings::Unguarded(pairs) => {
-            if pairs.iter().any(|pair| has_witness(pair)) {
+            if have_witness(pairs) {
                 ExitStatus::Harmed
             } else {
                 ExitStatus::Unguarded
