@@ -22,44 +22,44 @@ returns-in-First g c = λ asked is.
 
 pub returns-in-Run : goal.returns-in-Run
 returns-in-Run g c = λ asked is.
-    asked_alone (λ a. IfOk c.done.result (λ status. Wrote (g.O.Write.contents c.args.out.now) (g.O.Write.contents c.run.new.out) (AskedPrints (g.F.FileGiver.holds c.args.files.now) a status)))
+    asked_alone (λ a. IfOk c.done-in-Run.result (λ status. Wrote (g.O.Write.contents c.args.out.now) (g.O.Write.contents c.run.new.out) (AskedPrints (g.F.FileGiver.holds c.args.files.now) a status)))
     (request.Run c.in-Run.names) (Run c.in-Run.names.layout.now c.in-Run.names.script.now) asked refl
-    (done_writes c.run.result c.done.result _ _ (RunPrints (g.F.FileGiver.holds c.args.files.now) c.in-Run.names.layout.now c.in-Run.names.script.now) c.run.ensures c.done.ensures)
+    (done_writes c.run.result c.done-in-Run.result _ _ (RunPrints (g.F.FileGiver.holds c.args.files.now) c.in-Run.names.layout.now c.in-Run.names.script.now) c.run.ensures c.done-in-Run.ensures)
     (rw c.in-Run.is at is)
 
 pub returns-in-Alone : goal.returns-in-Alone
 returns-in-Alone g c = λ asked is.
-    asked_alone (λ a. IfOk c.done.result (λ status. Wrote (g.O.Write.contents c.args.out.now) (g.O.Write.contents c.alone.new.out) (AskedPrints (g.F.FileGiver.holds c.args.files.now) a status)))
+    asked_alone (λ a. IfOk c.done-in-Alone.result (λ status. Wrote (g.O.Write.contents c.args.out.now) (g.O.Write.contents c.alone.new.out) (AskedPrints (g.F.FileGiver.holds c.args.files.now) a status)))
     (request.Alone c.in-Alone.names c.in-Alone.domain) (Alone c.in-Alone.names.layout.now c.in-Alone.names.script.now c.in-Alone.domain) asked refl
-    (done_writes c.alone.result c.done.result _ _ (AlonePrints (g.F.FileGiver.holds c.args.files.now) c.in-Alone.names.layout.now c.in-Alone.names.script.now c.in-Alone.domain) c.alone.ensures c.done.ensures)
+    (done_writes c.alone.result c.done-in-Alone.result _ _ (AlonePrints (g.F.FileGiver.holds c.args.files.now) c.in-Alone.names.layout.now c.in-Alone.names.script.now c.in-Alone.domain) c.alone.ensures c.done-in-Alone.ensures)
     (rw c.in-Alone.is at is)
 
 pub returns-in-Journal : goal.returns-in-Journal
 returns-in-Journal g c = λ asked is.
-    asked_alone (λ a. IfOk c.done.result (λ status. Wrote (g.O.Write.contents c.args.out.now) (g.O.Write.contents c.journal.new.out) (AskedPrints (g.F.FileGiver.holds c.args.files.now) a status)))
+    asked_alone (λ a. IfOk c.done-in-Journal.result (λ status. Wrote (g.O.Write.contents c.args.out.now) (g.O.Write.contents c.journal.new.out) (AskedPrints (g.F.FileGiver.holds c.args.files.now) a status)))
     (request.Journal c.in-Journal.names c.in-Journal.domain) (Journal c.in-Journal.names.layout.now c.in-Journal.names.script.now c.in-Journal.domain) asked refl
-    (done_writes c.journal.result c.done.result _ _ (JournalPrints (g.F.FileGiver.holds c.args.files.now) c.in-Journal.names.layout.now c.in-Journal.names.script.now c.in-Journal.domain) c.journal.ensures c.done.ensures)
+    (done_writes c.journal.result c.done-in-Journal.result _ _ (JournalPrints (g.F.FileGiver.holds c.args.files.now) c.in-Journal.names.layout.now c.in-Journal.names.script.now c.in-Journal.domain) c.journal.ensures c.done-in-Journal.ensures)
     (rw c.in-Journal.is at is)
 
 pub returns-in-Replay : goal.returns-in-Replay
 returns-in-Replay g c = λ asked is.
-    asked_alone (λ a. IfOk c.done.result (λ status. Wrote (g.O.Write.contents c.args.out.now) (g.O.Write.contents c.replay.new.out) (AskedPrints (g.F.FileGiver.holds c.args.files.now) a status)))
+    asked_alone (λ a. IfOk c.done-in-Replay.result (λ status. Wrote (g.O.Write.contents c.args.out.now) (g.O.Write.contents c.replay.new.out) (AskedPrints (g.F.FileGiver.holds c.args.files.now) a status)))
     (request.Replay c.in-Replay.layout c.in-Replay.text c.in-Replay.domain) (Replay c.in-Replay.layout.now c.in-Replay.text.now c.in-Replay.domain) asked refl
-    (done_writes c.replay.result c.done.result _ _ (ReplayPrints (g.F.FileGiver.holds c.args.files.now) c.in-Replay.layout.now c.in-Replay.text.now c.in-Replay.domain) c.replay.ensures c.done.ensures)
+    (done_writes c.replay.result c.done-in-Replay.result _ _ (ReplayPrints (g.F.FileGiver.holds c.args.files.now) c.in-Replay.layout.now c.in-Replay.text.now c.in-Replay.domain) c.replay.ensures c.done-in-Replay.ensures)
     (rw c.in-Replay.is at is)
 
 pub returns-in-Threads : goal.returns-in-Threads
 returns-in-Threads g c = λ asked is.
-    asked_alone (λ a. IfOk c.done.result (λ status. Wrote (g.O.Write.contents c.args.out.now) (g.O.Write.contents c.threads.new.out) (AskedPrints (g.F.FileGiver.holds c.args.files.now) a status)))
+    asked_alone (λ a. IfOk c.done-in-Threads.result (λ status. Wrote (g.O.Write.contents c.args.out.now) (g.O.Write.contents c.threads.new.out) (AskedPrints (g.F.FileGiver.holds c.args.files.now) a status)))
     (request.Threads c.in-Threads.names c.in-Threads.turns) (Threads c.in-Threads.names.layout.now c.in-Threads.names.script.now c.in-Threads.turns) asked refl
-    (done_writes c.threads.result c.done.result _ _ (ThreadsPrints (g.F.FileGiver.holds c.args.files.now) c.in-Threads.names.layout.now c.in-Threads.names.script.now) c.threads.ensures.ok c.done.ensures)
+    (done_writes c.threads.result c.done-in-Threads.result _ _ (ThreadsPrints (g.F.FileGiver.holds c.args.files.now) c.in-Threads.names.layout.now c.in-Threads.names.script.now) c.threads.ensures.ok c.done-in-Threads.ensures)
     (rw c.in-Threads.is at is)
 
 pub returns-in-Draw : goal.returns-in-Draw
 returns-in-Draw g c = λ asked is.
-    asked_alone (λ a. IfOk c.done.result (λ status. Wrote (g.O.Write.contents c.args.out.now) (g.O.Write.contents c.draw.new.out) (AskedPrints (g.F.FileGiver.holds c.args.files.now) a status)))
+    asked_alone (λ a. IfOk c.done-in-Draw.result (λ status. Wrote (g.O.Write.contents c.args.out.now) (g.O.Write.contents c.draw.new.out) (AskedPrints (g.F.FileGiver.holds c.args.files.now) a status)))
     (request.Draw c.in-Draw.layout) (Draw c.in-Draw.layout.now) asked refl
-    (done_writes c.draw.result c.done.result _ _ (DrawPrints (g.F.FileGiver.holds c.args.files.now) c.in-Draw.layout.now) c.draw.ensures.ok c.done.ensures)
+    (done_writes c.draw.result c.done-in-Draw.result _ _ (DrawPrints (g.F.FileGiver.holds c.args.files.now) c.in-Draw.layout.now) c.draw.ensures.ok c.done-in-Draw.ensures)
     (rw c.in-Draw.is at is)
 
 pub returns-in-Explain : goal.returns-in-Explain
@@ -67,9 +67,9 @@ returns-in-Explain g c = λ asked is.
     asked_alone (λ a. IfOk c.explain.result (λ status. Wrote (g.O.Write.contents c.args.out.now) (g.O.Write.contents c.explain.new.out) (AskedPrints (g.F.FileGiver.holds c.args.files.now) a status)))
     (request.Explain c.in-Explain.layout) (Explain c.in-Explain.layout.now) asked refl c.explain.ensures.ok (rw c.in-Explain.is at is)
 
-pub returns-in-Import : goal.returns-in-Import
-returns-in-Import g c = λ asked is.
-    let written = c.in_ok-import_layout.ensures.ok in
+pub returns-in_ok-left_out-in-Import : goal.returns-in_ok-left_out-in-Import
+returns-in_ok-left_out-in-Import g c = λ asked is.
+    let written = c.in_ok-left_out-in-Import.ensures.ok in
     asked_alone (λ a. Wrote (g.O.Write.contents c.args.out.now) (g.O.Write.contents c.import_layout.new.out) (AskedPrints (g.F.FileGiver.holds c.args.files.now) a Done))
     (request.Import c.in-Import.dump c.in-Import.owners c.in-Import.root) (Import c.in-Import.dump.now (option_map (λ word. word.now) c.in-Import.owners) c.in-Import.root) asked refl
     (written.0, (refl, (_, written.1)), written.2) (rw c.in-Import.is at is)
