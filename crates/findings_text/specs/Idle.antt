@@ -64,8 +64,9 @@ obstacle_of ports port control = obstacle_among (find (is_set_above port control
 abbrev pub above_text : ℕ → List ℕ
 above_text other = id_text other ++ codes " above it still stops "
 
+-- a port below stops what comes from below itself alone
 abbrev pub below_text : ℕ → List ℕ
-below_text other = id_text other ++ codes " below it still stops "
+below_text other = id_text other ++ codes " below it stops what comes from there by that control\n"
 
 -- what a control stops
 abbrev pub stopped_text : Control → List ℕ
@@ -77,7 +78,7 @@ stopped_text UpstreamForwarding = codes "a request for its own window\n"
 
 abbrev pub reason_text : Obstacle → Control → List ℕ
 reason_text (Above other) control = above_text other ++ stopped_text control
-reason_text (Below other) control = below_text other ++ stopped_text control
+reason_text (Below other) control = below_text other
 reason_text Nothing control = codes "nothing below it was seen to use that\n"
 
 abbrev pub idle_head : DownstreamPort → Control → List ℕ

@@ -126,10 +126,14 @@ fn write_above<W: Write>(out: &mut W, other: PortId) -> io::Result<()>
     write!(out, "{other} above it still stops ")
 }
 
+/// A port below stops what comes from below itself alone.
 fn write_below<W: Write>(out: &mut W, other: PortId) -> io::Result<()>
     ensures { OnOk result (Appends (W.contents out.old) (W.contents out.new) (below_text other)) }
 {
-    write!(out, "{other} below it still stops ")
+    writeln!(
+        out,
+        "{other} below it stops what comes from there by that control"
+    )
 }
 
 /// Writes what a control stops.
@@ -153,21 +157,13 @@ fn write_above_line<W: Write>(out: &mut W, other: PortId, control: Control) -> i
     Ok(())
 }
 
-fn write_below_line<W: Write>(out: &mut W, other: PortId, control: Control) -> io::Result<()>
-    ensures { OnOk result (Appends (W.contents out.old) (W.contents out.new) (below_text other ++ stopped_text control)) }
-{
-    write_below(out, other)?;
-    write_stopped(out, control)?;
-    Ok(())
-}
-
 /// Writes what a port above or below still stops.
 fn write_reason<W: Write>(out: &mut W, obstacle: &Obstacle, control: Control) -> io::Result<()>
     ensures { OnOk result (Appends (W.contents out.old) (W.contents out.new) (reason_text obstacle.now control)) }
 {
     match obstacle {
         Obstacle::Above(other) => write_above_line(out, *other, control),
-        Obstacle::Below(other) => write_below_line(out, *other, control),
+        Obstacle::Below(other) => write_below(out, *other),
         Obstacle::Nothing => out.write_all(b"nothing below it was seen to use that\n"),
     }
 }
