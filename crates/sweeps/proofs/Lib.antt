@@ -1,3 +1,4 @@
+pub mod Cutting
 pub mod Events
 pub mod Running
 pub mod Settling

@@ -1,5 +1,5 @@
 -- Sweeps: each event of a fabric that moves packets or credits, once, in a fixed order.
-use Rattle.std.specs.Prelude.{◌≡◌, ℕ, zero, suc, Bool, true, false, MatchBool, List, [], ◌∷◌, ◌++◌, map}
+use Rattle.std.specs.Prelude.{◌≡◌, ◌⊎◌, ℕ, zero, suc, Bool, true, false, MatchBool, List, [], ◌∷◌, ◌++◌, map}
 use Rattle.std.specs.List.{flat_map, list_any}
 use Rattle.fab_types.specs.declared.outcome.Outcome.{Outcome}
 use Rattle.fab_types.specs.declared.outcome.Outcome.TheVariants.{Moved, NoMemory}
@@ -9,6 +9,7 @@ use Rattle.domain.specs.Domains.{DomainView}
 use Rattle.fabric_core.specs.declared.event.Event.{Event}
 use Rattle.fabric_core.specs.declared.station.Station.{Station}
 use Rattle.fabric_core.specs.declared.station.Station.TheVariants.{FunctionOutbox, HostOutbox, Port, Link, Host, Function}
+use Rattle.fabric_core.specs.Events.{StepsTo}
 use Rattle.fabric_core.specs.Runs.{Run}
 use Rattle.fabric_core.specs.Stations.{events_at}
 use Rattle.fabric_core.specs.World.{World}
@@ -63,3 +64,20 @@ abbrev pub SweepsUpTo : List Event → ℕ → World → World → Type 0
 SweepsUpTo events zero old new = new ≡ old
 SweepsUpTo events (suc most) old new =
     (moved : Bool) × (mid : World) × Sweeps events old moved mid × MatchBool moved (SweepsUpTo events most mid new) (new ≡ mid)
+
+-- ---- sweeps that are cut short
+
+-- the events before one of them were made, and that one was refused memory: it and those behind it are not made
+pub record CutShort (events : List Event) (old new : World) : Type 0 where
+  pub before : List Event
+  pub refused : Event
+  pub behind : List Event
+  pub all : events ≡ before ++ refused ∷ behind
+  pub moved : Bool
+  pub made : Sweeps before old moved new
+  pub lacks : StepsTo new refused NoMemory new
+
+-- of so many sweeps at most one was cut short, and each before it moved something
+abbrev pub SweepsCutShort : List Event → ℕ → World → World → Type 0
+SweepsCutShort events zero old new = ⊥
+SweepsCutShort events (suc most) old new = CutShort events old new ⊎ ((mid : World) × Sweeps events old true mid × SweepsCutShort events most mid new)

@@ -1,11 +1,11 @@
 //! Sweeps: each event of a fabric once, in a fixed order.
 
-ghost use Rattle.std.specs.Prelude.{◌≡◌, ◌∷◌, [], IfOk, OnOk, false, map, true};
+ghost use Rattle.std.specs.Prelude.{◌≡◌, ◌∷◌, [], IfOk, OnErr, OnOk, false, map, true};
 ghost use Rattle.std.specs.List.{flat_map};
 ghost use Rattle.fabric_core.specs.Events.{takes_packet};
 ghost use Rattle.fabric_core.specs.Leaving.{AreLeaving};
 ghost use Rattle.fabric_core.specs.Stations.{classes, events_at, others_at, taking};
-ghost use Rattle.sweeps.specs.Sweeps.{Sweeps, SweepsUpTo, is_moved, lacks_memory};
+ghost use Rattle.sweeps.specs.Sweeps.{CutShort, Sweeps, SweepsCutShort, SweepsUpTo, is_moved, lacks_memory};
 
 use fab_types::{Class, NoMemory, Outcome};
 use fabric_core::{Event, Fabric, LeavingClasses, Station};
@@ -13,7 +13,8 @@ use std::sync::Wait;
 
 /// Did the event move something? `NoMemory` where it was refused memory.
 fn has_moved(outcome: Outcome) -> Result<bool, NoMemory>
-    ensures { IfOk result (λ moved. (moved ≡ is_moved outcome) × (lacks_memory outcome ≡ false)) }
+    ensures moved { IfOk result (λ moved. (moved ≡ is_moved outcome) × (lacks_memory outcome ≡ false)) }
+    ensures refused { OnErr result (outcome ≡ Outcome.NoMemory) }
 {
     match outcome {
         Outcome::Moved => Ok(true),
@@ -24,7 +25,8 @@ fn has_moved(outcome: Outcome) -> Result<bool, NoMemory>
 
 /// Makes the event. Did it move something? It answers `NoMemory` where it was refused memory.
 fn make<R: Wait>(rt: &R, fabric: &mut Fabric, event: &Event) -> Result<bool, NoMemory>
-    ensures { IfOk result (λ moved. Sweeps (event.now ∷ []) fabric.old moved fabric.new) }
+    ensures made { IfOk result (λ moved. Sweeps (event.now ∷ []) fabric.old moved fabric.new) }
+    ensures cut_short { OnErr result (CutShort (event.now ∷ []) fabric.old fabric.new) }
 {
     has_moved(fabric.step(rt, event))
 }
@@ -32,7 +34,8 @@ fn make<R: Wait>(rt: &R, fabric: &mut Fabric, event: &Event) -> Result<bool, NoM
 /// Makes an event that takes a packet, if there is one for it to take.
 fn make_taking<R: Wait>(rt: &R, fabric: &mut Fabric, event: &Event) -> Result<bool, NoMemory>
     requires { takes_packet event.now ≡ true }
-    ensures { IfOk result (λ moved. Sweeps (event.now ∷ []) fabric.old moved fabric.new) }
+    ensures made { IfOk result (λ moved. Sweeps (event.now ∷ []) fabric.old moved fabric.new) }
+    ensures cut_short { OnErr result (CutShort (event.now ∷ []) fabric.old fabric.new) }
 {
     if fabric.home(event).is_none() {
         return Ok(false);
@@ -52,6 +55,7 @@ fn take<R: Wait>(
 ) -> Result<bool, NoMemory>
     requires { AreLeaving fabric.old station.now leaving.old }
     ensures made { IfOk result (λ moved. Sweeps (taking station.now class ∷ []) fabric.old moved fabric.new) }
+    ensures cut_short { OnErr result (CutShort (taking station.now class ∷ []) fabric.old fabric.new) }
     ensures leaving { OnOk result (AreLeaving fabric.new station.now leaving.new) }
 {
     let moved = make(rt, fabric, &station.taking(class))?;
@@ -72,6 +76,7 @@ fn take_leaving<R: Wait>(
 ) -> Result<bool, NoMemory>
     requires { AreLeaving fabric.old station.now leaving.old }
     ensures made { IfOk result (λ moved. Sweeps (taking station.now class ∷ []) fabric.old moved fabric.new) }
+    ensures cut_short { OnErr result (CutShort (taking station.now class ∷ []) fabric.old fabric.new) }
     ensures leaving { OnOk result (AreLeaving fabric.new station.now leaving.new) }
 {
     if !leaving.has(class) {
@@ -82,7 +87,8 @@ fn take_leaving<R: Wait>(
 
 /// Makes the events by which a packet of each class is taken at a station.
 fn take_each<R: Wait>(rt: &R, fabric: &mut Fabric, station: &Station) -> Result<bool, NoMemory>
-    ensures { IfOk result (λ moved. Sweeps (map (taking station.now) classes) fabric.old moved fabric.new) }
+    ensures made { IfOk result (λ moved. Sweeps (map (taking station.now) classes) fabric.old moved fabric.new) }
+    ensures cut_short { OnErr result (CutShort (map (taking station.now) classes) fabric.old fabric.new) }
 {
     let mut leaving = fabric.leaving(station);
     let posted = take_leaving(rt, fabric, station, Class::Posted, &mut leaving)?;
@@ -93,7 +99,8 @@ fn take_each<R: Wait>(rt: &R, fabric: &mut Fabric, station: &Station) -> Result<
 
 /// Makes the other events of a station: on a direction of a link a packet is received, and credits are told.
 fn make_others<R: Wait>(rt: &R, fabric: &mut Fabric, station: &Station) -> Result<bool, NoMemory>
-    ensures { IfOk result (λ moved. Sweeps (others_at station.now) fabric.old moved fabric.new) }
+    ensures made { IfOk result (λ moved. Sweeps (others_at station.now) fabric.old moved fabric.new) }
+    ensures cut_short { OnErr result (CutShort (others_at station.now) fabric.old fabric.new) }
 {
     match station {
         Station::Link(direction) => {
@@ -112,7 +119,8 @@ fn make_others<R: Wait>(rt: &R, fabric: &mut Fabric, station: &Station) -> Resul
 /// Makes the events of a station in turn. Did any of them move something? Where the station is quiet none would, and none
 /// is tried.
 fn visit<R: Wait>(rt: &R, fabric: &mut Fabric, station: &Station) -> Result<bool, NoMemory>
-    ensures { IfOk result (λ moved. Sweeps (events_at station.now) fabric.old moved fabric.new) }
+    ensures made { IfOk result (λ moved. Sweeps (events_at station.now) fabric.old moved fabric.new) }
+    ensures cut_short { OnErr result (CutShort (events_at station.now) fabric.old fabric.new) }
 {
     if fabric.is_quiet(station) {
         return Ok(false);
@@ -125,7 +133,8 @@ fn visit<R: Wait>(rt: &R, fabric: &mut Fabric, station: &Station) -> Result<bool
 /// Makes the events of these stations in turn. Did any of them move something? It answers `NoMemory` at the first event
 /// that was refused memory.
 pub fn sweep<R: Wait>(rt: &R, fabric: &mut Fabric, stations: &[Station]) -> Result<bool, NoMemory>
-    ensures { IfOk result (λ moved. Sweeps (flat_map events_at stations.now) fabric.old moved fabric.new) }
+    ensures made { IfOk result (λ moved. Sweeps (flat_map events_at stations.now) fabric.old moved fabric.new) }
+    ensures cut_short { OnErr result (CutShort (flat_map events_at stations.now) fabric.old fabric.new) }
 {
     let mut moved = false;
     for station in stations {
@@ -143,7 +152,8 @@ pub fn sweeps<R: Wait>(
     stations: &[Station],
     most: u32,
 ) -> Result<(), NoMemory>
-    ensures { OnOk result (SweepsUpTo (flat_map events_at stations.now) most fabric.old fabric.new) }
+    ensures made { OnOk result (SweepsUpTo (flat_map events_at stations.now) most fabric.old fabric.new) }
+    ensures cut_short { OnErr result (SweepsCutShort (flat_map events_at stations.now) most fabric.old fabric.new) }
 {
     for _ in 0..most {
         let moved = sweep(rt, fabric, stations)?;
