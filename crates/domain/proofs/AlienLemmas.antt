@@ -12,15 +12,16 @@ use Rattle.fab_types.specs.declared.head.Parties.TheVariants.{Upward, Downward, 
 use Rattle.fab_types.specs.declared.origin.Origin.{Origin}
 use Rattle.fab_types.specs.declared.origin.Origin.TheVariants as origin
 use Rattle.fab_types.specs.declared.place.Place.{Place}
+use Rattle.fab_types.specs.declared.status.Status.{Status}
 use Rattle.frame_log.specs.Descriptor.{Descriptor}
 use Rattle.function.specs.declared.tags.OpenTag.{OpenTag}
 use Rattle.platform.specs.declared.parts.DownstreamPort.{DownstreamPort}
 use Rattle.platform.specs.Owners.{owner_of}
 use Rattle.platform.specs.Share.{Share, is_guarded}
 use Rattle.tlp_view.specs.Bytes.{packet_of}
-use Rattle.tlp_view.specs.Kinds.{class_of_kind, is_completion, is_memory}
+use Rattle.tlp_view.specs.Kinds.{class_of_kind, is_memory}
 use Rattle.tlp_view.specs.Malformed.{malformed}
-use Rattle.tlp_view.specs.Packet.{Packet, dw_count}
+use Rattle.tlp_view.specs.Packet.{Packet, dw_count, status_in}
 use Rattle.tlp_view.specs.Runs.{is_write}
 use Rattle.tlp_view.specs.View.{address_type_in}
 use Rattle.request_handling.specs.declared.handling.Effect.{Effect}
@@ -36,7 +37,7 @@ use Rattle.request_handling.specs.declared.taker.Taker.{Taker}
 use Rattle.request_handling.specs.declared.taker.Taker.TheVariants.{Host, Function, Port, Upstream}
 use Rattle.request_handling.specs.AtFunctions.{or_discarded, request_at_function}
 use Rattle.request_handling.specs.Requests.{at_frame_if, at_port, by_number, frame_at, request_at_host, unserved_by_host}
-use Rattle.domain.specs.Aliens.{answerer_of, completion_at_host, is_excluded, received_if, reception_at, reception_by, reception_of, reception_unless}
+use Rattle.domain.specs.Aliens.{answerer_of, at_function_with, at_host_with, is_excluded, received_if, reception_at, reception_by, reception_of, reception_unless}
 use Rattle.request_handling.specs.Answers.{address_of, host_refusal}
 use Rattle.request_handling.specs.AtFunctions.{discarded}
 use Rattle.request_handling.specs.Carries.{from_frame, is_owner, refusal_by, refused_by_host, serve, to_frame}
@@ -114,25 +115,27 @@ at_port_fits ports port b (Answer by x) = tt
 
 -- ---- what is received may be
 
-arrives_open : (tags : List OpenTag) (b : List ℕ) (by : Answerer) (owner : Origin) → IsReceivable tags b (Arrives (arrival_at tags b by owner))
-arrives_open tags b by owner = λ e. both-first (is_open tags owner (packet_of b).tag) (is_port by || ((packet_of b).requester == origin_id owner)) e
+arrives_open : (tags : List OpenTag) (t : Packet) (b : List ℕ) (by : Answerer) (owner : Origin) (status : Status) → IsReceivable tags b (Arrives (arrival_at tags t b by owner status))
+arrives_open tags t b by owner status = λ e. both-first (is_open tags owner t.tag) (is_port by || (t.requester == origin_id owner)) e
 
 either_received : (tags : List OpenTag) (b : List ℕ) (test : Bool) (x y : Reception) → IsReceivable tags b x → IsReceivable tags b y → IsReceivable tags b (cond test x y)
 either_received tags b true x y of_x of_y = of_x
 either_received tags b false x y of_x of_y = of_y
 
+host_received : (o : Option Status) (share : Share) (s : Alone) (b : List ℕ) (sender : Parties) → malformed b ≡ None → IsReceivable s.open_tags b (at_host_with o share s b sender (packet_of b))
+host_received None share s b sender good = at_host_fits share s.frames b (address_type_in (packet_of b)) good
+host_received (Some status) share s b sender good =
+    let t = packet_of b in
+    either_received s.open_tags b (target_for sender t.requester == host_of share.domain) (Arrives (arrival_at s.open_tags t b (answerer_of sender) (origin.Host share.domain) status)) (Ends discarded)
+    (arrives_open s.open_tags t b (answerer_of sender) (origin.Host share.domain) status) tt
+
+function_received : (o : Option Status) (share : Share) (s : Alone) (g : ℕ) (b : List ℕ) (sender : Parties) → malformed b ≡ None → IsReceivable s.open_tags b (at_function_with o share s g b sender (packet_of b))
+function_received None share s g b sender good = at_function_fits share s.registers g b good
+function_received (Some status) share s g b sender good = arrives_open s.open_tags (packet_of b) b (answerer_of sender) (origin.Function g) status
+
 at_fits : (share : Share) (s : Alone) (b : List ℕ) (sender : Parties) (taker : Taker) → malformed b ≡ None → IsReceivable s.open_tags b (reception_at share s b sender (packet_of b) taker)
-at_fits share s b sender Host good =
-    let t = packet_of b in
-    let target = target_for sender t.requester in
-    either_received s.open_tags b (is_completion t.kind) (completion_at_host share s.open_tags b sender target) (Ends (request_at_host share s.frames t (address_type_in t)))
-    (either_received s.open_tags b (target == host_of share.domain) (Arrives (arrival_at s.open_tags b (answerer_of sender) (origin.Host share.domain))) (Ends discarded)
-    (arrives_open s.open_tags b (answerer_of sender) (origin.Host share.domain)) tt)
-    (at_host_fits share s.frames b (address_type_in t) good)
-at_fits share s b sender (Function g) good =
-    let t = packet_of b in
-    either_received s.open_tags b (is_completion t.kind) (Arrives (arrival_at s.open_tags b (answerer_of sender) (origin.Function g))) (Ends (request_at_function share s.registers g t))
-    (arrives_open s.open_tags b (answerer_of sender) (origin.Function g)) (at_function_fits share s.registers g b good)
+at_fits share s b sender Host good = host_received (status_in (packet_of b).body) share s b sender good
+at_fits share s b sender (Function g) good = function_received (status_in (packet_of b).body) share s g b sender good
 at_fits share s b sender (Port port) good = at_port_fits share.ports port b sender
 at_fits share s b sender Upstream good = tt
 

@@ -11,12 +11,12 @@ use Rattle.fab_types.specs.declared.head.Parties.{Parties}
 use Rattle.fab_types.specs.declared.head.Parties.TheVariants.{Upward, Downward, Answer}
 use Rattle.fab_types.specs.declared.origin.Origin.TheVariants as origin
 use Rattle.fab_types.specs.declared.place.Place.{Place}
+use Rattle.fab_types.specs.declared.status.Status.{Status}
 use Rattle.function.specs.declared.tags.OpenTag.{OpenTag}
 use Rattle.platform.specs.Share.{Share, is_guarded}
 use Rattle.tlp_view.specs.Bytes.{packet_of}
-use Rattle.tlp_view.specs.Kinds.{is_completion}
 use Rattle.tlp_view.specs.Malformed.{malformed}
-use Rattle.tlp_view.specs.Packet.{Packet}
+use Rattle.tlp_view.specs.Packet.{Packet, status_in}
 use Rattle.tlp_view.specs.View.{address_type_in}
 use Rattle.domain.specs.declared.receive.Reception.{Reception}
 use Rattle.domain.specs.declared.receive.Reception.TheVariants.{Ends, Arrives}
@@ -39,22 +39,26 @@ answerer_of (Downward function) = by.Host
 answerer_of (Answer answerer addressee) = answerer
 
 -- the host takes those that are routed to its own ID
-abbrev pub completion_at_host : Share → List OpenTag → List ℕ → Parties → ℕ → Reception
-completion_at_host share tags bytes sender target =
-    if target == host_of share.domain then Arrives (arrival_at tags bytes (answerer_of sender) (origin.Host share.domain))
+abbrev pub completion_at_host : Share → List OpenTag → List ℕ → Parties → Packet → Status → Reception
+completion_at_host share tags bytes sender t status =
+    if target_for sender t.requester == host_of share.domain then Arrives (arrival_at tags t bytes (answerer_of sender) (origin.Host share.domain) status)
     else Ends discarded
 
--- ---- at each of them
+-- ---- at each of them: what has a status is a completion, all else a request
+
+abbrev pub at_host_with : Option Status → Share → Alone → List ℕ → Parties → Packet → Reception
+at_host_with None share s bytes sender t = Ends (request_at_host share s.frames t (address_type_in t))
+at_host_with (Some status) share s bytes sender t = completion_at_host share s.open_tags bytes sender t status
 
 abbrev pub at_host : Share → Alone → List ℕ → Parties → Packet → Reception
-at_host share s bytes sender t =
-    if is_completion t.kind then completion_at_host share s.open_tags bytes sender (target_for sender t.requester)
-    else Ends (request_at_host share s.frames t (address_type_in t))
+at_host share s bytes sender t = at_host_with (status_in t.body) share s bytes sender t
+
+abbrev pub at_function_with : Option Status → Share → Alone → ℕ → List ℕ → Parties → Packet → Reception
+at_function_with None share s g bytes sender t = Ends (request_at_function share s.registers g t)
+at_function_with (Some status) share s g bytes sender t = Arrives (arrival_at s.open_tags t bytes (answerer_of sender) (origin.Function g) status)
 
 abbrev pub at_function : Share → Alone → ℕ → List ℕ → Parties → Packet → Reception
-at_function share s g bytes sender t =
-    if is_completion t.kind then Arrives (arrival_at s.open_tags bytes (answerer_of sender) (origin.Function g))
-    else Ends (request_at_function share s.registers g t)
+at_function share s g bytes sender t = at_function_with (status_in t.body) share s g bytes sender t
 
 abbrev pub reception_at : Share → Alone → List ℕ → Parties → Packet → Taker → Reception
 reception_at share s bytes sender t Host = at_host share s bytes sender t

@@ -1,11 +1,11 @@
 -- What becomes of a completion at the function or host that it goes to (PCIe 4.0, 2.3.2).
-use Rattle.std.specs.Prelude.{ℕ, ◌+◌, ◌==◌, Bool, true, false, ◌&&◌, ◌||◌, List, [], ◌∷◌, ◌++◌, Option, Some, None, unwrap_or, if◌then◌else◌}
+use Rattle.std.specs.Prelude.{ℕ, ◌+◌, ◌==◌, Bool, true, false, ◌&&◌, ◌||◌, List, [], ◌∷◌, ◌++◌, Option, Some, None, option_map, if◌then◌else◌}
 use Rattle.fab_types.specs.declared.head.Answerer.{Answerer}
 use Rattle.fab_types.specs.declared.head.Answerer.TheVariants as by
 use Rattle.fab_types.specs.declared.head.Parties.{Parties}
 use Rattle.fab_types.specs.declared.head.Parties.TheVariants.{Upward, Downward, Answer}
 use Rattle.fab_types.specs.declared.origin.Origin.{Origin}
-use Rattle.fab_types.specs.declared.status.Status.TheVariants.{SC}
+use Rattle.fab_types.specs.declared.status.Status.{Status}
 use Rattle.tlp_view.specs.Bytes.{packet_of}
 use Rattle.tlp_view.specs.Packet.{Packet, status_in}
 use Rattle.domain.specs.declared.deliver.Arrival.{Arrival}
@@ -21,21 +21,22 @@ is_port by.Port = true
 is_port by.Host = false
 is_port (by.Function function) = false
 
-abbrev pub delivery_of : Origin → Packet → List ℕ → Delivery
-delivery_of owner t bytes = record { owner = owner; tag = t.tag; status = unwrap_or (status_in t.body) SC; bytes = bytes }
+abbrev pub delivery_of : Origin → Packet → Status → List ℕ → Delivery
+delivery_of owner t status bytes = record { owner = owner; tag = t.tag; status = status; bytes = bytes }
 
 -- awaited is a completion with an open Tag of the addressee; only a port's answer may bear another Requester ID
 abbrev pub is_awaited : List OpenTag → Answerer → Origin → Packet → Bool
 is_awaited tags answerer owner t = is_open tags owner t.tag && (is_port answerer || (t.requester == origin_id owner))
 
--- a completion at this function or host
-abbrev pub arrival_at : List OpenTag → List ℕ → Answerer → Origin → Arrival
-arrival_at tags bytes answerer owner =
-    record { delivery = delivery_of owner (packet_of bytes) bytes; is_awaited = is_awaited tags answerer owner (packet_of bytes) }
+-- a completion of this status at this function or host
+abbrev pub arrival_at : List OpenTag → Packet → List ℕ → Answerer → Origin → Status → Arrival
+arrival_at tags t bytes answerer owner status =
+    record { delivery = delivery_of owner t status bytes; is_awaited = is_awaited tags answerer owner t }
 
+-- a packet that has no status is no completion, and arrives at nobody
 abbrev pub arrival_for : List OpenTag → List ℕ → Answerer → Option Origin → Option Arrival
 arrival_for tags bytes answerer None = None
-arrival_for tags bytes answerer (Some owner) = Some (arrival_at tags bytes answerer owner)
+arrival_for tags bytes answerer (Some owner) = let t = packet_of bytes in option_map (arrival_at tags t bytes answerer owner) (status_in t.body)
 
 abbrev pub arrival_of : List OpenTag → List ℕ → Parties → Option Arrival
 arrival_of tags bytes (Upward function) = None

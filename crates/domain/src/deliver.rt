@@ -100,42 +100,41 @@ fn is_awaited(tags: &[OpenTag], answerer: Answerer, owner: Origin, view: &TlpVie
     is_open(tags, owner, view.tag()) && (is_port(answerer) || view.requester() == addressee)
 }
 
-fn record_of(owner: Origin, view: &TlpView, bytes: &[u8]) -> Record
+fn record_of(owner: Origin, view: &TlpView, status: Status, bytes: &[u8]) -> Record
     requires short { length bytes.now ≤ 272 }
     requires well_formed { malformed bytes.now ≡ None }
-    ensures { result ≡ delivery_of owner view.now bytes.now }
+    ensures { result ≡ delivery_of owner view.now status bytes.now }
 {
     Record {
         owner,
         tag: view.tag(),
-        status: view.status().unwrap_or(Status::SC),
+        status,
         bytes: copied(bytes),
     }
 }
 
-/// A well-formed completion at this function or host.
+/// A well-formed completion of this status at this function or host.
 pub(crate) fn arrival_at(
     tags: &[OpenTag],
+    view: &TlpView,
     bytes: &[u8],
     answerer: Answerer,
     owner: Origin,
+    status: Status,
 ) -> Arrival
     requires well_formed { malformed bytes.now ≡ None }
     requires short { length bytes.now ≤ 272 }
-    ensures { result ≡ arrival_at tags.now bytes.now answerer owner }
+    ensures { result ≡ arrival_at tags.now view.now bytes.now answerer owner status }
 {
-    let Ok(view) = TlpView::read(bytes) else {
-        unreachable!();
-    };
     let same = owner;
-    let is_awaited = is_awaited(tags, answerer, same, &view);
+    let is_awaited = is_awaited(tags, answerer, same, view);
     Arrival {
-        delivery: record_of(owner, &view, bytes),
+        delivery: record_of(owner, view, status, bytes),
         is_awaited,
     }
 }
 
-/// What a well-formed completion is to its addressee.
+/// What a well-formed packet is to its addressee: nothing if it is no completion, which alone has a status.
 pub(crate) fn arrival_for(
     tags: &[OpenTag],
     bytes: &[u8],
@@ -147,5 +146,9 @@ pub(crate) fn arrival_for(
     ensures { result ≡ arrival_for tags.now bytes.now answerer addressee }
 {
     let owner = addressee?;
-    Some(arrival_at(tags, bytes, answerer, owner))
+    let Ok(view) = TlpView::read(bytes) else {
+        unreachable!();
+    };
+    let status = view.status()?;
+    Some(arrival_at(tags, &view, bytes, answerer, owner, status))
 }

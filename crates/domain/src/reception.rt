@@ -11,7 +11,7 @@ ghost use Rattle.domain.specs.Aliens.{answerer_of, at_function, at_host, complet
 use crate::deliver::arrival_at;
 use crate::domain::Domain;
 use crate::receive::Reception;
-use fab_types::{Answerer, Bdf, Origin, Parties, Place};
+use fab_types::{Answerer, Bdf, Origin, Parties, Place, Status};
 use request_handling::{
     Taker, at_port, discarded, request_at_function, request_at_host, taker_of, target_for,
 };
@@ -30,20 +30,27 @@ fn answerer_of(sender: Parties) -> Answerer
 impl Domain {
     ghost use Rattle.domain.specs.Aliens.{reception_of};
 
-    /// A completion that is routed to this ID.
-    fn completion_at_host(&self, bytes: &[u8], sender: Parties, target: Bdf) -> Reception
+    /// A completion of this status at the host.
+    fn completion_at_host(
+        &self,
+        bytes: &[u8],
+        sender: Parties,
+        view: &TlpView,
+        status: Status,
+    ) -> Reception
         requires well_formed { malformed bytes.now ≡ None }
         requires short { length bytes.now ≤ 272 }
-        ensures { result ≡ completion_at_host self.now.share self.now.state.open_tags bytes.now sender target }
+        ensures { result ≡ completion_at_host self.now.share self.now.state.open_tags bytes.now sender view.now status }
     {
         let domain = self.start.domain();
-        if target == domain.host() {
-            let tags = self.state.open_tags();
-            let owner = Origin::Host(domain);
-            Reception::Arrives(arrival_at(tags, bytes, answerer_of(sender), owner))
-        } else {
-            Reception::Ends(discarded())
+        let these = sender;
+        if target_for(these, view.requester()) != domain.host() {
+            return Reception::Ends(discarded());
         }
+        let tags = self.state.open_tags();
+        let owner = Origin::Host(domain);
+        let answerer = answerer_of(sender);
+        Reception::Arrives(arrival_at(tags, view, bytes, answerer, owner, status))
     }
 
     fn at_host(&self, bytes: &[u8], sender: Parties, view: &TlpView) -> Reception
@@ -51,13 +58,12 @@ impl Domain {
         requires short { length bytes.now ≤ 272 }
         ensures { result ≡ at_host self.now.share self.now.state bytes.now sender view.now }
     {
-        if view.kind().is_completion() {
-            let these = sender;
-            let target = target_for(these, view.requester());
-            self.completion_at_host(bytes, sender, target)
-        } else {
-            let memory = self.state.memory();
-            Reception::Ends(request_at_host(&self.start, &self.table, memory, view))
+        match view.status() {
+            Some(status) => self.completion_at_host(bytes, sender, view, status),
+            None => {
+                let memory = self.state.memory();
+                Reception::Ends(request_at_host(&self.start, &self.table, memory, view))
+            }
         }
     }
 
@@ -66,13 +72,17 @@ impl Domain {
         requires short { length bytes.now ≤ 272 }
         ensures { result ≡ at_function self.now.share self.now.state function bytes.now sender view.now }
     {
-        if view.kind().is_completion() {
-            let tags = self.state.open_tags();
-            let owner = Origin::Function(function);
-            Reception::Arrives(arrival_at(tags, bytes, answerer_of(sender), owner))
-        } else {
-            let functions = self.state.functions();
-            Reception::Ends(request_at_function(&self.start, functions, function, view))
+        match view.status() {
+            Some(status) => {
+                let tags = self.state.open_tags();
+                let owner = Origin::Function(function);
+                let answerer = answerer_of(sender);
+                Reception::Arrives(arrival_at(tags, view, bytes, answerer, owner, status))
+            }
+            None => {
+                let functions = self.state.functions();
+                Reception::Ends(request_at_function(&self.start, functions, function, view))
+            }
         }
     }
 

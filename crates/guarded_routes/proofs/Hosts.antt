@@ -24,7 +24,7 @@ use Rattle.platform.specs.Share.{Share}
 use Rattle.layout.specs.Tables.{target_of}
 use Rattle.layout.specs.Views.{share_of_domain}
 use Rattle.tlp_view.specs.Bytes.{packet_of}
-use Rattle.tlp_view.specs.Packet.{Packet, dw_count}
+use Rattle.tlp_view.specs.Packet.{Packet, dw_count, status_in}
 use Rattle.tlp_view.specs.Runs.{is_write}
 use Rattle.domain.specs.declared.entry.Entry.TheVariants.{Carry, Deliver}
 use Rattle.request_handling.specs.declared.handling.Handling.{Handling}
@@ -32,7 +32,7 @@ use Rattle.tlp_view.specs.Kinds.{is_fetch_add}
 use Rattle.request_handling.specs.Answers.{address_of, bar_of}
 use Rattle.request_handling.specs.AtFunctions.{request_at_function}
 use Rattle.request_handling.specs.Carries.{carriage_by, carriage_of, forward, is_carried, is_owner, read_from, refused_by_host, serve, serve_add, serve_read, write_to}
-use Rattle.domain.specs.Deliveries.{arrival_of}
+use Rattle.domain.specs.Deliveries.{arrival_at, arrival_of}
 use Rattle.domain_parts.specs.Ends.{conclude}
 use Rattle.request_handling.specs.Fates as fates
 use Rattle.request_handling.specs.Heads.{head_of}
@@ -42,7 +42,7 @@ use Rattle.domain_parts.specs.State.{Alone}
 use Rattle.guarded_routes.specs.Ends.{Flies, IsFor, IsLegal, IsOwnRequest}
 use Rattle.guarded_routes.specs.Guarded.{IsFunctionOf, IsGuarded, has_id, top_id}
 use Rattle.guarded_routes.specs.Sound.{Falling, IsCleared, Reaches, Replying, Rising, is_reply, let_by}
-use Rattle.guarded_routes.proofs.Bytes.{MemoryBytes, goes_on, memory_bytes}
+use Rattle.guarded_routes.proofs.Bytes.{MemoryBytes, goes_on, memory_bytes, status_there}
 use Rattle.guarded_routes.proofs.Peers.{none_direct}
 use Rattle.guarded_routes.proofs.Finds.{any_found}
 use Rattle.guarded_routes.proofs.Below.{not_first, under_root}
@@ -193,11 +193,13 @@ module _ (platform : Platform) (g : IsGuarded platform) where
   -- ---- a completion
 
   -- one for somebody is delivered
-  pub delivers : (frame : Descriptor) (state : Alone) (x : Origin) → IsFor x frame.head.parties → Flies state frame → IsLegal platform state frame (Deliver frame.number)
-  delivers frame state x is f =
+  pub delivers : (frame : Descriptor) (state : Alone) (x : Origin) → IsFor x frame.head.parties → is_reply frame.head.header ≡ true → Flies state frame → IsLegal platform state frame (Deliver frame.number)
+  delivers frame state x is reply f =
+      let bytes = f.emission.bytes in
       let parties : f.emission.parties ≡ Answer is.0 (Some x) = ap (λ h. h.parties) (sym f.head) ∙ is.1 in
+      let arrives = some_map (arrival_at state.open_tags (packet_of bytes) bytes is.0 x) (status_in (packet_of bytes).body) (status_there f.emission.parties bytes (ap (λ h. is_reply h.header) (sym f.head) ∙ reply)) in
       subst (λ (o : Option Emission). IsSome (deliver state frame.number o)) (sym f.there)
-      (some_map _ (arrival_of state.open_tags f.emission.bytes f.emission.parties) (subst (λ (p : Parties). IsSome (arrival_of state.open_tags f.emission.bytes p)) (sym parties) refl))
+      (some_map _ (arrival_of state.open_tags bytes f.emission.parties) (subst (λ (p : Parties). IsSome (arrival_of state.open_tags bytes p)) (sym parties) arrives))
 
   same_target : (target other : ℕ) (relaxed_ordering relaxed : Bool) → header.Completion target relaxed_ordering ≡ header.Completion other relaxed → target ≡ other
   same_target target other relaxed_ordering relaxed e = cc
@@ -249,7 +251,7 @@ module _ (platform : Platform) (g : IsGuarded platform) where
     request = λ is. absurd (no_reply frame.head.header r.target r.relaxed_ordering r.reply is);
     carried = λ is state flies. absurd (no_reply frame.head.header r.target r.relaxed_ordering r.reply is);
     reply = λ target relaxed e zero. let h = for_host frame r (bus_is target relaxed e zero) in (same target relaxed e ∙ h.0, h.1);
-    delivered = λ target relaxed e zero state flies. delivers frame state (Host frame.domain) (for_host frame r (bus_is target relaxed e zero)).1 flies;
+    delivered = λ target relaxed e zero state flies. delivers frame state (Host frame.domain) (for_host frame r (bus_is target relaxed e zero)).1 (ap is_reply e) flies;
     relayed = λ target relaxed e other. relays frame r (λ zero. other (ap bus_of (same target relaxed e) ∙ zero));
   }
     where

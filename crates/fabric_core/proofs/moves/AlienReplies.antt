@@ -9,16 +9,16 @@ use Rattle.fab_types.specs.declared.head.Parties.TheVariants.{Upward, Downward, 
 use Rattle.fab_types.specs.declared.place.Place.{Place}
 use Rattle.fab_types.specs.declared.place.Place.TheVariants.{Ingress}
 use Rattle.fab_types.specs.declared.place.Way.TheVariants.{Down}
+use Rattle.fab_types.specs.declared.status.Status.{Status}
 use Rattle.platform.specs.declared.parts.DownstreamPort.{DownstreamPort}
 use Rattle.platform.specs.Owners.{is_own_function}
 use Rattle.platform.specs.Share.{Share}
 use Rattle.platform.specs.Tree.{is_switch}
 use Rattle.tlp_view.specs.Bytes.{packet_of}
-use Rattle.tlp_view.specs.Kinds.{is_completion}
 use Rattle.tlp_view.specs.Malformed.{malformed}
-use Rattle.tlp_view.specs.Packet.{Packet}
+use Rattle.tlp_view.specs.Packet.{Packet, status_in}
 use Rattle.tlp_view.specs.View.{address_type_in}
-use Rattle.domain.specs.Aliens.{alien, at_function, at_host, is_excluded, received_if, reception_by, reception_unless}
+use Rattle.domain.specs.Aliens.{alien, at_function, at_function_with, at_host, at_host_with, completion_at_host, is_excluded, received_if, reception_by, reception_unless}
 use Rattle.domain.specs.Receptions.{received}
 use Rattle.domain_parts.specs.State.{Alone, Change}
 use Rattle.request_handling.specs.declared.fate.Fate.{Fate}
@@ -32,6 +32,7 @@ use Rattle.request_handling.specs.Fates.{fate_at}
 use Rattle.request_handling.specs.Heads.{header_unless, target_for}
 use Rattle.request_handling.specs.Requests.{at_port, request_at_host}
 use Rattle.request_handling.specs.Takers.{taker_below, taker_of}
+use Rattle.guarded_routes.proofs.Bytes.{no_status}
 use Rattle.fabric_core.specs.MovesLeft.{is_request}
 use Rattle.fabric_core.proofs.effect.Answered.{refused_unless}
 use Rattle.fabric_core.proofs.moves.Replies.{IsQuiet, function_quiet}
@@ -61,28 +62,31 @@ given P p (Some e) = p
 
 module _ (s : Alone) (bytes : List ℕ) (sender : Parties) where
   -- a completion makes neither the host nor a function emit anything
-  module _ (share : Share) (t : Packet) (P : Type 0) (asks : is_completion t.kind ≡ false → P) where
+  module _ (share : Share) (t : Packet) (P : Type 0) (asks : status_in t.body ≡ None → P) where
     host_asks : IfSome (received s bytes (at_host share s bytes sender t)).emission (λ e. P)
-    host_asks = go (is_completion t.kind) (target_for sender t.requester == host_of share.domain) refl refl
+    host_asks = go (status_in t.body) refl
       where
-        go : (a b : Bool) → is_completion t.kind ≡ a → (target_for sender t.requester == host_of share.domain) ≡ b → IfSome (received s bytes (at_host share s bytes sender t)).emission (λ e. P)
-        go true true is own = rw (is, own) tt
-        go true false is own = rw (is, own) tt
-        go false b is own = rw is (given P (asks is) (request_at_host share s.frames t (address_type_in t)).reply)
+        completes : (status : Status) (b : Bool) → (target_for sender t.requester == host_of share.domain) ≡ b → IfSome (received s bytes (completion_at_host share s.open_tags bytes sender t status)).emission (λ e. P)
+        completes status true own = rw own tt
+        completes status false own = rw own tt
+
+        go : (o : Option Status) → status_in t.body ≡ o → IfSome (received s bytes (at_host_with o share s bytes sender t)).emission (λ e. P)
+        go None is = given P (asks is) (request_at_host share s.frames t (address_type_in t)).reply
+        go (Some status) is = completes status (target_for sender t.requester == host_of share.domain) refl
 
     function_asks : (function : ℕ) → IfSome (received s bytes (at_function share s function bytes sender t)).emission (λ e. P)
-    function_asks function = go (is_completion t.kind) refl
+    function_asks function = go (status_in t.body) refl
       where
-        go : (a : Bool) → is_completion t.kind ≡ a → IfSome (received s bytes (at_function share s function bytes sender t)).emission (λ e. P)
-        go true is = rw is tt
-        go false is = rw is (given P (asks is) (request_at_function share s.registers function t).reply)
+        go : (o : Option Status) → status_in t.body ≡ o → IfSome (received s bytes (at_function_with o share s function bytes sender t)).emission (λ e. P)
+        go None is = given P (asks is) (request_at_function share s.registers function t).reply
+        go (Some status) is = tt
 
   taker_asks : (cause : Option Malformed) → malformed bytes ≡ cause → (share : Share) (taker : Taker) → Asks sender bytes (received s bytes (reception_unless cause share s bytes sender taker)).emission
   taker_asks (Some cause) e share taker = tt
   taker_asks None e share taker = go taker
     where
-      well : is_completion (packet_of bytes).kind ≡ false → is_request (header_unless (malformed bytes) sender bytes) ≡ true
-      well is = ap (λ (cause : Option Malformed). is_request (header_unless cause sender bytes)) e ∙ request_of sender (packet_of bytes) is
+      well : status_in (packet_of bytes).body ≡ None → is_request (header_unless (malformed bytes) sender bytes) ≡ true
+      well is = ap (λ (cause : Option Malformed). is_request (header_unless cause sender bytes)) e ∙ request_of sender (packet_of bytes) (no_status bytes is)
 
       go : (taker : Taker) → Asks sender bytes (received s bytes (reception_unless None share s bytes sender taker)).emission
       go Host = host_asks share (packet_of bytes) (is_request (header_unless (malformed bytes) sender bytes) ≡ true) well
@@ -93,11 +97,11 @@ module _ (s : Alone) (bytes : List ℕ) (sender : Parties) where
   -- ---- at a function
 
   function_sends : (share : Share) (function : ℕ) (t : Packet) → IsQuiet (received s bytes (at_function share s function bytes sender t)).emission
-  function_sends share function t = go (is_completion t.kind) refl
+  function_sends share function t = go (status_in t.body)
     where
-      go : (a : Bool) → is_completion t.kind ≡ a → IsQuiet (received s bytes (at_function share s function bytes sender t)).emission
-      go true is = rw is tt
-      go false is = rw is (function_quiet share s.registers function t)
+      go : (o : Option Status) → IsQuiet (received s bytes (at_function_with o share s function bytes sender t)).emission
+      go None = function_quiet share s.registers function t
+      go (Some status) = tt
 
   -- what stands at the lower end of a link
   module _ (share : Share) (function : ℕ) where

@@ -140,7 +140,7 @@ module _ (w : World) (kept : IsConsistent w) (g : IsGuardedFabric w) (function :
   delivered_here : is_reply t.frame.head.header ≡ true → Deed g.platform w (left_by Receipt.Deliver)
   delivered_here reply =
       completes w kept g (to_function function) t k (IsLast.AtFunction function (reply_at g.platform g.guarded function t.frame is_listed k.soundly.sound reply))
-      (λ d old share flies. delivers g.platform g.guarded t.frame d.state (Function function) (reply_at g.platform g.guarded function t.frame is_listed k.soundly.sound reply) flies)
+      (λ d old share flies. delivers g.platform g.guarded t.frame d.state (Function function) (reply_at g.platform g.guarded function t.frame is_listed k.soundly.sound reply) reply flies)
 
   is_meant : (h : Header) → t.frame.head.header ≡ h → IsMeantFor g.platform t.frame.domain function t.frame.head.parties h
   is_meant h same = meant w g function home t k.soundly h same

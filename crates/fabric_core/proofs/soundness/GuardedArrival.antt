@@ -92,7 +92,7 @@ module _ (w : World) (g : IsGuardedFabric w) (function : ℕ) (home : FunctionHo
 
   delivered_here : is_reply t.frame.head.header ≡ true → IsGuardedFabric (left_by Receipt.Deliver)
   delivered_here reply =
-      guarded_delivery w g (to_function function) t k (λ d old share flies. delivers g.platform g.guarded t.frame d.state (Function function) (reply_at g.platform g.guarded function t.frame listed k.sound reply) flies)
+      guarded_delivery w g (to_function function) t k (λ d old share flies. delivers g.platform g.guarded t.frame d.state (Function function) (reply_at g.platform g.guarded function t.frame listed k.sound reply) reply flies)
 
   pub meant : (h : Header) → t.frame.head.header ≡ h → IsMeantFor g.platform t.frame.domain function t.frame.head.parties h
   meant h same = subst (IsMeantFor g.platform t.frame.domain function t.frame.head.parties) same (meant_at g.platform g.guarded function t.frame listed k.sound)

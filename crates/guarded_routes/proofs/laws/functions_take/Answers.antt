@@ -10,7 +10,7 @@ pub returns-clause-reply : goal.returns-clause-reply
 returns-clause-reply c = λ platform function frame guarded listed sound reply. reply_at platform guarded function frame listed sound reply
 
 pub returns-clause-delivered : goal.returns-clause-delivered
-returns-clause-delivered c = λ platform function frame state guarded listed sound reply flies. delivers platform guarded frame state (Function function) (reply_at platform guarded function frame listed sound reply) flies
+returns-clause-delivered c = λ platform function frame state guarded listed sound reply flies. delivers platform guarded frame state (Function function) (reply_at platform guarded function frame listed sound reply) reply flies
 
 pub returns-clause-request : goal.returns-clause-request
 returns-clause-request c = λ platform function frame guarded listed sound request. request_at platform guarded function frame listed sound request
