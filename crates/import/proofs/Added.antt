@@ -1,6 +1,6 @@
 -- A line is added to a layout exactly where no rule is against it.
-use Rattle.std.proofs.Common.{◌≡◌, ℕ, Bool, true, false, cond, refl, sym, ap, ◌∙◌, List, [], ◌∷◌, ◌++◌, length, Option, Some, None, arith}
-use Rattle.std.specs.Prelude.{◌||◌, nat_le, Result, Ok, Err}
+use Rattle.std.proofs.Common.{◌≡◌, ℕ, Bool, true, false, refl, sym, ap, ◌∙◌, List, [], ◌∷◌, ◌++◌, Option, Some, None, arith}
+use Rattle.std.specs.Prelude.{◌||◌, Result, Ok, Err}
 use Rattle.std.specs.List.{list_any, list_all}
 use Rattle.std.proofs.lemmas.Bool.{and_parts, and_from, cond-false}
 use Rattle.std.proofs.lemmas.Bool.Decides.{nat_tests}
@@ -20,9 +20,10 @@ use Rattle.line_texts.proofs.LinesRead.{layout_line_read}
 use Rattle.line_texts.proofs.WrittenLines.{layout_line_is_line, no_comment}
 use Rattle.platform.specs.Platform.{Platform}
 use Rattle.platform.specs.Tree.{has_root}
-use Rattle.import.specs.Drafts.{is_plain, is_printable}
+use Rattle.import.specs.Comments.{IsPrintable, is_printable}
+use Rattle.import.specs.DraftViews.{Written}
 use Rattle.import.specs.Stated.{IsStated}
-use Rattle.import.proofs.Grown.{IsGrown, is-grown}
+use Rattle.import.proofs.Grown.{is-grown}
 
 -- ---- lines that devices have
 
@@ -111,6 +112,10 @@ refused text more p f line h e same read =
     let r : reading (text ++ (layout_line_text line ++ (10 ∷ []))) ≡ Err f = rw same at read in
     against l.0 p line f (fault_of p line) refl (sym l.1 ∙ r)
 
+-- the same layout, and the same text
+pub written : (p q : Platform) (one other : List ℕ) → p ≡ q → one ≡ other → ◌≡◌ {A = Written} (record { platform = p; text = one }) (record { platform = q; text = other })
+written p q one other same texts = rw (same, texts) refl
+
 -- ---- comments
 
 inline-of : (b : ℕ) → is_printable b ≡ true → is_inline b ≡ true
@@ -130,9 +135,8 @@ unfolding with_line
 comment-end number p words root = rw root refl
 
 -- a comment says nothing
-pub commented : (text words : List ℕ) (p : Platform) → is_plain words ≡ true → reading text ≡ Ok p
+pub commented : (text words : List ℕ) (p : Platform) → IsPrintable words → reading text ≡ Ok p
     → reading (text ++ (35 ∷ 32 ∷ (words ++ (10 ∷ [])))) ≡ Ok p
-commented text words p plain e =
+commented text words p inside e =
     let grown = is-grown text p e in
-    let inside : list_all is_printable words ≡ true = (and_parts (nat_le (length words) 200) (list_all is_printable words) plain).1 in
     grown.more (35 ∷ 32 ∷ words) (comment-line words inside) ∙ comment-end grown.later p (32 ∷ words) grown.root

@@ -1,5 +1,5 @@
 -- The first lines of a layout are read.
-use Rattle.std.proofs.Common.{◌≡◌, refl, List, ℕ, [], ◌∷◌, ◌++◌, Ok}
+use Rattle.std.proofs.Common.{◌≡◌, refl, Ok}
 use Rattle.std.specs.Prelude.{codes}
 use Rattle.text.specs.Text.{cut, decimal, id_at}
 use Rattle.layout.specs.Reading.{reading, with_layout_line, with_line}

@@ -1,8 +1,6 @@
 -- A text that is read, with one line more: that line is read behind the others.
 use Rattle.std.proofs.Common.{◌≡◌, ℕ, ◌==◌, Bool, true, false, cond, refl, sym, ap, ◌∙◌, List, [], ◌∷◌, ◌++◌, Option, Some, None}
-use Rattle.std.specs.Prelude.{◌&&◌, Result, Ok, Err}
-use Rattle.std.specs.Str.{bytes_eq}
-use Rattle.std.proofs.lemmas.Bool.{cond-false}
+use Rattle.std.specs.Prelude.{Result, Ok, Err}
 use Rattle.fab_types.specs.declared.faults.layout.LayoutCause.{LayoutCause}
 use Rattle.fab_types.specs.declared.faults.layout.LayoutCause.TheVariants as cause
 use Rattle.fab_types.specs.declared.faults.layout.LayoutFault.{LayoutFault}

@@ -1,5 +1,5 @@
 -- Numbers in hexadecimal digits, byte by byte.
-use Rattle.std.proofs.Common.{◌≡◌, ℕ, suc, ◌+◌, ◌*◌, ◌/◌, ◌%◌, ◌-◌, ◌^◌, ◌<◌, Bool, false, refl, sym, ap, ◌∙◌, List, [], ◌∷◌, ◌++◌, arith}
+use Rattle.std.proofs.Common.{◌≡◌, ℕ, suc, ◌/◌, ◌%◌, ◌-◌, ◌^◌, ◌<◌, false, refl, sym, ap, ◌∙◌, List, [], ◌∷◌, ◌++◌, arith}
 use Rattle.std.specs.Fmt.{digit_glyph, digits, format_spec, padded_integral}
 use Rattle.std.proofs.lemmas.Fmt.{hex_byte}
 use Rattle.line_texts.specs.Words.{hex_before, hex_text}

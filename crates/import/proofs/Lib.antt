@@ -5,3 +5,6 @@ pub mod Added
 pub mod Hex
 pub mod Begins
 pub mod Joined
+pub mod Naming
+pub mod Printed
+pub mod PartByPart

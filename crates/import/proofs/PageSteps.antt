@@ -1,5 +1,5 @@
 -- A walk of some registers looks at one, and then walks one less.
-use Rattle.std.proofs.Common.{◌≡◌, ℕ, zero, suc, ◌+◌, ◌<◌, ◌≤◌, ◌-◌, cond, List, Option, Some, None, refl, arith}
+use Rattle.std.proofs.Common.{◌≡◌, ℕ, zero, suc, ◌+◌, ◌<◌, ◌-◌, cond, List, None, refl, arith}
 use Rattle.std.specs.Prelude.{nat_le, option_and_then}
 use Rattle.lspci.specs.Bars.{bar_at}
 use Rattle.import.specs.declared.role.LowWindow.{LowWindow}

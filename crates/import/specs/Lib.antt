@@ -7,8 +7,12 @@ pub mod Statements
 pub mod Stated
 pub mod Fields
 pub mod Refusals
+pub mod Comments
+pub mod NameViews
+pub mod Names
 pub mod DraftViews
 pub mod Drafts
 pub mod DeviceViews
 pub mod Devices
+pub mod Told
 pub mod Imports

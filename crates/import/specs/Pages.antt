@@ -1,5 +1,5 @@
 -- The register page of a function: a page that one of its base address registers begins (PCIe 4.0, 7.5.1.2.1).
-use Rattle.std.specs.Prelude.{ℕ, zero, suc, ◌+◌, ◌%◌, ◌^◌, ◌==◌, Bool, ◌&&◌, ◌||◌, nat_le, nat_lt, List, Option, Some, None, option_and_then, if◌then◌else◌}
+use Rattle.std.specs.Prelude.{ℕ, zero, suc, ◌+◌, ◌%◌, ◌^◌, ◌==◌, Bool, ◌&&◌, nat_le, nat_lt, List, Option, Some, None, option_and_then, if◌then◌else◌}
 use Rattle.lspci.specs.declared.bars.Bar.{Bar}
 use Rattle.lspci.specs.declared.bars.Bar.TheVariants.{NoMemory, Memory, WideMemory}
 use Rattle.lspci.specs.Bars.{bar_at}

@@ -1,5 +1,5 @@
 -- The lines that devices have in a layout, with numbers that have room in their fields.
-use Rattle.std.specs.Prelude.{ℕ, ◌<◌, ◌^◌}
+use Rattle.std.specs.Prelude.{◌<◌, ◌^◌}
 use Rattle.layout_line.specs.declared.lines.LayoutLine.{LayoutLine}
 use Rattle.layout_line.specs.declared.lines.LayoutLine.TheVariants.{Port, Switch, Function, Map}
 use Rattle.line_texts.specs.Ranges.{IsId, IsMapLine, IsPortLine}

@@ -1,10 +1,9 @@
 -- The part of a machine that a layout is made of: what is below some ports, which are those of the top switch.
-use Rattle.std.specs.Prelude.{ℕ, ◌+◌, ◌-◌, min, ◌==◌, Bool, false, ◌&&◌, nat_le, nat_lt, List, take, drop, Option, Some, None, option_map, option_and_then, Result, Ok, Err, if◌then◌else◌}
+use Rattle.std.specs.Prelude.{ℕ, ◌+◌, ◌-◌, min, ◌==◌, Bool, ◌&&◌, nat_le, nat_lt, List, take, drop, Option, Some, None, option_map, Result, Ok, Err, if◌then◌else◌}
 use Rattle.std.specs.List.{find, list_any}
 use Rattle.text.specs.Text.{◌>>=◌}
 use Rattle.fab_types.specs.Id.{bus_of}
 use Rattle.lspci.specs.declared.dump.Device.{Device}
-use Rattle.lspci.specs.declared.header.BridgeBuses.{BridgeBuses}
 use Rattle.lspci.specs.Acs.{is_number}
 use Rattle.lspci.specs.Dumps.{DumpText}
 use Rattle.lspci.specs.Headers.{buses_of}

@@ -3,13 +3,15 @@
 ghost use Rattle.std.specs.Prelude.{◌≡◌, ◌≤◌, IfOk};
 ghost use Rattle.import.specs.Devices.{first_map, leaving_out, no_devices, with_device, with_extras, with_map, with_more, with_statement};
 ghost use Rattle.import.specs.Stated.{IsStated};
+ghost use Rattle.import.specs.Told.{IsTold};
 
 use crate::draft::Draft;
 use crate::fault::{LeftOut, Reason};
-use crate::names::{Names, remark_on};
+use crate::names::Names;
 use crate::owners::Owner;
 use crate::role::{has_further_controls, has_further_window};
 use crate::statements::statement_of;
+use crate::telling::{tell_device, tell_left_out};
 use crate::tree::Tree;
 use fab_types::NoMemory;
 use layout_line::{FunctionText, LayoutLine, MapText, RightsText, TargetText};
@@ -64,24 +66,6 @@ fn first_map(function: &FunctionText, count: usize) -> LayoutLine
     })
 }
 
-/// Tells in comments what the layout hasn't.
-fn tell_left_out(
-    alloc: Global,
-    draft: &mut Draft,
-    left_out: &[LeftOut],
-    names: &mut Names<'_>,
-) -> Result<(), NoMemory>
-    ensures { draft.new ≡ draft.old }
-{
-    for part in left_out {
-        let name = names.name_of(alloc, part.line, &part.location)?;
-        let reason = part.reason;
-        let comment = format!(in alloc; "left out: {name}: {reason}")?;
-        draft.note(alloc, &comment)?;
-    }
-    Ok(())
-}
-
 impl Devices {
     /// No device.
     pub fn start(alloc: Global) -> Result<Devices, NoMemory>
@@ -128,26 +112,6 @@ impl Devices {
         Ok(())
     }
 
-    /// Tells which device the line is of that was added last, and of a port what has to be told of its controls.
-    fn tell(
-        &mut self,
-        alloc: Global,
-        dump: &Dump,
-        device: &Device,
-        line: &LayoutLine,
-        name: &str,
-    ) -> Result<(), NoMemory>
-        ensures { self.new ≡ self.old }
-    {
-        self.draft.note(alloc, name)?;
-        if let LayoutLine::Port(_) = line {
-            if let Some(remark) = remark_on(&dump.space(device)) {
-                self.draft.note(alloc, remark)?;
-            }
-        }
-        Ok(())
-    }
-
     /// Adds what goes with a line.
     fn add_more(
         &mut self,
@@ -175,13 +139,14 @@ impl Devices {
         line: &LayoutLine,
     ) -> Result<(), NoMemory>
         requires { IsStated line.now }
-        ensures { IfOk result (λ _. self.new ≡ with_statement dump.now device.now line.now self.old) }
+        ensures made { IfOk result (λ _. self.new ≡ with_statement names.old dump.now device.now line.now self.old) }
+        ensures names { names.new ≡ names.old }
     {
         match self.draft.add(alloc, line)? {
             Some(cause) => self.leave_out(device, Reason::Rule(cause)),
             None => {
                 let name = names.name_of(alloc, device.line, &device.location)?;
-                self.tell(alloc, dump, device, line, &name)?;
+                tell_device(alloc, &mut self.draft, dump, device, line, &name)?;
                 self.add_more(alloc, dump, device, line)
             }
         }
@@ -196,7 +161,8 @@ impl Devices {
         names: &mut Names<'_>,
         device: &Device,
     ) -> Result<(), NoMemory>
-        ensures { IfOk result (λ _. self.new ≡ with_device source.now.dump.now source.now.tree source.now.owners.now self.old device.now) }
+        ensures made { IfOk result (λ _. self.new ≡ with_device names.old source.now.dump.now source.now.tree source.now.owners.now self.old device.now) }
+        ensures names { names.new ≡ names.old }
     {
         let ports = self.draft.layout().ports();
         match statement_of(source.dump, &source.tree, source.owners, ports, device) {
@@ -207,7 +173,7 @@ impl Devices {
 
     /// Tells in comments what the layout hasn't.
     pub fn tell_left_out(&mut self, alloc: Global, names: &mut Names<'_>) -> Result<(), NoMemory>
-        ensures { self.new ≡ self.old }
+        ensures { IfOk result (λ _. IsTold names.old self.old self.new) }
     {
         tell_left_out(alloc, &mut self.draft, &self.left_out, names)
     }

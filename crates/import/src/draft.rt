@@ -1,8 +1,8 @@
 //! A layout that is made line by line.
 
 ghost use Rattle.std.specs.Prelude.{◌≡◌, IfOk};
-ghost use Rattle.std.specs.List.{list_all};
-ghost use Rattle.import.specs.Drafts.{Attempt, is_plain, is_printable, start};
+ghost use Rattle.import.specs.Comments.{IsPrintable};
+ghost use Rattle.import.specs.Drafts.{Attempt, noted, start, start_text};
 ghost use Rattle.import.specs.Stated.{IsStated};
 
 use crate::line::line_text;
@@ -15,10 +15,7 @@ use std::marker::Model;
 /// The first lines of each layout: as many frames as functions may need, and the top switch.
 const START: &str = "pciefab 1\nframes 64\nswitch 01:00.0 root\n";
 
-/// The longest comment, in bytes.
-const LONGEST: usize = 200;
-
-/// A text, and the layout that it is read as. A contract sees the platform.
+/// A text, and the layout that it is read as.
 #[derive(Drop)]
 pub struct Draft {
     text: String,
@@ -26,13 +23,11 @@ pub struct Draft {
 }
 
 impl Model for Draft {
-    ghost use Rattle.platform.specs.Platform.{Platform};
+    ghost use Rattle.import.specs.DraftViews.{IsDraft, Written, written_of};
 
-    ghost Value = { Platform };
+    ghost Value = { Written };
 
-    ghost use Rattle.import.specs.DraftViews.{IsDraft, platform_of};
-
-    ghost view = { platform_of };
+    ghost view = { written_of };
 
     ghost invariant = { IsDraft };
 }
@@ -43,7 +38,7 @@ impl Draft {
 
     /// The layout without a port.
     pub fn start(alloc: Global) -> Result<Draft, NoMemory>
-        ensures { IfOk result (λ draft. draft ≡ start) }
+        ensures { IfOk result (λ draft. draft ≡ record { platform = start; text = start_text }) }
     {
         let text = String::from_str(alloc, START)?;
         match Layout::read(alloc, &text) {
@@ -54,14 +49,15 @@ impl Draft {
 
     /// The layout, as it is so far.
     pub fn layout(&self) -> &Layout
-        ensures { result.now ≡ self.now }
+        ensures { result.now ≡ self.now.platform }
     {
         &self.layout
     }
 
     /// The text of the layout.
     pub fn text(&self) -> &str
-        ensures { reading result.now ≡ Ok self.now }
+        ensures text { result.now ≡ self.now.text }
+        ensures layout { reading result.now ≡ Ok self.now.platform }
     {
         self.text.as_str()
     }
@@ -87,27 +83,13 @@ impl Draft {
         }
     }
 
-    /// Adds a comment, if it is short and has printable characters of ASCII alone.
+    /// Adds a comment.
     pub fn note(&mut self, alloc: Global, comment: &str) -> Result<(), NoMemory>
-        ensures { self.new ≡ self.old }
+        requires { IsPrintable comment.now }
+        ensures { IfOk result (λ _. self.new ≡ noted comment.now self.old) }
     {
-        if !is_plain(comment) {
-            return Ok(());
-        }
         let text = &self.text;
         self.text = format!(in alloc; "{text}# {comment}\n")?;
         Ok(())
     }
-}
-
-fn is_printable(comment: &[u8]) -> bool
-    ensures { result ≡ list_all is_printable comment.now }
-{
-    comment.iter().all(|byte| 32 <= *byte && *byte < 127)
-}
-
-fn is_plain(comment: &str) -> bool
-    ensures { result ≡ is_plain comment.now }
-{
-    comment.len() <= LONGEST && is_printable(comment.as_bytes())
 }

@@ -2,6 +2,7 @@
 
 ghost use Rattle.std.specs.Prelude.{◌≡◌, IfOk};
 ghost use Rattle.import.specs.Imports.{IsAnswer, import_of, imported};
+ghost use Rattle.import.specs.Told.{IsTold};
 
 use crate::devices::{Devices, Source};
 use crate::fault::{ImportFault, LeftOut};
@@ -15,7 +16,7 @@ use std::alloc::Global;
 use std::marker::Model;
 
 /// A layout that was made of a dump.
-/// A contract sees its platform, and what it hasn't of the devices.
+/// A contract sees its platform and its text, and what it hasn't of the devices.
 #[derive(Drop)]
 pub struct Import {
     devices: Devices,
@@ -35,7 +36,8 @@ impl Import {
 
     /// The text of the layout, with comments.
     pub fn text(&self) -> &str
-        ensures { reading result.now ≡ Ok self.now.platform }
+        ensures text { result.now ≡ self.now.layout.text }
+        ensures layout { reading result.now ≡ Ok self.now.layout.platform }
     {
         self.devices.draft.text()
     }
@@ -50,7 +52,7 @@ impl Import {
 
 #[tactic(auto, unfolding(crate::specs::Imports::imported))]
 fn imported(alloc: Global, source: &Source<'_>, text: &str) -> Result<Devices, NoMemory>
-    ensures { IfOk result (λ devices. devices ≡ imported source.now.dump.now source.now.tree source.now.owners.now) }
+    ensures { IfOk result (IsTold text.now (imported text.now source.now.dump.now source.now.tree source.now.owners.now)) }
 {
     let mut devices = Devices::start(alloc)?;
     let mut names = Names::new(text);
@@ -77,7 +79,7 @@ pub fn import_dump(
     root: Option<Bdf>,
     owners: &[Owner],
 ) -> Result<Import, ImportFault>
-    ensures exact { IsAnswer (import_of dump.now root owners.now) result }
+    ensures exact { IsAnswer text.now (import_of text.now dump.now root owners.now) result }
 {
     let tree = tree_of(dump, root)?;
     if let Some(fault) = refusal(dump, &tree, owners) {

@@ -1,6 +1,7 @@
 //! A layout from the devices of a real machine, as `lspci` shows them.
 #![tactic(auto)]
 
+mod comments;
 mod devices;
 mod domains;
 mod draft;
@@ -13,6 +14,7 @@ mod pages;
 mod refusals;
 mod role;
 mod statements;
+mod telling;
 mod tree;
 
 pub use fault::{ImportFault, LeftOut, Reason};

@@ -1,7 +1,6 @@
-use Rattle.std.proofs.Common.{rules, ◌≡◌, ℕ, List, Ok, ap, sym, ◌∙◌}
+use Rattle.std.proofs.Common.{rules, ◌≡◌, ap, sym, ◌∙◌}
 use Rattle.std.specs.Prelude.{codes}
 use Rattle.layout.specs.Reading.{reading}
-use Rattle.import.specs.Drafts.{start}
 use Rattle.import.proofs.Begins.{start-read}
 use Rattle.import.proofs.draft.Draft.start.Goals as goal
 

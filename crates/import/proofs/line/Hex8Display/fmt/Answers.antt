@@ -1,6 +1,5 @@
-use Rattle.std.proofs.Common.{rules, ◌≡◌, ◌<◌, ◌^◌, ◌/◌, ◌%◌, ◌++◌, arith}
-use Rattle.line_texts.specs.Words.{hex_text}
-use Rattle.import.proofs.Hex.{byte_of, hex_eight}
+use Rattle.std.proofs.Common.{rules, ◌<◌, ◌^◌, arith}
+use Rattle.import.proofs.Hex.{hex_eight}
 use Rattle.import.proofs.line.Hex8Display.fmt.Goals as goal
 
 pub returns-clause-writes : goal.returns-clause-writes

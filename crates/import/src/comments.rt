@@ -1,0 +1,27 @@
+//! The words of comments.
+
+ghost use Rattle.std.specs.Prelude.{◌≡◌, IfOk, string_bytes};
+ghost use Rattle.std.specs.List.{list_all};
+ghost use Rattle.import.specs.Comments.{IsPrintable, is_printable};
+
+use crate::fault::Reason;
+use std::alloc::{AllocError, Global};
+
+/// Are these printable characters of ASCII alone?
+pub fn is_printable(words: &[u8]) -> bool
+    ensures { result ≡ list_all is_printable words.now }
+{
+    words.iter().all(|byte| 32 <= *byte && *byte < 127)
+}
+
+/// The words of a reason, or none if they couldn't stand in a comment.
+pub fn words_of(alloc: Global, reason: &Reason) -> Result<String, AllocError>
+    ensures { IfOk result (λ words. IsPrintable (string_bytes words)) }
+{
+    let words = format!(in alloc; "{reason}")?;
+    if is_printable(words.as_bytes()) {
+        Ok(words)
+    } else {
+        Ok(String::new(alloc))
+    }
+}
