@@ -34,9 +34,9 @@ fault_of (refused.NoDevice id) = fault.NoDevice id
 fault_of (refused.TwoOwners one other) = fault.TwoOwners one other
 fault_of refused.NoMemory = fault.NoMemory
 
--- there is no layout of the dump
-abbrev pub IsNoImport : DumpText → Option ℕ → List Owner → Fault → Type 0
-IsNoImport dump root owners f = (reason : ImportFault) × (import_of dump root owners ≡ Err reason) × (f ≡ fault_of reason)
+-- there is no layout of the dump, which has this text
+abbrev pub IsNoImport : List ℕ → DumpText → Option ℕ → List Owner → Fault → Type 0
+IsNoImport text dump root owners f = (reason : ImportFault) × (import_of text dump root owners ≡ Err reason) × (f ≡ fault_of reason)
 
 -- there is no layout of a dump and a list that the files of these names may have
 pub record IsNoLayoutOfDump (holds : List ℕ → List ℕ → Type 0) (dump_name : List ℕ) (owners_name : Option (List ℕ)) (root : Option ℕ) (f : Fault) : Type 0 where
@@ -46,7 +46,7 @@ pub record IsNoLayoutOfDump (holds : List ℕ → List ℕ → Type 0) (dump_nam
   pub is_dump : dumps.reading dump_text ≡ Ok dump
   pub list : List Owner
   pub owners : AreOwners holds owners_name list
-  pub refused : IsNoImport dump root list f
+  pub refused : IsNoImport dump_text dump root list f
 
 -- the file of this name has no text, or one that is refused as a list of owners
 abbrev pub IsNoList : (List ℕ → Type 0) → (List ℕ → List ℕ → Type 0) → Option (Bor (List ℕ)) → Fault → Type 0

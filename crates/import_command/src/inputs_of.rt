@@ -2,7 +2,7 @@
 
 ghost use Rattle.std.specs.Prelude.{◌≡◌, ◌⊎◌, IfErr, IfOk, Ok, option_map};
 ghost use Rattle.lspci.specs.Reading as dumps;
-ghost use Rattle.import.specs.Imports.{import_of};
+ghost use Rattle.import.specs.Imports.{IsMade, import_of};
 ghost use Rattle.import.specs.Owners as lists;
 ghost use Rattle.import_command.specs.Printed.{AreOwners};
 ghost use Rattle.import_command.specs.Refusals.{IsFaultyDump, IsFaultyList, IsNoList, IsNoImport, fault_of};
@@ -91,8 +91,8 @@ pub fn made_of<'a>(
     root: Option<Bdf>,
     owners: &[Owner],
 ) -> Result<Import, Fault<'a>>
-    ensures ok { IfOk result (λ made. import_of dump.now root owners.now ≡ Ok made) }
-    ensures fault { IfErr result (λ f. (f ≡ Fault.NoMemory) ⊎ IsNoImport dump.now root owners.now f) }
+    ensures ok { IfOk result (λ made. IsMade text.now (import_of text.now dump.now root owners.now) made) }
+    ensures fault { IfErr result (λ f. (f ≡ Fault.NoMemory) ⊎ IsNoImport text.now dump.now root owners.now f) }
 {
     match import_dump(alloc, dump, text, root, owners) {
         Ok(made) => Ok(made),
