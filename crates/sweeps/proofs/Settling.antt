@@ -34,7 +34,7 @@ use Rattle.sweeps.specs.Sweeps.{IsSweep, Places, Sweeps, both_ways, host_outbox,
 -- ---- one event
 
 -- it is no begin, so it is never refused
-abbrev NeverRefused : Event → Type 0
+abbrev pub NeverRefused : Event → Type 0
 NeverRefused event = (w : World) → refusal w event ≡ None
 
 unmoved : (w v : World) (event : Event) (outcome : Outcome) → NeverRefused event → StepsTo w event outcome v → is_moved outcome ≡ false → lacks_memory outcome ≡ false → (effect w event ≡ None) × (v ≡ w)
@@ -59,12 +59,12 @@ others_never (station.Link direction) = All-cons NeverRefused (Take direction) (
 others_never station.Host = All-nil NeverRefused
 others_never (station.Function function) = All-nil NeverRefused
 
-classes_never : (s : Station) → All NeverRefused (map (taking s) classes)
+pub classes_never : (s : Station) → All NeverRefused (map (taking s) classes)
 classes_never s =
     All-cons NeverRefused (taking s Posted) (taking s NonPosted ∷ taking s Completion ∷ []) (taking_never s Posted)
     (All-cons NeverRefused (taking s NonPosted) (taking s Completion ∷ []) (taking_never s NonPosted) (All-cons NeverRefused (taking s Completion) [] (taking_never s Completion) (All-nil NeverRefused)))
 
-station_never : (s : Station) → All NeverRefused (events_at s)
+pub station_never : (s : Station) → All NeverRefused (events_at s)
 station_never s = All-append NeverRefused (map (taking s) classes) (others_at s) (classes_never s) (others_never s)
 
 all_never : (ss : List Station) → All NeverRefused (flat_map events_at ss)
@@ -73,10 +73,10 @@ all_never (s ∷ ss) = All-append NeverRefused (events_at s) (flat_map events_at
 
 -- ---- a sweep
 
-abbrev IsIdle : World → Event → Type 0
+abbrev pub IsIdle : World → Event → Type 0
 IsIdle w event = effect w event ≡ None
 
-all_unmoved : (w v : World) (events : List Event) (outcomes : List Outcome) → All NeverRefused events → Run w events outcomes v → list_any is_moved outcomes ≡ false → list_any lacks_memory outcomes ≡ false
+pub all_unmoved : (w v : World) (events : List Event) (outcomes : List Outcome) → All NeverRefused events → Run w events outcomes v → list_any is_moved outcomes ≡ false → list_any lacks_memory outcomes ≡ false
     → All (IsIdle w) events × (v ≡ w)
 all_unmoved w v [] [] never run moved memory = (All-nil (IsIdle w), run)
 all_unmoved w v [] (outcome ∷ outcomes) never run moved memory = absurd run

@@ -1,1 +1,4 @@
 pub mod Sweeps
+pub mod Asleep
+pub mod Swept
+pub mod Sleepers

@@ -24,7 +24,7 @@ fn has_moved(outcome: Outcome) -> Result<bool, NoMemory>
 }
 
 /// Makes the event. Did it move something? It answers `NoMemory` where it was refused memory.
-fn make<R: Wait>(rt: &R, fabric: &mut Fabric, event: &Event) -> Result<bool, NoMemory>
+pub(crate) fn make<R: Wait>(rt: &R, fabric: &mut Fabric, event: &Event) -> Result<bool, NoMemory>
     ensures made { IfOk result (λ moved. Sweeps (event.now ∷ []) fabric.old moved fabric.new) }
     ensures cut_short { OnErr result (CutShort (event.now ∷ []) fabric.old fabric.new) }
 {
@@ -32,7 +32,11 @@ fn make<R: Wait>(rt: &R, fabric: &mut Fabric, event: &Event) -> Result<bool, NoM
 }
 
 /// Makes an event that takes a packet, if there is one for it to take.
-fn make_taking<R: Wait>(rt: &R, fabric: &mut Fabric, event: &Event) -> Result<bool, NoMemory>
+pub(crate) fn make_taking<R: Wait>(
+    rt: &R,
+    fabric: &mut Fabric,
+    event: &Event,
+) -> Result<bool, NoMemory>
     requires { takes_packet event.now ≡ true }
     ensures made { IfOk result (λ moved. Sweeps (event.now ∷ []) fabric.old moved fabric.new) }
     ensures cut_short { OnErr result (CutShort (event.now ∷ []) fabric.old fabric.new) }
@@ -86,7 +90,11 @@ fn take_leaving<R: Wait>(
 }
 
 /// Makes the events by which a packet of each class is taken at a station.
-fn take_each<R: Wait>(rt: &R, fabric: &mut Fabric, station: &Station) -> Result<bool, NoMemory>
+pub(crate) fn take_each<R: Wait>(
+    rt: &R,
+    fabric: &mut Fabric,
+    station: &Station,
+) -> Result<bool, NoMemory>
     ensures made { IfOk result (λ moved. Sweeps (map (taking station.now) classes) fabric.old moved fabric.new) }
     ensures cut_short { OnErr result (CutShort (map (taking station.now) classes) fabric.old fabric.new) }
 {

@@ -1,0 +1,181 @@
+-- The places of the stations that may be woken, and the stops of a sweep.
+use Rattle.std.proofs.Common.{◌≡◌, ◌⊎◌, inl, inr, ℕ, zero, suc, ◌+◌, ◌<◌, ◌≤◌, Bool, true, false, cond, List, [], ◌∷◌, ◌++◌, length, map, get_or, take, Option, Some, None, refl, sym, ap, ◌∙◌, subst, arith}
+use Rattle.std.specs.Prelude.{All, Contains, IfSome, slice_get, slice_index_or, option_map}
+use Rattle.std.specs.List.{position}
+use Rattle.std.proofs.lemmas.Bool.{false≢true}
+use Rattle.std.proofs.lemmas.List.Quantifiers.{position-Some}
+use Rattle.std.proofs.lemmas.List.{length-map}
+use Rattle.std.proofs.lemmas.List.Elements.{All-append, All-cons, All-contains, All-nil, Contains-append_left, Contains-append_right}
+use Rattle.std.proofs.lemmas.Option.{same_Some, slice_get-get_or, slice_get-map, slice_get_read, slice_get_within}
+use Rattle.topology.proofs.Members.{here}
+use Rattle.reports.proofs.Taking.{take_all, take_next}
+use Rattle.topology.specs.Topologies.{Tree}
+use Rattle.fabric_core.specs.declared.station.Station.{Station}
+use Rattle.waking.specs.Waking.{changes_outbox}
+use Rattle.sweeps.specs.declared.site.How.{How}
+use Rattle.sweeps.specs.declared.site.Site.{Site}
+use Rattle.sweeps.specs.declared.stop.Stop.{Stop}
+use Rattle.sweeps.specs.Asleep.{AreListed, AreStops, AreWithin, HasSite, IsOutboxAt, IsStop, Wakes, site_of, site_station, station_of, wakes_by}
+
+-- ---- who is woken
+
+module _ (how : How) (site : Site) (sites : List Site) where
+  -- of the first so many sites those that are woken are listed
+  pub record ListsSoFar (count : ℕ) (places : List ℕ) : Type 0 where
+    pub listed : (other : ℕ) (s : Site) → other < count → slice_get sites other ≡ Some s → wakes_by how site s ≡ true → Contains places other
+    pub within : All (λ place. place < length sites) places
+
+  pub lists_start : ListsSoFar 0 []
+  lists_start = record { listed = λ other s less. absurd (omega (arith, less)); within = All-nil (λ (place : ℕ). place < length sites) }
+
+  pub lists_next : (count : ℕ) (old new : List ℕ) (s : Site) (woken : Bool) → count < length sites → s ≡ slice_index_or sites count s → woken ≡ wakes_by how site s → new ≡ cond woken (old ++ count ∷ []) old → ListsSoFar count old → ListsSoFar (count + 1) new
+  lists_next count old new s woken less is same grown so_far = subst (ListsSoFar (count + 1)) (sym grown) (by woken same)
+    where
+      there : slice_get sites count ≡ Some s
+      there = slice_get_read sites (length sites) count s refl less is
+
+      earlier : (other : ℕ) → other < count + 1 → (other < count) ⊎ (other ≡ count)
+      earlier other few = cases_lt other count few
+        where
+          cases_lt : (a b : ℕ) → a < b + 1 → (a < b) ⊎ (a ≡ b)
+          cases_lt zero zero h = inr refl
+          cases_lt zero (suc b) h = inl (omega arith)
+          cases_lt (suc a) zero h = absurd (omega arith)
+          cases_lt (suc a) (suc b) h = again (cases_lt a b (omega arith))
+            where
+              again : (a < b) ⊎ (a ≡ b) → (suc a < suc b) ⊎ (suc a ≡ suc b)
+              again (inl k) = inl (omega arith)
+              again (inr k) = inr (ap suc k)
+
+      -- the site at this place
+      own : (other : ℕ) (t : Site) → other ≡ count → slice_get sites other ≡ Some t → t ≡ s
+      own other t same at = same_Some t s (sym at ∙ (ap (slice_get sites) same ∙ there))
+
+      by : (b : Bool) → b ≡ wakes_by how site s → ListsSoFar (count + 1) (cond b (old ++ count ∷ []) old)
+      by true wakes = record {
+        listed = λ other t few at wakes_it. go other t (earlier other few) at wakes_it;
+        within = All-append (λ (place : ℕ). place < length sites) old (count ∷ []) so_far.within (All-cons (λ (place : ℕ). place < length sites) count [] less (All-nil (λ (place : ℕ). place < length sites)));
+      }
+        where
+          go : (other : ℕ) (t : Site) → (other < count) ⊎ (other ≡ count) → slice_get sites other ≡ Some t → wakes_by how site t ≡ true → Contains (old ++ count ∷ []) other
+          go other t (inl before) at wakes_it = Contains-append_left old (count ∷ []) other (so_far.listed other t before at wakes_it)
+          go other t (inr last) at wakes_it = Contains-append_right old (count ∷ []) other (subst (Contains (count ∷ [])) (sym last) (here count []))
+      by false wakes = record { listed = λ other t few at wakes_it. go other t (earlier other few) at wakes_it; within = so_far.within }
+        where
+          go : (other : ℕ) (t : Site) → (other < count) ⊎ (other ≡ count) → slice_get sites other ≡ Some t → wakes_by how site t ≡ true → Contains old other
+          go other t (inl before) at wakes_it = so_far.listed other t before at wakes_it
+          go other t (inr last) at wakes_it = absurd (false≢true (wakes ∙ (ap (wakes_by how site) (sym (own other t last at)) ∙ wakes_it)))
+
+  pub lists_whole : (count : ℕ) (places : List ℕ) → length sites ≤ count → ListsSoFar count places → AreListed how site sites places
+  lists_whole count places most so_far other s at wakes = let less = slice_get_within sites other s at in so_far.listed other s (omega (arith, less, most)) at wakes
+
+-- ---- the stops
+
+module _ (sites : List Site) where
+  pub record StopsSoFar (count : ℕ) (stops : List Stop) : Type 0 where
+    pub stations : map station_of stops ≡ map site_station (take count sites)
+    pub long : length stops ≡ count
+    pub each : (place : ℕ) (stop : Stop) → slice_get stops place ≡ Some stop → HasSite sites place stop
+
+  pub stops_start : StopsSoFar 0 []
+  stops_start = record { stations = refl; long = refl; each = λ place stop at. absurd cc }
+
+  -- an element of a list with one more behind
+  either_behind : {X : Type 0} (xs : List X) (x y : X) (i : ℕ) → slice_get (xs ++ x ∷ []) i ≡ Some y → (slice_get xs i ≡ Some y) ⊎ ((i ≡ length xs) × (x ≡ y))
+  either_behind [] x y zero at = inr (refl, same_Some x y at)
+  either_behind [] x y (suc i) at = absurd cc
+  either_behind (z ∷ xs) x y zero at = inl at
+  either_behind (z ∷ xs) x y (suc i) at = again (either_behind xs x y i at)
+    where
+      again : (slice_get xs i ≡ Some y) ⊎ ((i ≡ length xs) × (x ≡ y)) → (slice_get xs i ≡ Some y) ⊎ ((suc i ≡ suc (length xs)) × (x ≡ y))
+      again (inl was) = inl was
+      again (inr last) = inr (ap suc last.0, last.1)
+
+  map_behind : {X Y : Type 0} (f : X → Y) (xs : List X) (x : X) → map f (xs ++ x ∷ []) ≡ map f xs ++ f x ∷ []
+  map_behind f [] x = refl
+  map_behind {Y = Y} f (z ∷ xs) x = ap (λ (ys : List Y). f z ∷ ys) (map_behind f xs x)
+
+  length_behind : {X : Type 0} (xs : List X) (x : X) → length (xs ++ x ∷ []) ≡ length xs + 1
+  length_behind [] x = refl
+  length_behind (z ∷ xs) x = let more = length_behind xs x in omega (arith, more)
+
+  pub stops_next : (count : ℕ) (old new : List Stop) (site : Site) (stop : Stop) → count < length sites → site ≡ slice_index_or sites count site → IsStop site sites stop → new ≡ old ++ stop ∷ [] → StopsSoFar count old → StopsSoFar (count + 1) new
+  stops_next count old new site stop less is of_site grown so_far = subst (StopsSoFar (count + 1)) (sym grown) (record {
+    stations = map_behind station_of old stop
+        ∙ (ap (λ (ss : List Station). ss ++ stop.station ∷ []) so_far.stations
+        ∙ (ap (λ (s : Station). map site_station (take count sites) ++ s ∷ []) of_site.station
+        ∙ (sym (map_behind site_station (take count sites) site) ∙ ap (map site_station) (sym (take_next sites count site less is)))));
+    long = length_behind old stop ∙ ap (λ (n : ℕ). n + 1) so_far.long;
+    each = λ place x at. go place x (either_behind old stop x place at);
+  })
+    where
+      go : (place : ℕ) (x : Stop) → (slice_get old place ≡ Some x) ⊎ ((place ≡ length old) × (stop ≡ x)) → HasSite sites place x
+      go place x (inl was) = so_far.each place x was
+      go place x (inr last) = record {
+        site = site;
+        at = ap (slice_get sites) (last.0 ∙ so_far.long) ∙ slice_get_read sites (length sites) count site refl less is;
+        is = subst (IsStop site sites) last.1 of_site;
+      }
+
+pub stops_whole : (sites : List Site) (count : ℕ) (stops : List Stop) → length sites ≤ count → StopsSoFar sites count stops → map station_of stops ≡ map site_station sites
+stops_whole sites count stops most so_far = so_far.stations ∙ ap (map site_station) (take_all sites count most)
+
+-- ---- all of them
+
+module _ (tree : Tree) (stations : List Station) where
+  sites_are : (ss : List Station) → map site_station (map (site_of tree) ss) ≡ ss
+  sites_are [] = refl
+  sites_are (s ∷ ss) = ap (λ (xs : List Station). s ∷ xs) (sites_are ss)
+
+  module _ (sites : List Site) (are : sites ≡ map (site_of tree) stations) (stops : List Stop) (same : map station_of stops ≡ map site_station sites) (each : (place : ℕ) (stop : Stop) → slice_get stops place ≡ Some stop → HasSite sites place stop) where
+    pub stations_same : map station_of stops ≡ stations
+    stations_same = same ∙ (ap (map site_station) are ∙ sites_are stations)
+
+    as_long : length stops ≡ length sites
+    as_long = sym (length-map stops station_of) ∙ (ap length stations_same ∙ (sym (length-map stations (site_of tree)) ∙ ap length (sym are)))
+
+    -- each site is that of its station
+    own_site : (place : ℕ) (site : Site) → slice_get sites place ≡ Some site → site ≡ site_of tree site.station
+    own_site place site at = go (slice_get stations place) refl
+      where
+        found : slice_get sites place ≡ option_map (site_of tree) (slice_get stations place)
+        found = ap (λ (xs : List Site). slice_get xs place) are ∙ slice_get-map (site_of tree) stations place
+
+        go : (o : Option Station) → slice_get stations place ≡ o → site ≡ site_of tree site.station
+        go None e = let none : None ≡ Some site = sym (found ∙ ap (option_map (site_of tree)) e) ∙ at in absurd cc
+        go (Some s) e =
+            let same : site_of tree s ≡ site = same_Some (site_of tree s) site (sym (found ∙ ap (option_map (site_of tree)) e) ∙ at) in
+            sym same ∙ ap (λ (x : Site). site_of tree x.station) same
+
+    site_at : (place : ℕ) (stop : Stop) → (h : HasSite sites place stop) → h.site ≡ site_of tree stop.station
+    site_at place stop h = own_site place h.site h.at ∙ ap (site_of tree) (sym h.is.station)
+
+    module _ (place other : ℕ) (stop s : Stop) (h : HasSite sites place stop) (k : HasSite sites other s) where
+      wakes_sites : (how : How) → wakes_by how (site_of tree stop.station) (site_of tree s.station) ≡ true → wakes_by how h.site k.site ≡ true
+      wakes_sites how wakes = ap (λ (x : Site). wakes_by how x k.site) (site_at place stop h) ∙ (ap (wakes_by how (site_of tree stop.station)) (site_at other s k) ∙ wakes)
+
+      wakes_all : Wakes tree stop s other
+      wakes_all = record {
+        taking = λ wakes. h.is.taking other k.site k.at (wakes_sites How.Taking wakes);
+        receiving = λ wakes. h.is.receiving other k.site k.at (wakes_sites How.Receiving wakes);
+        telling = λ wakes. h.is.telling other k.site k.at (wakes_sites How.Telling wakes);
+      }
+
+    pub are_stops : AreStops tree stops
+    are_stops = λ place other stop s at there. wakes_all place other stop s (each place stop at) (each other s there)
+
+    pub are_within : All (AreWithin (length stops)) stops
+    are_within = λ place default less.
+        let stop = slice_index_or stops place default in
+        let h = each place stop (slice_get-get_or stops place default less) in
+        subst (λ (n : ℕ). AreWithin n stop) (sym as_long) h.is.within
+
+-- ---- the stop that a search finds
+
+first_passing : {X : Type 0} (p : X → Bool) (xs : List X) (k : ℕ) → position p xs ≡ Some k → (x : X) × (slice_get xs k ≡ Some x) × (p x ≡ true)
+first_passing p [] k e = absurd cc
+first_passing p (x ∷ xs) k e = let at = position-Some p (x ∷ xs) k x e in (get_or (x ∷ xs) k x, slice_get-get_or (x ∷ xs) k x at.0, at.1)
+
+pub outbox_found : (stops : List Stop) (outbox : Station) (found : Option ℕ) → found ≡ position (λ (stop : Stop). changes_outbox outbox stop.station) stops → IfSome found (IsOutboxAt stops outbox)
+outbox_found stops outbox None is = tt
+outbox_found stops outbox (Some place) is = let first = first_passing (λ (stop : Stop). changes_outbox outbox stop.station) stops place (sym is) in record { stop = first.0; at = first.1; changes = first.2 }

@@ -1,0 +1,154 @@
+-- Stations at which nothing can move, so that a sweep may pass them over.
+use Rattle.std.specs.Prelude.{◌≡◌, ◌⊎◌, ℕ, ◌<◌, Bool, true, false, ◌||◌, List, [], ◌∷◌, length, map, replicate, slice_get, All, Contains, Option, Some, None}
+use Rattle.fab_types.specs.declared.place.Direction.{Direction}
+use Rattle.topology.specs.Topologies.{Tree}
+use Rattle.fabric_core.specs.declared.event.Event.{Event}
+use Rattle.fabric_core.specs.declared.event.Event.TheVariants.{Submit, Tick, Mmio, Take, Credit}
+use Rattle.fabric_core.specs.declared.station.Station.{Station}
+use Rattle.fabric_core.specs.declared.station.Station.TheVariants as station
+use Rattle.fabric_core.specs.Invariant.{IsFabric}
+use Rattle.fabric_core.specs.Stations.{classes, taking}
+use Rattle.fabric_core.specs.Still.{IsIdleAt}
+use Rattle.waking.specs.Waking.{changes_outbox, is_woken_by_credits, is_woken_by_receiving, is_woken_by_taking, reach_of}
+use Rattle.fabric_core.specs.World.{World, is_guarded}
+use Rattle.sweeps.specs.declared.awake.Awake.{Awake}
+use Rattle.sweeps.specs.declared.moves.Moves.{Moves}
+use Rattle.sweeps.specs.declared.site.How.{How}
+use Rattle.sweeps.specs.declared.site.How.TheVariants.{Taking, Receiving, Telling}
+use Rattle.sweeps.specs.declared.site.Site.{Site}
+use Rattle.sweeps.specs.declared.stop.Stop.{Stop}
+use Rattle.sweeps.specs.Sweeps.{Sweeps}
+
+-- ---- the stops of a sweep
+
+abbrev pub station_of : Stop → Station
+station_of stop = stop.station
+
+abbrev pub site_of : Tree → Station → Site
+site_of tree s = record { station = s; reach = reach_of tree s }
+
+-- may what happens at the one wake the other?
+abbrev pub wakes_by : How → Site → Site → Bool
+wakes_by Taking one other = changes_outbox one.station other.station || is_woken_by_taking one.reach other.reach
+wakes_by Receiving one other = is_woken_by_receiving one.reach other.reach
+wakes_by Telling one other = is_woken_by_credits one.reach other.reach
+
+-- the place of each that may be woken is among these
+abbrev pub AreListed : How → Site → List Site → List ℕ → Type 0
+AreListed how site sites places = (other : ℕ) (s : Site) → slice_get sites other ≡ Some s → wakes_by how site s ≡ true → Contains places other
+
+-- those that are listed are stops
+pub record AreWithin (most : ℕ) (stop : Stop) : Type 0 where
+  pub taking : All (λ place. place < most) stop.by_taking.items
+  pub receiving : All (λ place. place < most) stop.by_receiving.items
+  pub telling : All (λ place. place < most) stop.by_telling.items
+
+-- the stop of a site among these
+pub record IsStop (site : Site) (sites : List Site) (stop : Stop) : Type 0 where
+  pub station : stop.station ≡ site.station
+  pub taking : AreListed Taking site sites stop.by_taking.items
+  pub receiving : AreListed Receiving site sites stop.by_receiving.items
+  pub telling : AreListed Telling site sites stop.by_telling.items
+  pub within : AreWithin (length sites) stop
+
+abbrev pub site_station : Site → Station
+site_station site = site.station
+
+-- it is the stop of the site at its place
+pub record HasSite (sites : List Site) (place : ℕ) (stop : Stop) : Type 0 where
+  pub site : Site
+  pub at : slice_get sites place ≡ Some site
+  pub is : IsStop site sites stop
+
+-- each station that an event at this one may wake is listed by its place
+pub record Wakes (tree : Tree) (stop other : Stop) (place : ℕ) : Type 0 where
+  pub taking : wakes_by Taking (site_of tree stop.station) (site_of tree other.station) ≡ true → Contains stop.by_taking.items place
+  pub receiving : wakes_by Receiving (site_of tree stop.station) (site_of tree other.station) ≡ true → Contains stop.by_receiving.items place
+  pub telling : wakes_by Telling (site_of tree stop.station) (site_of tree other.station) ≡ true → Contains stop.by_telling.items place
+
+abbrev pub AreStops : Tree → List Stop → Type 0
+AreStops tree stops = (place other : ℕ) (stop s : Stop) → slice_get stops place ≡ Some stop → slice_get stops other ≡ Some s → Wakes tree stop s other
+
+-- ---- who is asleep
+
+-- where stations may sleep: in a guarded fabric, by stops that list whom they wake
+pub record MaySleep (stops : List Stop) (w : World) : Type 0 where
+  pub controls : is_guarded w ≡ true
+  pub fabric : IsFabric w
+  pub wake : AreStops w.tree stops
+
+-- a station that isn't awake is idle
+pub record AreAsleep (stops : List Stop) (w : World) (awake : Awake) : Type 0 where
+  pub all : length awake.flags.items ≡ length stops
+  pub may : awake.may_sleep ≡ true → MaySleep stops w
+  pub asleep : (place : ℕ) → slice_get awake.flags.items place ≡ Some false → awake.may_sleep ≡ true
+  pub idle : (place : ℕ) (stop : Stop) → slice_get stops place ≡ Some stop → slice_get awake.flags.items place ≡ Some false → IsIdleAt w stop.station
+
+-- ---- a visit
+
+abbrev pub receiving_at : Station → List Event
+receiving_at (station.Link direction) = Take direction ∷ []
+receiving_at s = []
+
+abbrev pub telling_at : Station → List Event
+telling_at (station.Link direction) = Credit direction ∷ []
+telling_at s = []
+
+-- the events of a station were made in turn: what moved of those that take a packet, and whether one was received and credits
+-- were told
+pub record IsVisit (s : Station) (w : World) (moves : Moves) (v : World) : Type 0 where
+  pub after_taking : World
+  pub after_receiving : World
+  pub taken : Sweeps (map (taking s) classes) w moves.taken after_taking
+  pub received : Sweeps (receiving_at s) after_taking moves.received after_receiving
+  pub told : Sweeps (telling_at s) after_receiving moves.told v
+
+abbrev pub has_moved : Moves → Bool
+has_moved moves = (moves.taken || moves.received) || moves.told
+
+-- these places were woken if something moved, and no other fell asleep
+pub record AreWoken (moved : Bool) (places : List ℕ) (old new : List Bool) : Type 0 where
+  pub all : length new ≡ length old
+  pub still : (place : ℕ) → slice_get new place ≡ Some false → (slice_get old place ≡ Some false) × (moved ≡ true → Contains places place → ⊥)
+
+-- none of these moved something that wakes the place
+pub record IsUnwoken (stop : Stop) (moves : Moves) (place : ℕ) : Type 0 where
+  pub taking : moves.taken ≡ true → Contains stop.by_taking.items place → ⊥
+  pub receiving : moves.received ≡ true → Contains stop.by_receiving.items place → ⊥
+  pub telling : moves.told ≡ true → Contains stop.by_telling.items place → ⊥
+
+-- where nothing moved at this place it fell asleep, if any may; all others that are asleep were so, and weren't woken
+pub record IsSettledAt (stop : Stop) (place : ℕ) (moves : Moves) (may_sleep : Bool) (old new : List Bool) : Type 0 where
+  pub all : length new ≡ length old
+  pub still : (other : ℕ) → slice_get new other ≡ Some false
+      → ((other ≡ place) × (has_moved moves ≡ false) × (may_sleep ≡ true)) ⊎ ((slice_get old other ≡ Some false) × IsUnwoken stop moves other)
+
+-- ---- a begin
+
+-- the outbox in which what a begin sends waits
+abbrev pub outbox_begun : Event → Option Station
+outbox_begun (Submit function bytes) = Some (station.FunctionOutbox function)
+outbox_begun (Tick function) = Some (station.FunctionOutbox function)
+outbox_begun (Mmio domain access) = Some (station.HostOutbox domain)
+outbox_begun event = None
+
+-- the stop at the place is the outbox that what happens at the station changes
+pub record IsOutboxAt (stops : List Stop) (s : Station) (place : ℕ) : Type 0 where
+  pub stop : Stop
+  pub at : slice_get stops place ≡ Some stop
+  pub changes : changes_outbox s stop.station ≡ true
+
+pub record IsBegunAt (stops : List Stop) (event : Event) (place : ℕ) : Type 0 where
+  pub outbox : Station
+  pub begun : outbox_begun event ≡ Some outbox
+  pub found : IsOutboxAt stops outbox place
+
+-- those were woken that what is taken from the outbox of a begin wakes
+pub record IsWokenByBegin (stops : List Stop) (event : Event) (old new : List Bool) : Type 0 where
+  pub place : ℕ
+  pub begun : IsBegunAt stops event place
+  pub woken : AreWoken true begun.found.stop.by_taking.items old new
+
+-- or all were
+abbrev pub AreWokenBy : List Stop → Event → List Bool → List Bool → Type 0
+AreWokenBy stops event old new = IsWokenByBegin stops event old new ⊎ (new ≡ replicate (length old) true)

@@ -1,0 +1,154 @@
+//! Which stations of a sweep are awake.
+
+ghost use Rattle.std.specs.Prelude.{◌≡◌, ◌<◌, All, IfOk, IfSome, false, if◌then◌else◌, length, map, replicate, slice_set, true};
+ghost use Rattle.std.specs.List.{position};
+ghost use Rattle.waking.specs.Waking.{changes_outbox};
+ghost use Rattle.sweeps.specs.Asleep.{AreWithin, AreWoken, AreWokenBy, IsBegunAt, IsOutboxAt, IsSettledAt, outbox_begun};
+
+use crate::moves::Moves;
+use crate::stop::Stop;
+use fab_types::NoMemory;
+use fabric_core::{Event, Station};
+use std::alloc::Global;
+use waking::changes_outbox;
+
+/// Which stations of a sweep are awake, by their places in it.
+#[derive(Drop)]
+pub(crate) struct Awake {
+    /// May a station fall asleep? Not in a layout that isn't guarded, and no more once memory was refused to an event.
+    pub(crate) may_sleep: bool,
+    pub(crate) flags: Vec<bool>,
+}
+
+/// Wakes the stations at these places.
+fn wake(flags: &mut Vec<bool>, places: &[usize])
+    requires { All (λ place. place < length flags.old.items) places.now }
+    ensures { AreWoken true places.now flags.old.items flags.new.items }
+{
+    for place in places {
+        flags[*place] = true;
+    }
+}
+
+/// Wakes them if something moved.
+fn wake_if(moved: bool, flags: &mut Vec<bool>, places: &[usize])
+    requires { All (λ place. place < length flags.old.items) places.now }
+    ensures { AreWoken moved places.now flags.old.items flags.new.items }
+{
+    if moved {
+        wake(flags, places);
+    }
+}
+
+fn sleep_if(still: bool, flags: &mut Vec<bool>, place: usize)
+    requires { place < length flags.old.items }
+    ensures { flags.new.items ≡ (if still then slice_set flags.old.items place false else flags.old.items) }
+{
+    if still {
+        flags[place] = false;
+    }
+}
+
+/// Wakes whom a visit may have woken. Where nothing moved the station itself falls asleep, if it may.
+fn settle_flags(stop: &Stop, place: usize, moves: Moves, may_sleep: bool, flags: &mut Vec<bool>)
+    requires place { place < length flags.old.items }
+    requires within { AreWithin (length flags.old.items) stop.now }
+    ensures { IsSettledAt stop.now place moves may_sleep flags.old.items flags.new.items }
+{
+    wake_if(moves.taken, flags, &stop.by_taking);
+    wake_if(moves.received, flags, &stop.by_receiving);
+    wake_if(moves.told, flags, &stop.by_telling);
+    sleep_if(may_sleep && !moves.any(), flags, place);
+}
+
+/// The outbox in which waits what a begin sends.
+fn outbox_begun(event: &Event) -> Option<Station>
+    ensures { result ≡ outbox_begun event.now }
+{
+    match event {
+        Event::Submit(function, _) => Some(Station::FunctionOutbox(*function)),
+        Event::Tick(function) => Some(Station::FunctionOutbox(*function)),
+        Event::Mmio(domain, _) => Some(Station::HostOutbox(*domain)),
+        Event::Enter(_, _)
+        | Event::Pass(_, _)
+        | Event::Send(_, _)
+        | Event::Take(_)
+        | Event::Credit(_)
+        | Event::Root(_)
+        | Event::Arrive(_, _) => None,
+    }
+}
+
+fn changed_by(stops: &[Stop], station: &Station) -> Option<usize>
+    ensures { result ≡ position (λ stop. changes_outbox station.now stop.station) stops.now }
+{
+    stops
+        .iter()
+        .position(|stop| changes_outbox(station, &stop.station))
+}
+
+fn outbox_place(stops: &[Stop], outbox: &Station) -> Option<usize>
+    ensures { IfSome result (IsOutboxAt stops.now outbox.now) }
+{
+    changed_by(stops, outbox)
+}
+
+/// The place of the outbox in which waits what a begin sends.
+fn begun_place(stops: &[Stop], event: &Event) -> Option<usize>
+    ensures { IfSome result (IsBegunAt stops.now event.now) }
+{
+    let outbox = outbox_begun(event)?;
+    outbox_place(stops, &outbox)
+}
+
+impl Awake {
+    /// All stops, of which each may fall asleep or none.
+    pub(crate) fn all(alloc: Global, stops: &[Stop], may_sleep: bool) -> Result<Awake, NoMemory>
+        ensures may { IfOk result (λ awake. awake.may_sleep ≡ may_sleep) }
+        ensures flags { IfOk result (λ awake. awake.flags.items ≡ map (λ stop. true) stops.now) }
+    {
+        let flags = stops.iter().map(|_| true).collect(alloc)?;
+        Ok(Awake { may_sleep, flags })
+    }
+
+    /// Settles who is awake after a visit of the stop at this place.
+    pub(crate) fn settle(&mut self, stop: &Stop, place: usize, moves: Moves)
+        requires place { place < length self.old.flags.items }
+        requires within { AreWithin (length self.old.flags.items) stop.now }
+        ensures may { self.new.may_sleep ≡ self.old.may_sleep }
+        ensures settled { IsSettledAt stop.now place moves self.old.may_sleep self.old.flags.items self.new.flags.items }
+    {
+        settle_flags(stop, place, moves, self.may_sleep, &mut self.flags);
+    }
+
+    /// Wakes all.
+    pub(crate) fn wake_all(&mut self)
+        ensures may { self.new.may_sleep ≡ self.old.may_sleep }
+        ensures flags { self.new.flags.items ≡ replicate (length self.old.flags.items) true }
+    {
+        self.flags.fill(true);
+    }
+
+    /// After an event wakes whom it may have woken. A begin puts what it sends into an outbox, so whom that may wake is found
+    /// by its stop.
+    pub(crate) fn wake_begun(&mut self, stops: &[Stop], event: &Event)
+        requires all { length self.old.flags.items ≡ length stops.now }
+        requires within { All (AreWithin (length stops.now)) stops.now }
+        ensures may { self.new.may_sleep ≡ self.old.may_sleep }
+        ensures woken { AreWokenBy stops.now event.now self.old.flags.items self.new.flags.items }
+    {
+        match begun_place(stops, event) {
+            Some(place) => wake(&mut self.flags, &stops[place].by_taking),
+            None => self.wake_all(),
+        }
+    }
+
+    /// Wakes all, and lets none fall asleep any more.
+    pub(crate) fn keep_awake(&mut self)
+        ensures may { self.new.may_sleep ≡ false }
+        ensures flags { self.new.flags.items ≡ replicate (length self.old.flags.items) true }
+    {
+        self.may_sleep = false;
+        self.flags.fill(true);
+    }
+}

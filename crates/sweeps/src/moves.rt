@@ -1,0 +1,29 @@
+//! What moved at a station.
+
+ghost use Rattle.std.specs.Prelude.{◌≡◌};
+ghost use Rattle.sweeps.specs.Asleep.{has_moved};
+
+/// What moved at a station that was visited.
+#[derive(Clone, Copy, Debug, PartialEq, Eq)]
+pub(crate) struct Moves {
+    /// A packet was taken there.
+    pub(crate) taken: bool,
+    /// The receiver of a direction got one.
+    pub(crate) received: bool,
+    /// The sender of a direction was told credits.
+    pub(crate) told: bool,
+}
+
+impl Moves {
+    pub(crate) const NONE: Moves = Moves {
+        taken: false,
+        received: false,
+        told: false,
+    };
+
+    pub(crate) fn any(self) -> bool
+        ensures { result ≡ has_moved self }
+    {
+        self.taken || self.received || self.told
+    }
+}

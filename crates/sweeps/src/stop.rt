@@ -1,0 +1,61 @@
+//! The stops of a sweep.
+
+ghost use Rattle.std.specs.Prelude.{◌≡◌, ℕ, All, IfOk, Some, length, map, slice_get};
+ghost use Rattle.sweeps.specs.declared.stop.Stop.{Stop};
+ghost use Rattle.sweeps.specs.Asleep.{AreStops, AreWithin, HasSite, IsStop, site_station, station_of};
+
+use crate::site::{How, Site, sites_of, woken_by};
+use fab_types::NoMemory;
+use fabric_core::Station;
+use std::alloc::Global;
+use topology::Topology;
+
+/// A station of a sweep, and by their places in it those that its events may wake.
+#[derive(Drop)]
+pub(crate) struct Stop {
+    pub(crate) station: Station,
+    /// Where one of them takes a packet.
+    pub(crate) by_taking: Vec<usize>,
+    /// Where the receiver of the direction gets one.
+    pub(crate) by_receiving: Vec<usize>,
+    /// Where the sender is told credits.
+    pub(crate) by_telling: Vec<usize>,
+}
+
+fn stop_of(alloc: Global, site: &Site, sites: &[Site]) -> Result<Stop, NoMemory>
+    ensures { IfOk result (IsStop site.now sites.now) }
+{
+    Ok(Stop {
+        station: site.station,
+        by_taking: woken_by(alloc, How::Taking, site, sites)?,
+        by_receiving: woken_by(alloc, How::Receiving, site, sites)?,
+        by_telling: woken_by(alloc, How::Telling, site, sites)?,
+    })
+}
+
+/// The stops of these sites.
+fn stops_among(alloc: Global, sites: &[Site]) -> Result<Vec<Stop>, NoMemory>
+    ensures stations { IfOk result (λ stops. map station_of stops.items ≡ map site_station sites.now) }
+    ensures each { IfOk result (λ stops. (place : ℕ) → (stop : Stop) → slice_get stops.items place ≡ Some stop → HasSite sites.now place stop) }
+{
+    let mut stops = Vec::new(alloc);
+    for site in sites {
+        stops.push(stop_of(alloc, site, sites)?)?;
+    }
+    Ok(stops)
+}
+
+/// The stops of a sweep of these stations in a tree.
+pub(crate) fn stops_of(
+    alloc: Global,
+    topology: &Topology,
+    stations: &[Station],
+) -> Result<Vec<Stop>, NoMemory>
+    ensures stations { IfOk result (λ stops. map station_of stops.items ≡ stations.now) }
+    ensures wake { IfOk result (λ stops. AreStops topology.now stops.items) }
+    ensures within { IfOk result (λ stops. All (AreWithin (length stops.items)) stops.items) }
+{
+    let sites = sites_of(alloc, topology, stations)?;
+    let stops = stops_among(alloc, &sites)?;
+    Ok(stops)
+}

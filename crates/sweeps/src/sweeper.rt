@@ -1,0 +1,177 @@
+//! Sweeps of a fabric that pass over the stations at which nothing can move.
+
+ghost use Rattle.std.specs.Prelude.{◌≡◌, ◌≢◌, All, IfOk, OnOk, Some, length, map, slice_get, true};
+ghost use Rattle.std.specs.List.{flat_map};
+ghost use Rattle.fab_types.specs.declared.outcome.Outcome.TheVariants.{Idle};
+ghost use Rattle.fabric_core.specs.Events.{StepsTo, is_begin};
+ghost use Rattle.fabric_core.specs.Stations.{events_at};
+ghost use Rattle.fabric_core.specs.Still.{Concludes, NeverBlocks};
+ghost use Rattle.fabric_core.specs.TakenOut.{NoneCanTell};
+ghost use Rattle.fabric_core.specs.World.{is_guarded, world_of};
+ghost use Rattle.sweeps.specs.Asleep.{AreAsleep, AreWithin, station_of};
+ghost use Rattle.sweeps.specs.Sweeps.{IsSweep, Sweeps, SweepsUpTo};
+
+use crate::awake::Awake;
+use crate::order::stations;
+use crate::stop::{Stop, stops_of};
+use crate::visit::visit;
+use fab_types::{NoMemory, Outcome};
+use fabric_core::{Event, Fabric};
+use layout::Layout;
+use std::alloc::Global;
+use std::marker::Model;
+use std::sync::Wait;
+use topology::Topology;
+
+/// A fabric that is swept. In a guarded layout a sweep passes over the stations that are asleep: nothing moved when they were
+/// visited last, and no event since may have woken them. A contract sees a `Swept`.
+#[derive(Drop)]
+pub struct Sweeper {
+    fabric: Fabric,
+    stops: Vec<Stop>,
+    awake: Awake,
+}
+
+impl Model for Sweeper {
+    ghost use Rattle.sweeps.specs.Swept.{Swept};
+
+    ghost Value = { Swept };
+
+    ghost use Rattle.sweeps.specs.Sleepers.{IsSweeper, swept_of};
+
+    ghost view = { swept_of };
+
+    ghost invariant = { IsSweeper };
+}
+
+/// Visits the station at a place, unless it is asleep.
+#[inline(always)]
+fn visit_awake<R: Wait>(
+    rt: &R,
+    fabric: &mut Fabric,
+    stops: &[Stop],
+    stop: &Stop,
+    place: usize,
+    awake: &mut Awake,
+) -> Result<bool, NoMemory>
+    requires stop { slice_get stops.now place ≡ Some stop.now }
+    requires within { All (AreWithin (length stops.now)) stops.now }
+    requires asleep { AreAsleep stops.now fabric.old awake.old }
+    ensures made { IfOk result (λ moved. Sweeps (events_at stop.now.station) fabric.old moved fabric.new) }
+    ensures asleep { AreAsleep stops.now fabric.new awake.new }
+{
+    if !awake.flags[place] {
+        return Ok(false);
+    }
+    visit(rt, fabric, stops, stop, place, awake)
+}
+
+/// Makes the events of these stations in turn, but for those of sleeping ones, which would move nothing. Did any of them
+/// move something?
+fn sweep<R: Wait>(
+    rt: &R,
+    fabric: &mut Fabric,
+    stops: &[Stop],
+    awake: &mut Awake,
+) -> Result<bool, NoMemory>
+    requires within { All (AreWithin (length stops.now)) stops.now }
+    requires asleep { AreAsleep stops.now fabric.old awake.old }
+    ensures made { IfOk result (λ moved. Sweeps (flat_map events_at (map station_of stops.now)) fabric.old moved fabric.new) }
+    ensures asleep { AreAsleep stops.now fabric.new awake.new }
+{
+    let mut moved = false;
+    for place in 0..stops.len() {
+        let moves = visit_awake(rt, fabric, stops, &stops[place], place, awake)?;
+        moved = moved || moves;
+    }
+    Ok(moved)
+}
+
+/// Makes so many sweeps, or fewer. The last one is the first in which nothing moves.
+fn sweep_up_to<R: Wait>(
+    rt: &R,
+    fabric: &mut Fabric,
+    stops: &[Stop],
+    most: u32,
+    awake: &mut Awake,
+) -> Result<(), NoMemory>
+    requires within { All (AreWithin (length stops.now)) stops.now }
+    requires asleep { AreAsleep stops.now fabric.old awake.old }
+    ensures made { OnOk result (SweepsUpTo (flat_map events_at (map station_of stops.now)) most fabric.old fabric.new) }
+    ensures asleep { AreAsleep stops.now fabric.new awake.new }
+{
+    for _ in 0..most {
+        let moved = sweep(rt, fabric, stops, awake)?;
+        if !moved {
+            return Ok(());
+        }
+    }
+    Ok(())
+}
+
+impl Sweeper {
+    /// The fabric of a layout, in which nothing was begun, and all of whose stations are awake. What `Fabric::new` says of
+    /// it holds.
+    pub fn new(alloc: Global, layout: &Layout) -> Result<Sweeper, NoMemory>
+        ensures start { IfOk result (λ swept. swept.world ≡ world_of layout.now) }
+        ensures sweep { IfOk result (λ swept. IsSweep layout.now (world_of layout.now).agents.domains (flat_map events_at swept.stations)) }
+        ensures isolated { IfOk result (λ swept. is_guarded (world_of layout.now) ≡ true → NoneCanTell (world_of layout.now)) }
+        ensures unblocked { IfOk result (λ swept. NeverBlocks (world_of layout.now)) }
+        ensures consumed { IfOk result (λ swept. is_guarded (world_of layout.now) ≡ true → Concludes (world_of layout.now)) }
+    {
+        // for the proof: what holds of every platform
+        let _ = layout.ports();
+        let fabric = Fabric::new(alloc, layout)?;
+        let topology = Topology::new(alloc, layout)?;
+        let stations = stations(alloc, layout, fabric.domains())?;
+        let stops = stops_of(alloc, &topology, &stations)?;
+        let awake = Awake::all(alloc, &stops, layout.is_guarded())?;
+        Ok(Sweeper {
+            fabric,
+            stops,
+            awake,
+        })
+    }
+
+    /// The fabric itself.
+    pub fn fabric(&self) -> &Fabric
+        ensures { result.now ≡ self.now.world }
+    {
+        &self.fabric
+    }
+
+    /// The fabric, which is swept no more.
+    pub fn into_fabric(self) -> Fabric
+        ensures { result ≡ self.world }
+    {
+        self.fabric
+    }
+
+    /// Makes an event, and wakes the stations that it may have woken. After one that is no begin all are awake.
+    pub fn step<R: Wait>(&mut self, rt: &R, event: &Event) -> Outcome
+        ensures steps { StepsTo self.old.world event.now result self.new.world }
+        ensures begun { is_begin event.now ≡ true → result ≢ Idle }
+        ensures stations { self.new.stations ≡ self.old.stations }
+    {
+        let outcome = self.fabric.step(rt, event);
+        self.awake.wake_begun(&self.stops, event);
+        outcome
+    }
+
+    /// Makes one sweep. Did any of its events move something?
+    pub fn sweep<R: Wait>(&mut self, rt: &R) -> Result<bool, NoMemory>
+        ensures made { IfOk result (λ moved. Sweeps (flat_map events_at self.old.stations) self.old.world moved self.new.world) }
+        ensures stations { self.new.stations ≡ self.old.stations }
+    {
+        sweep(rt, &mut self.fabric, &self.stops, &mut self.awake)
+    }
+
+    /// Makes so many sweeps, or fewer.
+    /// The last one is the first in which nothing moves.
+    pub fn sweeps<R: Wait>(&mut self, rt: &R, most: u32) -> Result<(), NoMemory>
+        ensures made { OnOk result (SweepsUpTo (flat_map events_at self.old.stations) most self.old.world self.new.world) }
+        ensures stations { self.new.stations ≡ self.old.stations }
+    {
+        sweep_up_to(rt, &mut self.fabric, &self.stops, most, &mut self.awake)
+    }
+}
