@@ -10,7 +10,7 @@ ghost use Rattle.commands.specs.Settled.{Settles};
 ghost use Rattle.reports.specs.Writing.{Wrote};
 
 use fab_types::Outcome;
-use fabric_core::{Event, Fabric, Station};
+use fabric_core::{Event, Fabric};
 use inputs::Fault;
 use layout::Layout;
 use reports::write_refusal;
@@ -18,7 +18,7 @@ use script::{Command, Line};
 use std::alloc::Global;
 use std::io::Write;
 use std::sync::Wait;
-use sweeps::{a_sweep_that_moves_nothing_is_the_last, stations, sweeps};
+use sweeps::{Sweeper, a_sweep_that_moves_nothing_is_the_last};
 
 /// Runs the fabric of a layout by these lines, from its start. For each begin that is refused, a line is
 /// written at once. A line's bytes go into its event, and with that they go.
@@ -37,62 +37,61 @@ pub fn driven<'a, R: Wait, W: Write>(
     // for the proof: what holds of every platform, and that nothing moves after a sweep that moves nothing
     let _ = layout.ports();
     a_sweep_that_moves_nothing_is_the_last();
-    let mut fabric = Fabric::new(alloc, layout)?;
-    let stations = stations(alloc, layout, fabric.domains())?;
-    drive_all(rt, &mut fabric, &stations, lines, out)?;
-    Ok(fabric)
+    let mut sweeper = Sweeper::new(alloc, layout)?;
+    drive_all(rt, &mut sweeper, lines, out)?;
+    Ok(sweeper.into_fabric())
 }
 
 fn drive_all<'a, R: Wait, W: Write>(
     rt: &R,
-    fabric: &mut Fabric,
-    stations: &[Station],
+    sweeper: &mut Sweeper,
     lines: Vec<Line>,
     out: &mut W,
 ) -> Result<(), Fault<'a>>
-    ensures ok { OnOk result (Wrote (W.contents out.old) (W.contents out.new) (Drives (flat_map events_at stations.now) fabric.old lines.items fabric.new)) }
+    ensures ok { OnOk result (Wrote (W.contents out.old) (W.contents out.new) (Drives (flat_map events_at sweeper.old.stations) sweeper.old.world lines.items sweeper.new.world)) }
     ensures fault { IfErr result (λ fault. IsRunFault fault) }
 {
     for line in lines {
-        drive(rt, fabric, stations, line, out)?;
+        drive(rt, sweeper, line, out)?;
     }
     Ok(())
 }
 
 fn drive<'a, R: Wait, W: Write>(
     rt: &R,
-    fabric: &mut Fabric,
-    stations: &[Station],
+    sweeper: &mut Sweeper,
     line: Line,
     out: &mut W,
 ) -> Result<(), Fault<'a>>
-    ensures ok { OnOk result (Wrote (W.contents out.old) (W.contents out.new) (Does (flat_map events_at stations.now) line.number fabric.old line.command fabric.new)) }
+    ensures ok { OnOk result (Wrote (W.contents out.old) (W.contents out.new) (Does (flat_map events_at sweeper.old.stations) line.number sweeper.old.world line.command sweeper.new.world)) }
+    ensures stations { sweeper.new.stations ≡ sweeper.old.stations }
     ensures fault { IfErr result (λ fault. IsRunFault fault) }
 {
     let Line { number, command } = line;
     match command {
         Command::Submit(function, bytes) => {
-            begin(rt, fabric, number, &Event::Submit(function, bytes), out)
+            begin(rt, sweeper, number, &Event::Submit(function, bytes), out)
         }
-        Command::Tick(function) => begin(rt, fabric, number, &Event::Tick(function), out),
+        Command::Tick(function) => begin(rt, sweeper, number, &Event::Tick(function), out),
         Command::Mmio(domain, access) => {
-            begin(rt, fabric, number, &Event::Mmio(domain, access), out)
+            begin(rt, sweeper, number, &Event::Mmio(domain, access), out)
         }
-        Command::Sweep(most) => Ok(sweeps(rt, fabric, stations, most)?),
+        Command::Sweep(most) => Ok(sweeper.sweeps(rt, most)?),
     }
 }
 
 fn begin<'a, R: Wait, W: Write>(
     rt: &R,
-    fabric: &mut Fabric,
+    sweeper: &mut Sweeper,
     line: u32,
     event: &Event,
     out: &mut W,
 ) -> Result<(), Fault<'a>>
-    ensures ok { OnOk result (Wrote (W.contents out.old) (W.contents out.new) (Begins line fabric.old event.now fabric.new)) }
+    ensures ok { OnOk result (Wrote (W.contents out.old) (W.contents out.new) (Begins line sweeper.old.world event.now sweeper.new.world)) }
+    ensures stations { sweeper.new.stations ≡ sweeper.old.stations }
     ensures fault { IfErr result (λ fault. IsRunFault fault) }
 {
-    match fabric.step(rt, event) {
+    match sweeper.step(rt, event) {
         Outcome::Moved | Outcome::Idle => Ok(()),
         Outcome::Refused(fault) => Ok(write_refusal(out, line, fault)?),
         Outcome::NoMemory => Err(Fault::NoMemory),

@@ -9,6 +9,7 @@ use Rattle.commands.proofs.drive.drive_all.Given as goal
 abbrev pub invariant-loop-line : goal.invariant-loop-line
 invariant-loop-line g l =
     record {
-      done : Wrote (g.W.Write.contents l.initial.out) (g.W.Write.contents l.out) (Drives (flat_map events_at l.stations) l.initial.fabric l.yielded l.fabric);
+      done : Wrote (g.W.Write.contents l.initial.out) (g.W.Write.contents l.out) (Drives (flat_map events_at l.initial.sweeper.stations) l.initial.sweeper.world l.yielded l.sweeper.world);
+      stations : l.sweeper.stations ≡ l.initial.sweeper.stations;
       left : l.yielded ++ l.line-iterator.rest.items ≡ l.fn.lines.items;
     }
