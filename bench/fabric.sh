@@ -126,119 +126,65 @@ echo 'fabrics: fab_types layout script domain fabric_core sweeps' >> "$work/crat
 cat > "$work/crates/fabrics/src/main.rt" <<'PROGRAM'
 #![tactic(auto)]
 
-use fab_types::{Class, Outcome};
-use fabric_core::{Event, Fabric, LeavingClasses, Station};
+use fab_types::NoMemory;
+use fabric_core::{Event, Station};
 use layout::Layout;
 use script::{Command, Line, Script};
-use sweeps::stations;
 use std::io::Write;
 use std::sync::Wait;
 use std::time::CpuClock;
 use std::{env, fs, io};
+use sweeps::{Sweeper, stations};
 
-/// How many events moved something, and how many there were.
-#[derive(Clone, Copy)]
-struct Count {
-    moved: u64,
+/// How many events a sweep has: five of each direction of a link, three of each other station.
+fn events_of(stations: &[Station]) -> u64 {
+    let mut events: u64 = 0;
+    for station in stations {
+        let more = if matches!(station, Station::Link(_)) { 5 } else { 3 };
+        events = events.wrapping_add(more);
+    }
+    events
+}
+
+/// A fabric that is swept, with how many events a sweep has and how many were made.
+struct Counter {
+    sweeper: Sweeper,
+    events: u64,
     all: u64,
 }
 
-impl Count {
-    fn add(&mut self, moved: bool) {
+impl Counter {
+    fn begin<R: Wait>(&mut self, rt: &R, event: &Event) {
+        let _outcome = self.sweeper.step(rt, event);
         self.all = self.all.wrapping_add(1);
-        self.moved = self.moved.wrapping_add(u64::from(moved));
     }
-}
 
-fn step<R: Wait>(rt: &R, fabric: &mut Fabric, event: &Event, count: &mut Count) {
-    let outcome = fabric.step(rt, event);
-    count.add(matches!(outcome, Outcome::Moved));
-}
-
-/// Makes the event by which a packet of this class is taken at a station. Where none may leave it is counted alone.
-fn take<R: Wait>(
-    rt: &R,
-    fabric: &mut Fabric,
-    station: &Station,
-    class: Class,
-    leaving: &mut LeavingClasses,
-    count: &mut Count,
-) {
-    if !leaving.has(class) {
-        count.add(false);
-        return;
-    }
-    let before = count.moved;
-    step(rt, fabric, &station.taking(class), count);
-    if count.moved != before {
-        *leaving = fabric.leaving(station);
-    }
-}
-
-/// Makes the events of a station. Where it is quiet they are counted alone, since none would move anything.
-fn visit<R: Wait>(rt: &R, fabric: &mut Fabric, station: &Station, count: &mut Count) {
-    let direction = match station {
-        Station::Link(direction) => Some(*direction),
-        _ => None,
-    };
-    if fabric.is_quiet(station) {
-        count.all = count.all.wrapping_add(if direction.is_some() { 5 } else { 3 });
-        return;
-    }
-    let mut leaving = fabric.leaving(station);
-    take(rt, fabric, station, Class::Posted, &mut leaving, count);
-    take(rt, fabric, station, Class::NonPosted, &mut leaving, count);
-    take(rt, fabric, station, Class::Completion, &mut leaving, count);
-    if let Some(direction) = direction {
-        step(rt, fabric, &Event::Take(direction), count);
-        step(rt, fabric, &Event::Credit(direction), count);
-    }
-}
-
-/// Did anything move?
-fn sweep<R: Wait>(rt: &R, fabric: &mut Fabric, stations: &[Station], count: &mut Count) -> bool {
-    let before = count.moved;
-    for station in stations {
-        visit(rt, fabric, station, count);
-    }
-    count.moved != before
-}
-
-fn sweep_up_to<R: Wait>(rt: &R, fabric: &mut Fabric, stations: &[Station], most: u32, count: &mut Count) {
-    for _ in 0..most {
-        if !sweep(rt, fabric, stations, count) {
-            return;
+    fn sweep_up_to<R: Wait>(&mut self, rt: &R, most: u32) -> Result<(), NoMemory> {
+        for _ in 0..most {
+            self.all = self.all.wrapping_add(self.events);
+            if !self.sweeper.sweep(rt)? {
+                return Ok(());
+            }
         }
+        Ok(())
     }
-}
 
-fn make<R: Wait>(
-    rt: &R,
-    fabric: &mut Fabric,
-    stations: &[Station],
-    command: Command,
-    count: &mut Count,
-) {
-    match command {
-        Command::Submit(function, bytes) => {
-            step(rt, fabric, &Event::Submit(function, bytes), count);
+    fn make<R: Wait>(&mut self, rt: &R, command: Command) -> Result<(), NoMemory> {
+        match command {
+            Command::Submit(function, bytes) => self.begin(rt, &Event::Submit(function, bytes)),
+            Command::Tick(function) => self.begin(rt, &Event::Tick(function)),
+            Command::Mmio(domain, access) => self.begin(rt, &Event::Mmio(domain, access)),
+            Command::Sweep(most) => self.sweep_up_to(rt, most)?,
         }
-        Command::Tick(function) => {
-            step(rt, fabric, &Event::Tick(function), count);
-        }
-        Command::Mmio(domain, access) => {
-            step(rt, fabric, &Event::Mmio(domain, access), count);
-        }
-        Command::Sweep(most) => sweep_up_to(rt, fabric, stations, most, count),
+        Ok(())
     }
-}
 
-fn run<R: Wait>(rt: &R, fabric: &mut Fabric, stations: &[Station], lines: Vec<Line>) -> Count {
-    let mut count = Count { moved: 0, all: 0 };
-    for line in lines {
-        make(rt, fabric, stations, line.command, &mut count);
+    fn run<R: Wait>(&mut self, rt: &R, lines: Vec<Line>) -> Result<(), NoMemory> {
+        for line in lines {
+            self.make(rt, line.command)?;
+        }
+        Ok(())
     }
-    count
 }
 
 /// The line of the system's on the most memory that the process had.
@@ -250,7 +196,7 @@ fn most_memory(status: &str) -> &str {
 }
 
 /// Runs the script that the second word names over the layout that the first one names. It prints the nanoseconds,
-/// the events that moved something, all events, and the memory.
+/// all events, and the memory.
 fn main(rt: HostRuntime) -> io::Result<()> {
     let alloc = rt.alloc();
     let mut out = rt.stdout();
@@ -268,18 +214,25 @@ fn main(rt: HostRuntime) -> io::Result<()> {
     let Ok(script) = Script::read(alloc, script.as_str()) else {
         return writeln!(out, "the script is refused");
     };
-    let Ok(mut fabric) = Fabric::new(alloc, &layout) else {
+    let Ok(sweeper) = Sweeper::new(alloc, &layout) else {
         return writeln!(out, "no memory");
     };
-    let Ok(stations) = stations(alloc, &layout, fabric.domains()) else {
+    let Ok(stations) = stations(alloc, &layout, sweeper.fabric().domains()) else {
         return writeln!(out, "no memory");
+    };
+    let mut counter = Counter {
+        sweeper,
+        events: events_of(&stations),
+        all: 0,
     };
     let before = rt.process_cpu_time()?;
-    let count = run(&rt, &mut fabric, &stations, script.into_lines());
+    let Ok(()) = counter.run(&rt, script.into_lines()) else {
+        return writeln!(out, "no memory");
+    };
     let time = rt.process_cpu_time()?.saturating_sub(before);
     let status = fs::read_to_string(&rt, "/proc/self/status")?;
     let memory = most_memory(status.as_str());
-    writeln!(out, "{} {} {} {memory}", time.as_nanos(), count.moved, count.all)
+    writeln!(out, "{} {} {memory}", time.as_nanos(), counter.all)
 }
 PROGRAM
 # Not by rt try, whose build tests each access and is far slower.
@@ -293,16 +246,16 @@ while IFS=: read -r layout name; do
     for _ in 1 2 3 4 5; do
         echo "$("$work/crates/fabrics/out/fabrics" "$layout" "$name") $("$work/plain" time "$layout" "$name")"
     done | awk -v name="$name" '
-        $2 != $8 || $3 != $9 {
-            print name ": the plain simulator counts " $8 " that moved something, of " $9 ", and not " $2 " of " $3
+        $2 != $8 {
+            print name ": the plain simulator counts " $8 " events, and not " $2
             exit failed = 1
         }
         NR == 1 || $1 < mine { mine = $1 }
-        NR == 1 || $7 < plain { plain = $7 }
+        NR == 1 || $6 < plain { plain = $6 }
         END {
             if (failed) exit 1
             seconds = mine / 1e9
             printf "%s: %.2f s, %d events, %.2f million a second; %d moved something, %.2f million a second; %.1f MB; plain Rust %.2f s, so %.2f times its time\n",
-                name, seconds, $3, $3 / seconds / 1e6, $2, $2 / seconds / 1e6, $5 / 1000, plain / 1e9, mine / plain
+                name, seconds, $2, $2 / seconds / 1e6, $7, $7 / seconds / 1e6, $4 / 1000, plain / 1e9, mine / plain
         }'
 done < scripts
