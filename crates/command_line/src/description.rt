@@ -59,23 +59,20 @@ const OWNERS_HELP: &str =
 
 const ROOT_HELP: &str = "The ID of the only root port whose tree is wanted, as 00:1c.0";
 
-/// What stands below the help of each command.
-fn example() -> &'static str {
-    "\
+const EXAMPLE: &str = "\
 Example: a posted write of the bytes 11 22 33 44 to address 0x1000, which is mapped to frame 0
 
   $ pciefab first 400000010300000f0000100011223344
   frame 0 000 11223344000000000000000000000000
 
 Layouts are described in docs/LAYOUT.md; scripts, journals and what is printed in docs/FORMATS.md.
-The exit status is 0, 2 where memory is refused, or 1 for any other fault."
-}
+The exit status is 0, 2 where memory is refused, or 1 for any other fault.";
 
 /// A subcommand without words.
 fn subcommand<'a>(alloc: Global, name: &'a str, about: &'a str) -> Command<'a>
     ensures { IsDefined result (new_app name.entry.now) }
 {
-    Command::new(alloc, name).about(about).after_help(example())
+    Command::new(alloc, name).about(about).after_help(EXAMPLE)
 }
 
 /// The command with one word more, which has to be there.
@@ -206,7 +203,7 @@ fn with_runs<'a>(alloc: Global) -> Result<Command<'a>, AllocError>
         .no_binary_name(true)
         .bin_name("pciefab")?
         .about(ABOUT)
-        .after_help(example())
+        .after_help(EXAMPLE)
         .subcommand_required(true);
     let first = first_definition(alloc)?;
     let run = with_files(alloc, "run", RUN_ABOUT, "SCRIPT", SCRIPT_HELP)?;
