@@ -1,5 +1,6 @@
 //! What is read of a device, worked out by hand from the registers of PCIe 4.0, 7.5 and 7.7.8.
 
+use crate::rows::add_row;
 use fab_types::Bdf;
 use lspci::{Acs, Bar, BridgeBuses, ConfigSpace, Dump, HeaderKind, Location, PortType, Window};
 use std::alloc::Global;
@@ -48,28 +49,6 @@ const ROOT_PORT: [(u16, u8); 10] = [
 
 // An endpoint with memory of 64-bit addresses at 200000000h, no list of capabilities, and I/O behind it.
 const ENDPOINT: [(u16, u8); 3] = [(0x10, 0x04), (0x14, 0x02), (0x18, 0x01)];
-
-fn byte_of(registers: &[(u16, u8)], offset: u16) -> u8 {
-    let mut found = 0u8;
-    for (place, byte) in registers {
-        if *place == offset {
-            found = *byte;
-        }
-    }
-    found
-}
-
-// A row: sixteen bytes from this offset on.
-fn add_row(alloc: Global, text: &mut String, registers: &[(u16, u8)], offset: u16) -> Option<()> {
-    let first = format!(in alloc; "{offset:02x}:").ok()?;
-    text.push_str(&first).ok()?;
-    for column in 0..16u16 {
-        let byte = byte_of(registers, offset.saturating_add(column));
-        let word = format!(in alloc; " {byte:02x}").ok()?;
-        text.push_str(&word).ok()?;
-    }
-    text.push('\n').ok()
-}
 
 // The dump of one device, of which so many rows are shown.
 fn dump_of(alloc: Global, registers: &[(u16, u8)], rows: u16) -> Option<Dump> {

@@ -5,3 +5,6 @@
 mod dumps;
 #[cfg(test)]
 mod faults;
+mod rows;
+
+pub use rows::add_row;
