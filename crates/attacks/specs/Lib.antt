@@ -1,3 +1,5 @@
 pub mod Controls
+pub mod Findings
 pub mod Packets
 pub mod Paths
+pub mod Tries

@@ -61,6 +61,8 @@ pub enum Deed {
 /// A request that a function may submit to harm a domain.
 #[derive(Clone, Copy, Debug, PartialEq, Eq)]
 pub struct Attack {
+    /// The function that submits it.
+    pub function: Bdf,
     /// What it harms.
     pub harm: Harm,
     /// The port that would stop it.

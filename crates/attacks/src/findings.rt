@@ -1,5 +1,8 @@
 //! What an audit finds.
 
+ghost use Rattle.std.specs.Prelude.{◌≡◌};
+ghost use Rattle.attacks.specs.Findings.{has_witness};
+
 use crate::attack::Harm;
 use crate::control::Control;
 use fab_types::{Bdf, DomainId, PacketBytes, PortId};
@@ -33,6 +36,15 @@ pub struct Pair {
     pub victim: DomainId,
     /// One witness for each way of harm for which one was found, the worst first.
     pub witnesses: Vec<Witness>,
+}
+
+impl Pair {
+    /// Was the one domain seen to harm the other?
+    pub fn has_witness(&self) -> bool
+        ensures { result ≡ has_witness self.now }
+    {
+        !self.witnesses.is_empty()
+    }
 }
 
 /// What an audit finds.

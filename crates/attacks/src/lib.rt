@@ -1,13 +1,17 @@
 //! What a domain may try against another, in a layout that isn't guarded: packets, and the control that lets each pass.
 #![tactic(auto)]
 
+mod answers;
 mod attack;
 mod control;
+mod deeds;
 mod findings;
+mod names;
 mod path;
 mod requests;
 
 pub use attack::{Attack, Deed, Harm, Way};
 pub use control::{Control, is_clear};
 pub use findings::{Findings, Pair, Witness};
+pub use names::own_functions;
 pub use requests::tries;

@@ -1,18 +1,18 @@
 //! The requests that a function may try against a domain.
 
-use crate::attack::{Attack, Deed, Harm, Way};
-use crate::control::Control;
-use crate::path::{is_blocked, is_validated, is_validated_below, turn_of};
+ghost use Rattle.std.specs.Prelude.{◌≡◌, IfOk, Some, option_map};
+ghost use Rattle.std.specs.List.{filter_map};
+ghost use Rattle.attacks.specs.Tries.{by_address, on_frames, on_pages, past_host, tries, tries_below};
+
+use crate::answers::answered;
+use crate::attack::{Attack, Way};
+use crate::deeds::{direct, on_frame, on_registers, translated};
+use crate::names::in_names;
+use crate::path::{is_blocked, turn_of};
 use fab_types::{Bdf, NoMemory, PortId};
 use layout::{Layout, Start};
-use platform::{DownstreamPort, MapTarget, Mapping, port_with_secondary};
+use platform::{DownstreamPort, EndpointFunction, port_with_secondary};
 use std::alloc::{AllocError, Global};
-
-/// The first page of 4 GB and more, where no window is.
-const HIGH_PAGE: u64 = 0x10_0000;
-
-/// How many pages of a requester a layout may map.
-const MOST_PAGES: u64 = 64;
 
 /// The requests that a function may try to harm a domain in this way, in the order in which they are to be tried.
 /// The domain is another than the function's. A request is left out that a control of a port above the function stops
@@ -23,221 +23,105 @@ pub fn tries(
     way: Way,
     function: Bdf,
     victim: &Start,
-) -> Result<Vec<Attack>, NoMemory> {
-    let mut attacks = Vec::new(alloc);
+) -> Result<Vec<Attack>, NoMemory>
+    ensures { IfOk result (λ attacks. attacks.items ≡ tries layout.now way function victim.now) }
+{
+    match port_with_secondary(layout.ports(), function.bus()) {
+        Some(first) => tries_below(alloc, layout, way, function, victim, first),
+        None => Ok(Vec::new(alloc)),
+    }
+}
+
+/// The same of a function with this port directly above it.
+fn tries_below(
+    alloc: Global,
+    layout: &Layout,
+    way: Way,
+    function: Bdf,
+    victim: &Start,
+    first: &DownstreamPort,
+) -> Result<Vec<Attack>, NoMemory>
+    ensures { IfOk result (λ attacks. attacks.items ≡ tries_below layout.now way function victim.now (Some first.now)) }
+{
     let ports = layout.ports();
-    let Some(first) = port_with_secondary(ports, function.bus()) else {
-        return Ok(attacks);
-    };
-    if !is_blocked(ports, function.bus()) {
-        add_translated(&mut attacks, first.id, way, function, victim)?;
-    }
-    add_direct(&mut attacks, ports, way, function, victim)?;
-    if !is_validated(ports, function.bus()) {
-        add_mapped(&mut attacks, first.id, way, victim.maps())?;
-        let names = names_of(alloc, victim)?;
-        add_unmapped(&mut attacks, first.id, way, &names, victim.maps())?;
-    }
-    if way == Way::Completion {
-        add_answered(alloc, &mut attacks, layout, function, victim)?;
-    }
+    let mut attacks = on_frames(alloc, ports, first.id, way, function, victim)?;
+    let on_pages = on_pages(alloc, ports, way, function, victim)?;
+    let in_names = in_names(alloc, ports, first.id, way, function, victim)?;
+    let answered = answered(alloc, layout, way, function, victim)?;
+    attacks.extend_from_slice(&on_pages)?;
+    attacks.extend_from_slice(&in_names)?;
+    attacks.extend_from_slice(&answered)?;
     Ok(attacks)
 }
 
-/// Adds what reads or writes the domain's frames by their own addresses.
-fn add_translated(
-    attacks: &mut Vec<Attack>,
+/// What reads or writes a frame by its own address.
+fn by_address(port: PortId, way: Way, function: Bdf, frame: u16) -> Option<Attack>
+    ensures { result ≡ by_address port way function frame }
+{
+    let does = on_frame(way, frame)?;
+    Some(translated(port, function, u64::from(frame), does))
+}
+
+fn by_addresses(
+    alloc: Global,
+    port: PortId,
+    way: Way,
+    function: Bdf,
+    frames: &[u16],
+) -> Result<Vec<Attack>, AllocError>
+    ensures { IfOk result (λ attacks. attacks.items ≡ filter_map (by_address port way function) frames.now) }
+{
+    frames
+        .iter()
+        .filter_map(|frame| by_address(port, way, function, *frame))
+        .collect(alloc)
+}
+
+/// What reads or writes the domain's frames by their own addresses.
+fn on_frames(
+    alloc: Global,
+    ports: &[DownstreamPort],
     port: PortId,
     way: Way,
     function: Bdf,
     victim: &Start,
-) -> Result<(), AllocError> {
-    for frame in victim.frames() {
-        let (deed, harm) = match way {
-            Way::FrameWritten => (Deed::Write, Harm::FrameWritten(*frame)),
-            Way::FrameRead => (Deed::Read, Harm::FrameRead(*frame)),
-            _ => return Ok(()),
-        };
-        attacks.push(Attack {
-            harm,
-            port,
-            control: Control::TranslationBlocking,
-            deed,
-            is_translated: true,
-            requester: function,
-            page: u64::from(*frame),
-        })?;
+) -> Result<Vec<Attack>, AllocError>
+    ensures { IfOk result (λ attacks. attacks.items ≡ on_frames ports.now port way function victim.now) }
+{
+    if is_blocked(ports, function.bus()) {
+        return Ok(Vec::new(alloc));
     }
-    Ok(())
+    by_addresses(alloc, port, way, function, victim.frames())
 }
 
-/// Adds what reads or writes register pages of the domain past the host.
-fn add_direct(
-    attacks: &mut Vec<Attack>,
+/// What reads or writes the register page of a function past the host.
+fn past_host(
+    ports: &[DownstreamPort],
+    way: Way,
+    function: Bdf,
+    line: &EndpointFunction,
+) -> Option<Attack>
+    ensures { result ≡ past_host ports.now way function line.now }
+{
+    let does = on_registers(way, line.id)?;
+    let turn = turn_of(ports, function.bus(), u64::from(line.bar))?;
+    Some(direct(turn.id, function, u64::from(line.bar) / 4096, does))
+}
+
+/// What reads or writes register pages of the domain past the host.
+fn on_pages(
+    alloc: Global,
     ports: &[DownstreamPort],
     way: Way,
     function: Bdf,
     victim: &Start,
-) -> Result<(), AllocError> {
-    for line in victim.functions() {
-        let (deed, harm) = match way {
-            Way::RegistersWritten => (Deed::Write, Harm::RegistersWritten(line.id)),
-            Way::RegistersRead => (Deed::Read, Harm::RegistersRead(line.id)),
-            _ => return Ok(()),
-        };
-        if !victim.owns_function(line.id) {
-            continue;
-        }
-        let address = u64::from(line.bar);
-        if let Some(turn) = turn_of(ports, function.bus(), address) {
-            attacks.push(Attack {
-                harm,
-                port: turn.id,
-                control: Control::RequestRedirect,
-                deed,
-                is_translated: false,
-                requester: function,
-                page: address / 4096,
-            })?;
-        }
-    }
-    Ok(())
-}
-
-/// What a request in the name of a mapping's requester does there, and the harm.
-fn harm_by(way: Way, line: &Mapping) -> Option<(Deed, Harm)> {
-    match (way, line.target) {
-        (Way::FrameWritten, MapTarget::Frame(frame)) if line.rights.write => {
-            Some((Deed::Write, Harm::FrameWritten(frame)))
-        }
-        (Way::RegistersWritten, MapTarget::Peer(peer)) if line.rights.write => {
-            Some((Deed::Write, Harm::RegistersWritten(peer)))
-        }
-        (Way::Completion, _) if line.rights.read => Some((Deed::Read, Harm::Completion)),
-        _ => None,
-    }
-}
-
-/// Adds what is in the name of the domain's functions, for pages that are mapped for them.
-fn add_mapped(
-    attacks: &mut Vec<Attack>,
-    port: PortId,
-    way: Way,
-    maps: &[Mapping],
-) -> Result<(), AllocError> {
-    for line in maps {
-        if let Some((deed, harm)) = harm_by(way, line) {
-            attacks.push(Attack {
-                harm,
-                port,
-                control: Control::SourceValidation,
-                deed,
-                is_translated: false,
-                requester: line.requester,
-                page: line.page,
-            })?;
-        }
-    }
-    Ok(())
-}
-
-/// The IDs of the domain: of its functions, and of its host.
-fn names_of(alloc: Global, victim: &Start) -> Result<Vec<Bdf>, AllocError> {
-    let mut names = Vec::new(alloc);
-    for line in victim.functions() {
-        if victim.owns_function(line.id) {
-            names.push(line.id)?;
-        }
-    }
-    names.push(victim.domain().host())?;
-    Ok(names)
-}
-
-/// A page of 4 GB or more that isn't mapped for the requester.
-fn unmapped_page(maps: &[Mapping], requester: Bdf) -> u64 {
-    for page in HIGH_PAGE..HIGH_PAGE + MOST_PAGES {
-        let is_mapped = maps
-            .iter()
-            .any(|line| line.requester == requester && line.page == page);
-        if !is_mapped {
-            return page;
-        }
-    }
-    HIGH_PAGE + MOST_PAGES
-}
-
-/// What a request for a page that isn't mapped does, and the harm.
-fn harm_unmapped(way: Way) -> Option<(Deed, Harm)> {
-    match way {
-        Way::Completion => Some((Deed::Read, Harm::Completion)),
-        Way::Counts => Some((Deed::Write, Harm::Counts)),
-        _ => None,
-    }
-}
-
-/// Adds what is in these names of the domain, each time for a page that isn't mapped.
-fn add_unmapped(
-    attacks: &mut Vec<Attack>,
-    port: PortId,
-    way: Way,
-    names: &[Bdf],
-    maps: &[Mapping],
-) -> Result<(), AllocError> {
-    for requester in names {
-        if let Some((deed, harm)) = harm_unmapped(way) {
-            attacks.push(Attack {
-                harm,
-                port,
-                control: Control::SourceValidation,
-                deed,
-                is_translated: false,
-                requester: *requester,
-                page: unmapped_page(maps, *requester),
-            })?;
-        }
-    }
-    Ok(())
-}
-
-/// Adds what another function answers to an ID of the domain, since the request goes to it past the host.
-fn add_answered(
-    alloc: Global,
-    attacks: &mut Vec<Attack>,
-    layout: &Layout,
-    function: Bdf,
-    victim: &Start,
-) -> Result<(), AllocError> {
-    let ports = layout.ports();
-    let bus = function.bus();
-    for line in layout.functions() {
-        let address = u64::from(line.bar);
-        if let Some(turn) = turn_of(ports, bus, address) {
-            if !is_validated_below(ports, bus, turn) {
-                let names = names_of(alloc, victim)?;
-                add_names(attacks, turn.id, &names, address / 4096)?;
-            }
-        }
-    }
-    Ok(())
-}
-
-/// Adds the reads of this page in each of these names.
-fn add_names(
-    attacks: &mut Vec<Attack>,
-    port: PortId,
-    names: &[Bdf],
-    page: u64,
-) -> Result<(), AllocError> {
-    for requester in names {
-        attacks.push(Attack {
-            harm: Harm::Completion,
-            port,
-            control: Control::SourceValidation,
-            deed: Deed::Read,
-            is_translated: false,
-            requester: *requester,
-            page,
-        })?;
-    }
-    Ok(())
+) -> Result<Vec<Attack>, AllocError>
+    ensures { IfOk result (λ attacks. attacks.items ≡ on_pages ports.now way function victim.now) }
+{
+    victim
+        .functions()
+        .iter()
+        .filter(|line| victim.owns_function(line.id))
+        .filter_map(|line| past_host(ports, way, function, line))
+        .collect(alloc)
 }
