@@ -1,1 +1,3 @@
-pub mod More
+pub mod Guarded
+pub mod Lists
+pub mod Trials

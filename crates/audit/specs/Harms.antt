@@ -36,15 +36,14 @@ is_served function bytes (Alien place sender others) = is_sent_by function sende
 is_served function bytes _ = false
 
 -- the domain carried the packet, and the function got a successful completion
-pub record IsAnswered (function : ℕ) (bytes : List ℕ) (victim attacker : DomainView) : Type 0 where
-  pub served : list_any (is_served function bytes) victim.journal ≡ true
-  pub answered : list_any (is_success function) attacker.state.deliveries ≡ true
+abbrev pub is_answered : ℕ → List ℕ → DomainView → DomainView → Bool
+is_answered function bytes victim attacker = list_any (is_served function bytes) victim.journal && list_any (is_success function) attacker.state.deliveries
 
 -- what of the domain's old and new state, and of the attacker's new one, shows the harm
 abbrev pub IsSeen : Harm → ℕ → List ℕ → DomainView → DomainView → DomainView → Type 0
 IsSeen (FrameWritten frame) function bytes old new attacker = page_of new.state.frames frame ≢ page_of old.state.frames frame
-IsSeen (FrameRead frame) function bytes old new attacker = IsAnswered function bytes new attacker
+IsSeen (FrameRead frame) function bytes old new attacker = is_answered function bytes new attacker ≡ true
 IsSeen (RegistersWritten peer) function bytes old new attacker = page_of new.state.registers peer ≢ page_of old.state.registers peer
-IsSeen (RegistersRead peer) function bytes old new attacker = IsAnswered function bytes new attacker
+IsSeen (RegistersRead peer) function bytes old new attacker = is_answered function bytes new attacker ≡ true
 IsSeen Completion function bytes old new attacker = old.state.counts.unexpected < new.state.counts.unexpected
 IsSeen Counts function bytes old new attacker = new.state.counts ≢ old.state.counts

@@ -1,20 +1,17 @@
 -- A packet that harms a domain: what a witness shows.
-use Rattle.std.specs.Prelude.{◌≡◌, ◌≢◌, ℕ, true, List, Some, All}
+use Rattle.std.specs.Prelude.{◌≡◌, ◌≢◌, ◌⊎◌, ℕ, true, false, List, Some}
+use Rattle.fab_types.specs.declared.faults.begin.BeginFault.{BeginFault}
 use Rattle.fab_types.specs.declared.outcome.Outcome.TheVariants.{Moved}
 use Rattle.platform.specs.Platform.{Platform}
 use Rattle.domain.specs.Domains.{DomainView}
 use Rattle.fabric_core.specs.declared.event.Event.{Event}
 use Rattle.fabric_core.specs.declared.event.Event.TheVariants.{Submit}
-use Rattle.fabric_core.specs.Events.{StepsTo}
+use Rattle.fabric_core.specs.Events.{StepsTo, refusal}
 use Rattle.fabric_core.specs.Isolation.{domain_of, home}
-use Rattle.fabric_core.specs.TakenOut.{NoneCanTell}
 use Rattle.fabric_core.specs.World.{World, world_of}
 use Rattle.sweeps.specs.Sweeps.{IsSweep, SweepsUpTo}
 use Rattle.attacks.specs.Controls.{is_clear}
 use Rattle.attacks.specs.declared.attack.Harm.{Harm}
-use Rattle.attacks.specs.declared.findings.Findings.{Findings}
-use Rattle.attacks.specs.declared.findings.Findings.TheVariants.{Guarded, Unguarded}
-use Rattle.attacks.specs.declared.findings.Pair.{Pair}
 use Rattle.attacks.specs.declared.findings.Witness.{Witness}
 use Rattle.audit.specs.Harms.{IsSeen}
 
@@ -54,17 +51,17 @@ pub record Lands (platform : Platform) (w : Witness) : Type 0 where
   pub run : IsRun platform w.function w.bytes end
   pub shown : Shows (world_of platform) end w.attacker w.victim w.harm w.function w.bytes
 
--- it is of these two domains
-pub record IsOf (attacker victim : ℕ) (platform : Platform) (w : Witness) : Type 0 where
-  pub attacker_is : w.attacker ≡ attacker
-  pub victim_is : w.victim ≡ victim
-  pub lands : Lands platform w
+-- the packet isn't begun: its function isn't the attacker's, or the fabric refuses it
+abbrev pub IsRefused : Platform → ℕ → ℕ → List ℕ → Type 0
+IsRefused platform attacker function bytes =
+    (home (world_of platform) (Submit function bytes) ≢ Some attacker) ⊎ ((fault : BeginFault) × (refusal (world_of platform) (Submit function bytes) ≡ Some fault))
 
--- each witness of a pair is of its domains, and lands
-abbrev pub AreWitnesses : Platform → Pair → Type 0
-AreWitnesses platform pair = All (IsOf pair.attacker pair.victim platform) pair.witnesses.items
+-- after a run of the packet no harm is seen
+pub record IsHarmless (platform : Platform) (w : Witness) : Type 0 where
+  pub end : World
+  pub run : IsRun platform w.function w.bytes end
+  pub unseen : Shows (world_of platform) end w.attacker w.victim w.harm w.function w.bytes → ⊥
 
--- what findings say: no domain can tell the others from none, or each witness lands
-abbrev pub Tell : Platform → Findings → Type 0
-Tell platform Guarded = NoneCanTell (world_of platform)
-Tell platform (Unguarded pairs) = All (AreWitnesses platform) pairs.items
+-- the packet doesn't land: its control isn't clear at the port, or it isn't begun, or no harm is seen
+abbrev pub Fails : Platform → Witness → Type 0
+Fails platform w = (is_clear platform.ports w.port w.control ≡ false) ⊎ (IsRefused platform w.attacker w.function w.bytes ⊎ IsHarmless platform w)

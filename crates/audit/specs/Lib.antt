@@ -1,3 +1,4 @@
 pub mod Settings
 pub mod Harms
 pub mod Landing
+pub mod Telling

@@ -1,37 +1,28 @@
 //! The audit of a layout.
 
-ghost use Rattle.std.specs.Prelude.{◌≡◌, ◌↔◌, true, All, IfOk, IfSome, OnOk};
+ghost use Rattle.std.specs.Prelude.{◌≡◌, ◌≢◌, ◌↔◌, ◌++◌, true, IfOk, OnOk, map};
 ghost use Rattle.std.specs.List.{list_all};
+ghost use Rattle.std.specs.Option.{option_to_list};
 ghost use Rattle.platform.specs.Share.{is_guarded_port};
 ghost use Rattle.attacks.specs.declared.findings.Findings.TheVariants.{Guarded};
 ghost use Rattle.audit.specs.Settings.{IsSetting};
-ghost use Rattle.audit.specs.Landing.{AreWitnesses, IsOf, Tell};
+ghost use Rattle.audit.specs.Telling.{Adds, AddsFound, AreFound, ArePairsOf, IsFound, IsPairOf, Tell, attempts, candidates, couple_of, couples, couples_of, ways, witness_by};
 
 use crate::setting::Setting;
 use crate::trial::witness_of;
-use attacks::{Attack, Findings, Pair, Way, Witness, tries};
+use attacks::{Attack, Findings, Pair, Way, Witness, own_functions, tries};
 use domain::Domain;
 use fab_types::{Bdf, DomainId, NoMemory};
 use layout::{Layout, Start};
 use std::alloc::Global;
 use std::sync::Wait;
 
-/// All ways of harm, the worst first.
-const WAYS: [Way; 6] = [
-    Way::FrameWritten,
-    Way::FrameRead,
-    Way::RegistersWritten,
-    Way::RegistersRead,
-    Way::Completion,
-    Way::Counts,
-];
-
 /// Says whether the domains of a layout are kept apart, and where they aren't, what shows it.
 ///
 /// A layout is guarded where each downstream port has all five ACS controls set. Then no domain can tell the others from
 /// none, and nothing is tried. In any other, for each two domains and each way of harm, the functions of the one try requests
-/// against the other (`attacks::tries`), each in a fresh fabric, until one is seen to land; only what was seen is told. That
-/// there is no other attack isn't claimed.
+/// against the other (`attacks::tries`), each in a fresh fabric, until one is seen to land. That one is told, and none where
+/// none of them lands. That there is no other attack isn't claimed.
 ///
 /// It answers `NoMemory` where memory was refused.
 pub fn audit<R: Wait>(rt: &R, alloc: Global, layout: &Layout) -> Result<Findings, NoMemory>
@@ -42,27 +33,41 @@ pub fn audit<R: Wait>(rt: &R, alloc: Global, layout: &Layout) -> Result<Findings
     if layout.is_guarded() {
         return Ok(Findings::Guarded);
     }
-    let mut pairs = Vec::new(alloc);
-    for attacker in setting.start.domains() {
-        add_pairs(rt, alloc, &setting, attacker, &mut pairs)?;
-    }
+    let pairs = all_pairs(rt, alloc, &setting, setting.start.domains())?;
     Ok(Findings::Unguarded(pairs))
 }
 
-/// Adds what the attacker was seen to do to each other domain.
+/// What each of these domains was seen to do to each other.
+fn all_pairs<R: Wait>(
+    rt: &R,
+    alloc: Global,
+    setting: &Setting<'_>,
+    domains: &[Domain],
+) -> Result<Vec<Pair>, NoMemory>
+    requires { IsSetting setting.now }
+    ensures { IfOk result (λ pairs. ArePairsOf setting.now.layout.now (couples domains.now) pairs.items) }
+{
+    let mut pairs = Vec::new(alloc);
+    for attacker in domains {
+        add_pairs(rt, alloc, setting, attacker, domains, &mut pairs)?;
+    }
+    Ok(pairs)
+}
+
+/// Adds what the attacker was seen to do to each other of these domains.
 fn add_pairs<R: Wait>(
     rt: &R,
     alloc: Global,
     setting: &Setting<'_>,
     attacker: &Domain,
+    domains: &[Domain],
     pairs: &mut Vec<Pair>,
 ) -> Result<(), NoMemory>
-    requires setting { IsSetting setting.now }
-    requires told { All (AreWitnesses setting.now.layout.now) pairs.old.items }
-    ensures { OnOk result (All (AreWitnesses setting.now.layout.now) pairs.new.items) }
+    requires { IsSetting setting.now }
+    ensures { OnOk result (Adds setting.now.layout.now (couples_of domains.now attacker.now) pairs.old.items pairs.new.items) }
 {
-    for victim in setting.start.domains() {
-        add_pair(rt, alloc, setting, attacker.start(), victim.start(), pairs)?;
+    for victim in domains {
+        add_pair(rt, alloc, setting, attacker, victim, pairs)?;
     }
     Ok(())
 }
@@ -72,14 +77,14 @@ fn add_pair<R: Wait>(
     rt: &R,
     alloc: Global,
     setting: &Setting<'_>,
-    attacker: &Start,
-    victim: &Start,
+    attacker: &Domain,
+    victim: &Domain,
     pairs: &mut Vec<Pair>,
 ) -> Result<(), NoMemory>
-    requires setting { IsSetting setting.now }
-    requires told { All (AreWitnesses setting.now.layout.now) pairs.old.items }
-    ensures { OnOk result (All (AreWitnesses setting.now.layout.now) pairs.new.items) }
+    requires { IsSetting setting.now }
+    ensures { OnOk result (Adds setting.now.layout.now (couple_of attacker.now victim.now) pairs.old.items pairs.new.items) }
 {
+    let (attacker, victim) = (attacker.start(), victim.start());
     if attacker.domain() == victim.domain() {
         return Ok(());
     }
@@ -96,18 +101,78 @@ fn pair_of<R: Wait>(
     attacker: &Start,
     victim: &Start,
 ) -> Result<Pair, NoMemory>
-    requires { IsSetting setting.now }
-    ensures { IfOk result (AreWitnesses setting.now.layout.now) }
+    requires setting { IsSetting setting.now }
+    requires other { attacker.now.domain ≢ victim.now.domain }
+    ensures { IfOk result (IsPairOf setting.now.layout.now attacker.now victim.now) }
 {
-    let mut witnesses = Vec::new(alloc);
-    for way in &WAYS {
-        add_found(rt, alloc, setting, *way, attacker, victim, &mut witnesses)?;
-    }
+    let witnesses = all_found(rt, alloc, setting, attacker, victim)?;
     Ok(Pair {
         attacker: attacker.domain(),
         victim: victim.domain(),
         witnesses,
     })
+}
+
+/// The first witness of each way of harm, if there is one, the worst first.
+fn all_found<R: Wait>(
+    rt: &R,
+    alloc: Global,
+    setting: &Setting<'_>,
+    attacker: &Start,
+    victim: &Start,
+) -> Result<Vec<Witness>, NoMemory>
+    requires setting { IsSetting setting.now }
+    requires other { attacker.now.domain ≢ victim.now.domain }
+    ensures { IfOk result (λ witnesses. AreFound setting.now.layout.now attacker.now victim.now ways witnesses.items) }
+{
+    let mut all = Vec::new(alloc);
+    add_found(
+        rt,
+        alloc,
+        setting,
+        Way::FrameWritten,
+        attacker,
+        victim,
+        &mut all,
+    )?;
+    add_found(
+        rt,
+        alloc,
+        setting,
+        Way::FrameRead,
+        attacker,
+        victim,
+        &mut all,
+    )?;
+    add_found(
+        rt,
+        alloc,
+        setting,
+        Way::RegistersWritten,
+        attacker,
+        victim,
+        &mut all,
+    )?;
+    add_found(
+        rt,
+        alloc,
+        setting,
+        Way::RegistersRead,
+        attacker,
+        victim,
+        &mut all,
+    )?;
+    add_found(
+        rt,
+        alloc,
+        setting,
+        Way::Completion,
+        attacker,
+        victim,
+        &mut all,
+    )?;
+    add_found(rt, alloc, setting, Way::Counts, attacker, victim, &mut all)?;
+    Ok(all)
 }
 
 /// Adds the first witness of this way of harm, if there is one.
@@ -121,15 +186,24 @@ fn add_found<R: Wait>(
     witnesses: &mut Vec<Witness>,
 ) -> Result<(), NoMemory>
     requires setting { IsSetting setting.now }
-    requires told { All (IsOf attacker.now.domain victim.now.domain setting.now.layout.now) witnesses.old.items }
-    ensures { OnOk result (All (IsOf attacker.now.domain victim.now.domain setting.now.layout.now) witnesses.new.items) }
+    requires other { attacker.now.domain ≢ victim.now.domain }
+    ensures { OnOk result (AddsFound setting.now.layout.now (candidates setting.now.layout.now attacker.now victim.now way) witnesses.old.items witnesses.new.items) }
 {
     let found = found(rt, alloc, setting, way, attacker, victim)?;
-    let Some(witness) = found else {
-        return Ok(());
-    };
-    witnesses.push(witness)?;
+    add_some(witnesses, found)?;
     Ok(())
+}
+
+fn add_some(witnesses: &mut Vec<Witness>, found: Option<Witness>) -> Result<(), NoMemory>
+    ensures { OnOk result (witnesses.new.items ≡ witnesses.old.items ++ option_to_list found) }
+{
+    match found {
+        Some(witness) => {
+            witnesses.push(witness)?;
+            Ok(())
+        }
+        None => Ok(()),
+    }
 }
 
 /// The first witness of this way of harm.
@@ -141,19 +215,33 @@ fn found<R: Wait>(
     attacker: &Start,
     victim: &Start,
 ) -> Result<Option<Witness>, NoMemory>
-    requires { IsSetting setting.now }
-    ensures { IfOk result (λ found. IfSome found (IsOf attacker.now.domain victim.now.domain setting.now.layout.now)) }
+    requires setting { IsSetting setting.now }
+    requires other { attacker.now.domain ≢ victim.now.domain }
+    ensures { IfOk result (IsFound setting.now.layout.now (candidates setting.now.layout.now attacker.now victim.now way)) }
 {
-    for line in attacker.functions() {
-        if attacker.owns_function(line.id) {
-            let attacks = tries(alloc, setting.layout, way, line.id, victim)?;
-            let (one, other) = (attacker.domain(), victim.domain());
-            if let Some(witness) = first_of(rt, alloc, setting, one, other, line.id, &attacks)? {
-                return Ok(Some(witness));
-            }
-        }
+    let own = own_functions(alloc, attacker)?;
+    let attempts = attempts(alloc, setting.layout, way, &own, victim)?;
+    let (attacker, victim) = (attacker.domain(), victim.domain());
+    let found = first_of(rt, alloc, setting, attacker, victim, &attempts)?;
+    Ok(found)
+}
+
+/// What each of these functions tries in this way.
+fn attempts(
+    alloc: Global,
+    layout: &Layout,
+    way: Way,
+    functions: &[Bdf],
+    victim: &Start,
+) -> Result<Vec<Attack>, NoMemory>
+    ensures { IfOk result (λ all. all.items ≡ attempts layout.now way functions.now victim.now) }
+{
+    let mut all = Vec::new(alloc);
+    for function in functions {
+        let more = tries(alloc, layout, way, *function, victim)?;
+        all.extend_from_slice(&more)?;
     }
-    Ok(None)
+    Ok(all)
 }
 
 /// The witness of the first of these attacks that lands.
@@ -163,14 +251,14 @@ fn first_of<R: Wait>(
     setting: &Setting<'_>,
     attacker: DomainId,
     victim: DomainId,
-    function: Bdf,
     attacks: &[Attack],
 ) -> Result<Option<Witness>, NoMemory>
-    requires { IsSetting setting.now }
-    ensures { IfOk result (λ found. IfSome found (IsOf attacker victim setting.now.layout.now)) }
+    requires setting { IsSetting setting.now }
+    requires other { attacker ≢ victim }
+    ensures { IfOk result (IsFound setting.now.layout.now (map (witness_by attacker victim) attacks.now)) }
 {
     for attack in attacks {
-        if let Some(witness) = witness_of(rt, alloc, setting, attacker, victim, function, attack)? {
+        if let Some(witness) = witness_of(rt, alloc, setting, attacker, victim, attack)? {
             return Ok(Some(witness));
         }
     }

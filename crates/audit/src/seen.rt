@@ -1,32 +1,38 @@
 //! What is seen of a domain after an attack.
 
-ghost use Rattle.std.specs.Prelude.{◌≡◌, ◌≢◌, IsTrue, true};
+ghost use Rattle.std.specs.Prelude.{◌≡◌, ◌≢◌, ◌↔◌, IsTrue};
 ghost use Rattle.std.specs.List.{list_any};
-ghost use Rattle.audit.specs.Harms.{IsSeen, is_served, is_success};
+ghost use Rattle.std.specs.Option.{option_copied};
+ghost use Rattle.audit.specs.Harms.{IsSeen, is_answered, is_served, is_success};
 ghost use Rattle.host_memory.specs.Pages.{page_of};
 
 use attacks::Harm;
 use domain::{Domain, Entry, Record};
 use fab_types::{Bdf, Origin, PacketBytes, Parties, Status, same_origin};
 
+/// Is it another page now, or one of the two missing?
+fn is_other(old: Option<&[u8]>, new: Option<&[u8]>) -> bool
+    ensures { IsTrue result ↔ (option_copied new.entry ≢ option_copied old.entry) }
+{
+    match (old, new) {
+        (Some(old), Some(new)) => old != new,
+        (None, None) => false,
+        _ => true,
+    }
+}
+
 /// Is the frame another now?
 fn differs_in_frame(old: &Domain, new: &Domain, number: u16) -> bool
-    ensures { IsTrue result → page_of new.now.state.frames number ≢ page_of old.now.state.frames number }
+    ensures { IsTrue result ↔ (page_of new.now.state.frames number ≢ page_of old.now.state.frames number) }
 {
-    match (old.frame(number), new.frame(number)) {
-        (Some(old), Some(new)) => old != new,
-        _ => false,
-    }
+    is_other(old.frame(number), new.frame(number))
 }
 
 /// Is the register page another now?
 fn differs_in_registers(old: &Domain, new: &Domain, function: Bdf) -> bool
-    ensures { IsTrue result → page_of new.now.state.registers function ≢ page_of old.now.state.registers function }
+    ensures { IsTrue result ↔ (page_of new.now.state.registers function ≢ page_of old.now.state.registers function) }
 {
-    match (old.registers(function), new.registers(function)) {
-        (Some(old), Some(new)) => old != new,
-        _ => false,
-    }
+    is_other(old.registers(function), new.registers(function))
 }
 
 /// Is it a successful completion of a request of this function?
@@ -47,19 +53,31 @@ fn is_served(entry: &Entry, function: Bdf, bytes: &PacketBytes) -> bool
     }
 }
 
-/// Did the function get data that the domain gave for the packet?
-fn has_answer(new: &Domain, attacker: &Domain, function: Bdf, bytes: &PacketBytes) -> bool
-    ensures { IsTrue result → (list_any (is_served function bytes.now) new.now.journal ≡ true) × (list_any (is_success function) attacker.now.state.deliveries ≡ true) }
+/// Has the domain an entry of the packet with these bytes, which this function of another domain made?
+fn has_served(domain: &Domain, function: Bdf, bytes: &PacketBytes) -> bool
+    ensures { result ≡ list_any (is_served function bytes.now) domain.now.journal }
 {
-    let is_served = new
+    domain
         .journal()
         .iter()
-        .any(|entry| is_served(entry, function, bytes));
-    is_served
-        && attacker
-            .records()
-            .iter()
-            .any(|delivery| is_success(delivery, function))
+        .any(|entry| is_served(entry, function, bytes))
+}
+
+/// Has this function of the domain got a successful completion?
+fn has_success(domain: &Domain, function: Bdf) -> bool
+    ensures { result ≡ list_any (is_success function) domain.now.state.deliveries }
+{
+    domain
+        .records()
+        .iter()
+        .any(|delivery| is_success(delivery, function))
+}
+
+/// Did the function get data that the domain gave for the packet?
+fn has_answer(new: &Domain, attacker: &Domain, function: Bdf, bytes: &PacketBytes) -> bool
+    ensures { result ≡ is_answered function bytes.now new.now attacker.now }
+{
+    has_served(new, function, bytes) && has_success(attacker, function)
 }
 
 /// Is the harm seen of the domain, which was in the old state and is in the new one?
@@ -72,7 +90,7 @@ pub(crate) fn is_seen(
     new: &Domain,
     attacker: &Domain,
 ) -> bool
-    ensures { IsTrue result → IsSeen harm function bytes.now old.now new.now attacker.now }
+    ensures { IsTrue result ↔ IsSeen harm function bytes.now old.now new.now attacker.now }
 {
     match harm {
         Harm::FrameWritten(frame) => differs_in_frame(old, new, frame),

@@ -1,13 +1,14 @@
 //! One attack, tried on a fresh fabric.
 
-ghost use Rattle.std.specs.Prelude.{◌≡◌, IfOk, IfSome, IsTrue, OnOk};
+ghost use Rattle.std.specs.Prelude.{◌≡◌, ◌≢◌, ◌↔◌, IfOk, IfSome, IsTrue, MatchOption, OnOk};
 ghost use Rattle.std.specs.List.{flat_map};
 ghost use Rattle.fabric_core.specs.declared.event.Event.TheVariants.{Submit};
 ghost use Rattle.fabric_core.specs.Isolation.{home};
 ghost use Rattle.fabric_core.specs.Stations.{events_at};
 ghost use Rattle.fabric_core.specs.World.{world_of};
 ghost use Rattle.audit.specs.Settings.{IsSetting};
-ghost use Rattle.audit.specs.Landing.{ComesToRest, IsOf, IsRun, Shows};
+ghost use Rattle.audit.specs.Landing.{ComesToRest, Fails, IsRefused, IsRun, Lands, Shows};
+ghost use Rattle.audit.specs.Telling.{witness_by};
 
 use crate::seen::is_seen;
 use crate::setting::Setting;
@@ -48,6 +49,7 @@ fn ran<R: Wait>(
     requires { IsSetting setting.now }
     ensures run { IfOk result (λ ran. IfSome ran (λ fabric. IsRun setting.now.layout.now function bytes fabric)) }
     ensures own { IfOk result (λ ran. IfSome ran (λ _. home (world_of setting.now.layout.now) (Submit function bytes) ≡ Some attacker)) }
+    ensures refused { IfOk result (λ ran. (ran ≡ None) → IsRefused setting.now.layout.now attacker function bytes) }
 {
     let event = Event::Submit(function, bytes);
     if setting.start.home(&event) != Some(attacker) {
@@ -59,8 +61,9 @@ fn ran<R: Wait>(
             come_to_rest(rt, &mut fabric, &setting.stations, MOST_SWEEPS)?;
             Ok(Some(fabric))
         }
+        Outcome::Refused(_) => Ok(None),
+        Outcome::Idle => unreachable!(),
         Outcome::NoMemory => Err(NoMemory),
-        Outcome::Idle | Outcome::Refused(_) => Ok(None),
     }
 }
 
@@ -74,7 +77,7 @@ fn shows(
     function: Bdf,
     bytes: &PacketBytes,
 ) -> bool
-    ensures { IsTrue result → Shows setting.now.start end.now attacker victim harm function bytes.now }
+    ensures { IsTrue result ↔ Shows setting.now.start end.now attacker victim harm function bytes.now }
 {
     let Some(old) = setting.start.domain(victim) else {
         return false;
@@ -95,21 +98,22 @@ pub(crate) fn witness_of<R: Wait>(
     setting: &Setting<'_>,
     attacker: DomainId,
     victim: DomainId,
-    function: Bdf,
     attack: &Attack,
 ) -> Result<Option<Witness>, NoMemory>
-    requires { IsSetting setting.now }
-    ensures { IfOk result (λ found. IfSome found (IsOf attacker victim setting.now.layout.now)) }
+    requires setting { IsSetting setting.now }
+    requires other { attacker ≢ victim }
+    ensures { IfOk result (λ found. MatchOption found (Fails setting.now.layout.now (witness_by attacker victim attack.now)) (λ w. (w ≡ witness_by attacker victim attack.now) × Lands setting.now.layout.now w)) }
 {
-    if attacker == victim || !is_clear(setting.layout.ports(), attack.port, attack.control) {
+    if !is_clear(setting.layout.ports(), attack.port, attack.control) {
         return Ok(None);
     }
+    let function = attack.function;
     let bytes = attack.bytes(alloc)?;
     let copy = PacketBytes::copy_of(alloc, bytes.as_slice())?;
     let Some(end) = ran(rt, alloc, setting, attacker, function, copy)? else {
         return Ok(None);
     };
-    if !shows(
+    let is_shown = shows(
         setting,
         &end,
         attacker,
@@ -117,16 +121,18 @@ pub(crate) fn witness_of<R: Wait>(
         attack.harm,
         function,
         &bytes,
-    ) {
-        return Ok(None);
+    );
+    if is_shown {
+        Ok(Some(Witness {
+            attacker,
+            victim,
+            harm: attack.harm,
+            function,
+            port: attack.port,
+            control: attack.control,
+            bytes,
+        }))
+    } else {
+        Ok(None)
     }
-    Ok(Some(Witness {
-        attacker,
-        victim,
-        harm: attack.harm,
-        function,
-        port: attack.port,
-        control: attack.control,
-        bytes,
-    }))
 }

@@ -9,7 +9,7 @@ use Rattle.inputs.specs.declared.fault.ExitStatus.TheVariants as status
 use Rattle.attacks.specs.declared.findings.Findings.{Findings}
 use Rattle.attacks.specs.declared.findings.Findings.TheVariants.{Guarded, Unguarded}
 use Rattle.attacks.specs.declared.findings.Pair.{Pair}
-use Rattle.audit.specs.Landing.{Tell}
+use Rattle.audit.specs.Telling.{Tell}
 use Rattle.findings_text.specs.Witnesses.{explanation_text}
 
 abbrev pub has_witness : Pair → Bool

@@ -1,7 +1,9 @@
-use Rattle.audit.specs.Landing.{AreWitnesses}
-use Rattle.audit.proofs.More.{more}
+use Rattle.std.proofs.Common.{◌≢◌, rules}
+use Rattle.audit.proofs.Lists.{adds_couple}
 use Rattle.audit.proofs.search.add_pair.Goals as goal
 
 pub returns : goal.returns
 returns g c =
-    more (AreWitnesses c.args.setting.now.layout.now) c.args.pairs.now.items _ c.in_ok-pair.pair c.in_ok-push.ensures.items c.requires.told c.in_ok-pair.ensures
+    let other : c.args.attacker.now.share.domain ≢ c.args.victim.now.share.domain = search rules in
+    adds_couple _ c.args.attacker.now c.args.victim.now c.start-attacker.result.now c.start-victim.result.now c.in_ok-pair.pair _ _ c.start-attacker.ensures c.start-victim.ensures other c.in_ok-pair.ensures
+    c.in_ok-push.ensures.items

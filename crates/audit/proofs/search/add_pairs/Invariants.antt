@@ -1,7 +1,8 @@
-use Rattle.std.specs.Prelude.{All}
-use Rattle.audit.specs.Landing.{AreWitnesses}
+use Rattle.std.proofs.Common.{take}
+use Rattle.std.specs.List.{flat_map}
+use Rattle.audit.specs.Telling.{Adds, couple_of}
 use Rattle.audit.proofs.search.add_pairs.Given as goal
 
--- the witnesses so far land
+-- the pairs of the domains so far are added
 abbrev pub invariant-loop-victim : goal.invariant-loop-victim
-invariant-loop-victim g l = All (AreWitnesses l.setting.layout.now) l.pairs.items
+invariant-loop-victim g l = Adds l.setting.layout.now (flat_map (couple_of l.attacker) (take l.victim-index l.domains)) l.initial.pairs.items l.pairs.items

@@ -1,7 +1,7 @@
 use Rattle.std.specs.List.{list_all}
 use Rattle.fabric_core.specs.World.{world_of}
 use Rattle.platform.specs.Share.{is_guarded_port}
-use Rattle.audit.proofs.More.{none_can_tell}
+use Rattle.audit.proofs.Guarded.{none_can_tell}
 use Rattle.audit.proofs.setting.Setting.new.Goals as goal
 
 pub returns-clause-isolated : goal.returns-clause-isolated

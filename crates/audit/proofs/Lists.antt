@@ -1,0 +1,140 @@
+-- What is told of two domains, or of one way more.
+use Rattle.std.proofs.Common.{◌≡◌, ◌≢◌, ◌⊎◌, ℕ, suc, ◌+◌, ◌<◌, ◌≤◌, Bool, true, false, List, [], ◌∷◌, ◌++◌, length, take, drop, Option, Some, None, refl, subst, sym, ap, ◌∙◌, append_assoc, ⊎_elim}
+use Rattle.std.specs.Prelude.{All, ◌==◌, map, slice_index_or, if◌then◌else◌}
+use Rattle.std.specs.List.{flat_map}
+use Rattle.std.specs.Option.{option_to_list}
+use Rattle.std.proofs.Math.Seq.{split_at}
+use Rattle.std.proofs.lemmas.Bool.{false≢true}
+use Rattle.std.proofs.lemmas.Bool.Decides.{eqb_tells}
+use Rattle.std.proofs.lemmas.Grind.{flat_map-append}
+use Rattle.std.proofs.lemmas.List.{append-nil, map-append}
+use Rattle.std.proofs.lemmas.List.Elements.{All-append, All-cons, All-nil}
+use Rattle.reports.proofs.Taking.{take_all, take_next}
+use Rattle.platform.specs.Platform.{Platform}
+use Rattle.platform.specs.Share.{Share}
+use Rattle.domain.specs.Domains.{DomainView}
+use Rattle.fabric_core.specs.World.{World, world_of}
+use Rattle.attacks.specs.Tries.{own_ids}
+use Rattle.attacks.specs.declared.attack.Attack.{Attack}
+use Rattle.attacks.specs.declared.attack.Way.{Way}
+use Rattle.attacks.specs.declared.attack.Way.TheVariants as way
+use Rattle.attacks.specs.declared.findings.Pair.{Pair}
+use Rattle.attacks.specs.declared.findings.Witness.{Witness}
+use Rattle.audit.specs.Landing.{Fails, Lands}
+use Rattle.audit.specs.Telling.{Adds, AddsFound, AreFound, ArePairsOf, IsFound, IsPairOf, attempts, candidates, couple_of, couples, couples_of, ways, witness_by}
+
+-- ---- requests
+
+-- one more fails
+pub fails_more : {X : Type 0} (p : Platform) (f : X → Witness) (xs : List X) (i : ℕ) (x : X) → i < length xs → x ≡ slice_index_or xs i x
+    → All (Fails p) (map f (take i xs)) → Fails p (f x) → All (Fails p) (map f (take (i + 1) xs))
+fails_more {X = X} p f xs i x lt is before now =
+    let list : map f (take (i + 1) xs) ≡ map f (take i xs) ++ f x ∷ [] = ap (map f) (take_next xs i x lt is) ∙ map-append f (take i xs) (x ∷ []) in
+    subst (All (Fails p)) (sym list) (All-append (Fails p) (map f (take i xs)) (f x ∷ []) before (All-cons (Fails p) (f x) [] now (All-nil (Fails p))))
+
+-- each fails
+pub all_fail : {X : Type 0} (p : Platform) (f : X → Witness) (xs : List X) (i : ℕ) → length xs ≤ i → All (Fails p) (map f (take i xs)) → All (Fails p) (map f xs)
+all_fail {X = X} p f xs i le h = subst (λ (l : List X). All (Fails p) (map f l)) (take_all xs i le) h
+
+-- the first that lands
+pub found_at : {X : Type 0} (p : Platform) (f : X → Witness) (xs : List X) (i : ℕ) (x : X) (w : Witness) → i < length xs → x ≡ slice_index_or xs i x
+    → All (Fails p) (map f (take i xs)) → w ≡ f x → Lands p w → IsFound p (map f xs) (Some w)
+found_at {X = X} p f xs i x w lt is before same lands = record {
+  before = map f (take i xs);
+  after = map f (drop (suc i) xs);
+  all = ap (map f) (split_at xs i x lt)
+      ∙ (map-append f (take i xs) (slice_index_or xs i x ∷ drop (suc i) xs) ∙ ap (λ (z : Witness). map f (take i xs) ++ z ∷ map f (drop (suc i) xs)) (sym (same ∙ ap f is)));
+  fail = before;
+  lands = lands;
+}
+
+-- among what one domain tries against another
+pub found_of : (p : Platform) (a v : Share) (by : Way) (one other : ℕ) (attacks : List Attack) (found : Option Witness) → one ≡ a.domain → other ≡ v.domain
+    → attacks ≡ attempts p by (own_ids a) v → IsFound p (map (witness_by one other) attacks) found → IsFound p (candidates p a v by) found
+found_of p a v by one other attacks found one_is other_is attacks_is h =
+    let first = subst (λ (n : ℕ). IsFound p (map (witness_by n other) attacks) found) one_is h in
+    let second = subst (λ (n : ℕ). IsFound p (map (witness_by a.domain n) attacks) found) other_is first in
+    subst (λ (l : List Attack). IsFound p (map (witness_by a.domain v.domain) l) found) attacks_is second
+
+-- ---- ways
+
+found_more : (p : Platform) (a v : Share) (these : List Way) (one : Way) (told more : List Witness) (found : Option Witness)
+    → AreFound p a v these told → IsFound p (candidates p a v one) found → more ≡ told ++ option_to_list found → AreFound p a v (these ++ one ∷ []) more
+found_more p a v [] one told more found before now e =
+    (found, [], now, refl, e ∙ (ap (λ (ws : List Witness). ws ++ option_to_list found) before ∙ sym (append-nil (option_to_list found))))
+found_more p a v (w ∷ ws) one told more found before now e = (
+  before.0,
+  before.1 ++ option_to_list found,
+  before.2,
+  found_more p a v ws one before.1 (before.1 ++ option_to_list found) found before.3 now refl,
+  e ∙ (ap (λ (l : List Witness). l ++ option_to_list found) before.4 ∙ append_assoc (option_to_list before.0) before.1 (option_to_list found)),
+)
+
+pub all_ways : (p : Platform) (a v : Share) (t0 t1 t2 t3 t4 t5 t6 : List Witness) → t0 ≡ [] → AddsFound p (candidates p a v way.FrameWritten) t0 t1
+    → AddsFound p (candidates p a v way.FrameRead) t1 t2 → AddsFound p (candidates p a v way.RegistersWritten) t2 t3 → AddsFound p (candidates p a v way.RegistersRead) t3 t4
+    → AddsFound p (candidates p a v way.Completion) t4 t5 → AddsFound p (candidates p a v way.Counts) t5 t6 → AreFound p a v ways t6
+all_ways p a v t0 t1 t2 t3 t4 t5 t6 none h1 h2 h3 h4 h5 h6 =
+    let one = found_more p a v [] way.FrameWritten t0 t1 h1.found none h1.is h1.all in
+    let two = found_more p a v (way.FrameWritten ∷ []) way.FrameRead t1 t2 h2.found one h2.is h2.all in
+    let three = found_more p a v (way.FrameWritten ∷ way.FrameRead ∷ []) way.RegistersWritten t2 t3 h3.found two h3.is h3.all in
+    let four = found_more p a v (way.FrameWritten ∷ way.FrameRead ∷ way.RegistersWritten ∷ []) way.RegistersRead t3 t4 h4.found three h4.is h4.all in
+    let five =
+    found_more p a v (way.FrameWritten ∷ way.FrameRead ∷ way.RegistersWritten ∷ way.RegistersRead ∷ []) way.Completion t4 t5 h5.found four h5.is h5.all in
+    found_more p a v (way.FrameWritten ∷ way.FrameRead ∷ way.RegistersWritten ∷ way.RegistersRead ∷ way.Completion ∷ []) way.Counts t5 t6 h6.found five h6.is h6.all
+
+-- ---- pairs
+
+pairs_append : (p : Platform) (cs ds : List (DomainView × DomainView)) (ps qs : List Pair) → ArePairsOf p cs ps → ArePairsOf p ds qs → ArePairsOf p (cs ++ ds) (ps ++ qs)
+pairs_append p [] ds ps qs before more = subst (λ (l : List Pair). ArePairsOf p ds (l ++ qs)) (sym before) more
+pairs_append p (c ∷ cs) ds ps qs before more =
+    (before.0, before.1 ++ qs, before.2, pairs_append p cs ds before.1 qs before.3 more, ap (λ (l : List Pair). l ++ qs) before.4)
+
+adds_unless : (p : Platform) (same : Bool) (a v : DomainView) (pair : Pair) (old new : List Pair) → same ≡ false → IsPairOf p a.share v.share pair → new ≡ old ++ pair ∷ []
+    → Adds p (if same then [] else (a, v) ∷ []) old new
+adds_unless p true a v pair old new clear is e = absurd (false≢true (sym clear))
+adds_unless p false a v pair old new clear is e = record { added = pair ∷ []; of = (pair, [], is, refl, refl); all = e }
+
+differ : (m n : ℕ) → m ≢ n → (m == n) ≡ false
+differ m n other = ⊎_elim (λ (h : ((m == n) ≡ true) × (m ≡ n)). absurd (other h.1)) (λ (h : ((m == n) ≡ false) × (m ≢ n)). h.0) (eqb_tells m n)
+
+pub adds_couple : (p : Platform) (a v : DomainView) (s t : Share) (pair : Pair) (old new : List Pair) → s ≡ a.share → t ≡ v.share → a.share.domain ≢ v.share.domain
+    → IsPairOf p s t pair → new ≡ old ++ pair ∷ [] → Adds p (couple_of a v) old new
+adds_couple p a v s t pair old new s_is t_is other is e =
+    let first = subst (λ (x : Share). IsPairOf p x t pair) s_is is in
+    let second = subst (λ (x : Share). IsPairOf p a.share x pair) t_is first in
+    adds_unless p (a.share.domain == v.share.domain) a v pair old new (differ a.share.domain v.share.domain other) second e
+
+adds_more : (p : Platform) (cs ds all : List (DomainView × DomainView)) (old mid new : List Pair) → all ≡ cs ++ ds → Adds p cs old mid → Adds p ds mid new → Adds p all old new
+adds_more p cs ds all old mid new e before now = record {
+  added = before.added ++ now.added;
+  of = subst (λ (l : List (DomainView × DomainView)). ArePairsOf p l (before.added ++ now.added)) (sym e) (pairs_append p cs ds before.added now.added before.of now.of);
+  all = now.all ∙ (ap (λ (l : List Pair). l ++ now.added) before.all ∙ append_assoc old before.added now.added);
+}
+
+-- those of one domain more
+pub adds_next : (p : Platform) (f : DomainView → List (DomainView × DomainView)) (xs : List DomainView) (i : ℕ) (x : DomainView) (old mid new : List Pair) → i < length xs
+    → x ≡ slice_index_or xs i x → Adds p (flat_map f (take i xs)) old mid → Adds p (f x) mid new → Adds p (flat_map f (take (i + 1) xs)) old new
+adds_next p f xs i x old mid new lt is before now =
+    let one : flat_map f (x ∷ []) ≡ f x = append-nil (f x) in
+    let list : flat_map f (take (i + 1) xs) ≡ flat_map f (take i xs) ++ f x =
+    ap (flat_map f) (take_next xs i x lt is)
+    ∙ (flat_map-append f (take i xs) (x ∷ []) ∙ ap (λ (l : List (DomainView × DomainView)). flat_map f (take i xs) ++ l) one) in
+    adds_more p (flat_map f (take i xs)) (f x) (flat_map f (take (i + 1) xs)) old mid new list before now
+
+pub adds_start : (p : Platform) (f : DomainView → List (DomainView × DomainView)) (xs : List DomainView) (new : List Pair) → new ≡ [] → Adds p (flat_map f (take 0 xs)) [] new
+adds_start p f [] new e = record { added = []; of = refl; all = e }
+adds_start p f (x ∷ xs) new e = record { added = []; of = refl; all = e }
+
+-- those of all, where there were none
+pub all_added : (p : Platform) (ds : List DomainView) (i : ℕ) (pairs : List Pair) → length ds ≤ i → Adds p (flat_map (couples_of ds) (take i ds)) [] pairs → ArePairsOf p (couples ds) pairs
+all_added p ds i pairs le h =
+    let all = subst (λ (l : List DomainView). Adds p (flat_map (couples_of ds) l) [] pairs) (take_all ds i le) h in
+    subst (ArePairsOf p (couples ds)) (sym all.all) all.of
+
+-- of a fabric at its start
+pub pairs_from : (p q : Platform) (start : World) (ds : List DomainView) (pairs : List Pair) → start ≡ world_of p → p ≡ q → ds ≡ start.agents.domains
+    → ArePairsOf p (couples ds) pairs → ArePairsOf q (couples (world_of q).agents.domains) pairs
+pairs_from p q start ds pairs start_is p_is ds_is h =
+    let same : ds ≡ (world_of p).agents.domains = ds_is ∙ ap (λ (w : World). w.agents.domains) start_is in
+    let first = subst (λ (l : List DomainView). ArePairsOf p (couples l) pairs) same h in
+    subst (λ (r : Platform). ArePairsOf r (couples (world_of r).agents.domains) pairs) p_is first
