@@ -19,7 +19,7 @@ loop-line-preserved g c =
       done = (
         before.0 ++ now.0,
         drive_more (flat_map events_at c.args.sweeper.now.stations) c.args.sweeper.now.world c.loop-line.sweeper.world c.drive.new.sweeper.world c.loop-line.yielded c.in-Some.line before.0 now.0 before.1
-        (subst (λ (ss : List Station). Does (flat_map events_at ss) c.in-Some.line.number c.loop-line.sweeper.world c.in-Some.line.command c.drive.new.sweeper.world now.0) c.loop-line.invariant.stations now.1),
+            (subst (λ (ss : List Station). Does (flat_map events_at ss) c.in-Some.line.number c.loop-line.sweeper.world c.in-Some.line.command c.drive.new.sweeper.world now.0) c.loop-line.invariant.stations now.1),
         joined _ _ _ before.0 now.0 before.2 now.2,
       );
       stations = c.drive.ensures.stations ∙ c.loop-line.invariant.stations;
