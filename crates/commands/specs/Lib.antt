@@ -4,3 +4,5 @@ pub mod Report
 pub mod Runs
 pub mod Isolated
 pub mod Settled
+pub mod Owners
+pub mod Refusals

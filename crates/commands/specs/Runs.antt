@@ -75,18 +75,23 @@ pub record JournalPrints (holds : List ℕ → List ℕ → Type 0) (layout_name
   pub journal : text ≡ journal_text domain.share domain.journal
   pub read_back : 2 * length domain.journal + 1 ≤ 16777216 → IsReadBack domain.share domain.journal
 
--- what `replay` prints: the part of the report that the domain of this number has, from the replay of the journal in a file
-pub record ReplayPrints (holds : List ℕ → List ℕ → Type 0) (layout_name journal_name : List ℕ) (number : ℕ) (text : List ℕ) : Type 0 where
+-- what `replay` is given: the files of these names have the text of a platform, which gives the domain of this number this
+-- share, and this text
+pub record AreReplayFiles (holds : List ℕ → List ℕ → Type 0) (layout_name journal_name : List ℕ) (number : ℕ) (share : Share) (text : List ℕ) : Type 0 where
   pub layout_text : List ℕ
   pub layout_file : holds layout_name layout_text
   pub platform : Platform
   pub layout : reading layout_text ≡ Ok platform
-  pub share : Share
   pub owner : share_of_owner platform number ≡ Some share
-  pub journal_file_text : List ℕ
-  pub journal_file : holds journal_name journal_file_text
+  pub journal_file : holds journal_name text
+
+-- what `replay` prints: the part of the report that the domain of this number has, from the replay of the journal in a file
+pub record ReplayPrints (holds : List ℕ → List ℕ → Type 0) (layout_name journal_name : List ℕ) (number : ℕ) (text : List ℕ) : Type 0 where
+  pub share : Share
+  pub file_text : List ℕ
+  pub files : AreReplayFiles holds layout_name journal_name number share file_text
   pub lines : List JournalLine
-  pub journal : journal.reading share.domain journal_file_text ≡ Ok lines
+  pub journal : journal.reading share.domain file_text ≡ Ok lines
   pub domain : DomainView
   pub share_is : domain.share ≡ share
   pub entries : domain.journal ≡ entries_of lines

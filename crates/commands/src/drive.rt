@@ -6,6 +6,7 @@ ghost use Rattle.fabric_core.specs.Stations.{events_at};
 ghost use Rattle.commands.specs.Driving.{Begins, Does, Drives, IsDriven};
 ghost use Rattle.inputs.specs.Endings.{IsRunFault};
 ghost use Rattle.commands.specs.Isolated.{IsIsolated};
+ghost use Rattle.commands.specs.Owners.{HasOwners};
 ghost use Rattle.commands.specs.Settled.{Settles};
 ghost use Rattle.reports.specs.Writing.{Wrote};
 
@@ -32,6 +33,7 @@ pub fn driven<'a, R: Wait, W: Write>(
     ensures ok { IfOk result (λ fabric. Wrote (W.contents out.old) (W.contents out.new) (IsDriven layout.now lines.items fabric)) }
     ensures isolated { IfOk result (λ fabric. IsIsolated layout.now lines.items fabric) }
     ensures settled { IfOk result (λ fabric. Settles layout.now fabric) }
+    ensures owners { IfOk result (λ fabric. HasOwners layout.now fabric) }
     ensures fault { IfErr result (λ fault. IsRunFault fault) }
 {
     // for the proof: what holds of every platform, and that nothing moves after a sweep that moves nothing

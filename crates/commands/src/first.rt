@@ -1,8 +1,9 @@
 //! The command `first`: one packet through the smallest fabric.
 
-ghost use Rattle.std.specs.Prelude.{◌≡◌, ◌↔◌, IsErrOf, OnOk};
+ghost use Rattle.std.specs.Prelude.{◌≡◌, ◌⊎◌, ◌↔◌, IfErr, IsErrOf, OnOk};
 ghost use Rattle.std.specs.List.{flat_map};
 ghost use Rattle.std.specs.Io.KnownBytes.{Appends};
+ghost use Rattle.inputs.specs.Endings.{IsRunFault};
 ghost use Rattle.script.specs.PacketWord.{IsPacketWord};
 ghost use Rattle.reports.specs.Writing.{Wrote};
 ghost use Rattle.commands.specs.First.{Prints};
@@ -38,6 +39,10 @@ const SWEEPS: u32 = 1000;
 
 /// Submits the packet that the word stands for, and lets the fabric carry it.
 /// It writes the rows of the memory of domain 1, or why the packet was refused.
+///
+/// # Errors
+/// `ScriptLine` with line 1 where the word stands for no packet; and `NoMemory` where memory was refused, `Unwritable` where the
+/// output takes no more.
 pub fn first<'a, R: Wait, W: Write>(
     rt: &R,
     alloc: Global,
@@ -45,6 +50,7 @@ pub fn first<'a, R: Wait, W: Write>(
     out: &mut W,
 ) -> Result<(), Fault<'a>>
     ensures printed { OnOk result (Wrote (W.contents out.old) (W.contents out.new) (Prints packet.now)) }
+    ensures fault { IfErr result (λ f. (f ≡ Fault.ScriptLine 1) ⊎ IsRunFault f) }
     ensures line { IsErrOf result (Fault.ScriptLine 1) ↔ (¬ IsPacketWord packet.now) }
 {
     let bytes = match packet_bytes(alloc, packet.as_bytes()) {

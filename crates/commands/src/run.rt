@@ -1,13 +1,17 @@
 //! The commands `run`, `alone` and `journal`: a layout's fabric, driven by a script.
 
-ghost use Rattle.std.specs.Prelude.{IfOk, OnOk};
+ghost use Rattle.std.specs.Prelude.{◌≡◌, ◌⊎◌, IfErr, IfOk, OnOk};
+ghost use Rattle.inputs.specs.Endings.{IsRunFault};
+ghost use Rattle.inputs.specs.Refusals.{HasNoText, IsNoLayout, IsNoOwner, IsNoScript};
 ghost use Rattle.reports.specs.Writing.{Wrote};
+ghost use Rattle.commands.specs.Owners.{IsGiven};
 ghost use Rattle.commands.specs.Runs.{AlonePrints, IsReplayed, JournalPrints, RunPrints};
 
 use crate::drive::driven;
 use crate::report::{write_part, write_report};
 use command_line::Files;
 use domain::Domain;
+use fab_types::ReplayFault;
 use inputs::{Fault, FileGiver, Inputs, inputs_of, layout_of, script_of};
 use journals::write_journal;
 use layout::{Layout, Start};
@@ -19,6 +23,10 @@ use std::sync::Wait;
 
 /// Runs the fabric of a layout by a script.
 /// It writes the begins that were refused, and what the run ends in.
+///
+/// # Errors
+/// As `layout_of`, then as `script_of`: the first that applies; and `NoMemory` where memory was refused, `Unwritable` where the
+/// output takes no more.
 pub fn run<'a, R: Wait, F: FileGiver, W: Write>(
     rt: &R,
     alloc: Global,
@@ -26,7 +34,8 @@ pub fn run<'a, R: Wait, F: FileGiver, W: Write>(
     names: Files<'a>,
     out: &mut W,
 ) -> Result<(), Fault<'a>>
-    ensures { OnOk result (Wrote (W.contents out.old) (W.contents out.new) (RunPrints (F.holds files.now) names.entry.layout.now names.entry.script.now)) }
+    ensures ok { OnOk result (Wrote (W.contents out.old) (W.contents out.new) (RunPrints (F.holds files.now) names.entry.layout.now names.entry.script.now)) }
+    ensures fault { IfErr result (λ f. (f ≡ Fault.NoMemory) ⊎ ((f ≡ Fault.Unreadable names.entry.layout) × HasNoText (F.withholds files.now names.entry.layout.now) (F.holds files.now names.entry.layout.now)) ⊎ IsNoLayout (F.holds files.now names.entry.layout.now) f ⊎ ((f ≡ Fault.Unreadable names.entry.script) × HasNoText (F.withholds files.now names.entry.script.now) (F.holds files.now names.entry.script.now)) ⊎ IsNoScript (F.holds files.now names.entry.script.now) f ⊎ IsRunFault f) }
 {
     let layout = layout_of(alloc, files, names.layout)?;
     let script = script_of(alloc, files, names.script)?;
@@ -37,6 +46,9 @@ pub fn run<'a, R: Wait, F: FileGiver, W: Write>(
 
 /// Runs the same, and writes the part of the report of this domain.
 /// That is of the domain as the replay of its journal leaves it.
+///
+/// # Errors
+/// As `inputs_of`; and `NoMemory` where memory was refused, `Unwritable` where the output takes no more.
 pub fn alone<'a, R: Wait, F: FileGiver, W: Write>(
     rt: &R,
     alloc: Global,
@@ -45,7 +57,8 @@ pub fn alone<'a, R: Wait, F: FileGiver, W: Write>(
     number: u32,
     out: &mut W,
 ) -> Result<(), Fault<'a>>
-    ensures { OnOk result (Wrote (W.contents out.old) (W.contents out.new) (AlonePrints (F.holds files.now) names.entry.layout.now names.entry.script.now number)) }
+    ensures ok { OnOk result (Wrote (W.contents out.old) (W.contents out.new) (AlonePrints (F.holds files.now) names.entry.layout.now names.entry.script.now number)) }
+    ensures fault { IfErr result (λ f. (f ≡ Fault.NoMemory) ⊎ ((f ≡ Fault.Unreadable names.entry.layout) × HasNoText (F.withholds files.now names.entry.layout.now) (F.holds files.now names.entry.layout.now)) ⊎ IsNoLayout (F.holds files.now names.entry.layout.now) f ⊎ ((f ≡ Fault.Unreadable names.entry.script) × HasNoText (F.withholds files.now names.entry.script.now) (F.holds files.now names.entry.script.now)) ⊎ IsNoScript (F.holds files.now names.entry.script.now) f ⊎ IsNoOwner (F.holds files.now names.entry.layout.now) number f ⊎ IsRunFault f) }
 {
     let inputs = inputs_of(alloc, files, names, number)?;
     let Inputs {
@@ -59,6 +72,9 @@ pub fn alone<'a, R: Wait, F: FileGiver, W: Write>(
 }
 
 /// Runs the same, and writes the journal of this domain.
+///
+/// # Errors
+/// As `alone`.
 pub fn journal<'a, R: Wait, F: FileGiver, W: Write>(
     rt: &R,
     alloc: Global,
@@ -67,7 +83,8 @@ pub fn journal<'a, R: Wait, F: FileGiver, W: Write>(
     number: u32,
     out: &mut W,
 ) -> Result<(), Fault<'a>>
-    ensures { OnOk result (Wrote (W.contents out.old) (W.contents out.new) (JournalPrints (F.holds files.now) names.entry.layout.now names.entry.script.now number)) }
+    ensures ok { OnOk result (Wrote (W.contents out.old) (W.contents out.new) (JournalPrints (F.holds files.now) names.entry.layout.now names.entry.script.now number)) }
+    ensures fault { IfErr result (λ f. (f ≡ Fault.NoMemory) ⊎ ((f ≡ Fault.Unreadable names.entry.layout) × HasNoText (F.withholds files.now names.entry.layout.now) (F.holds files.now names.entry.layout.now)) ⊎ IsNoLayout (F.holds files.now names.entry.layout.now) f ⊎ ((f ≡ Fault.Unreadable names.entry.script) × HasNoText (F.withholds files.now names.entry.script.now) (F.holds files.now names.entry.script.now)) ⊎ IsNoScript (F.holds files.now names.entry.script.now) f ⊎ IsNoOwner (F.holds files.now names.entry.layout.now) number f ⊎ IsRunFault f) }
 {
     let inputs = inputs_of(alloc, files, names, number)?;
     let Inputs {
@@ -77,7 +94,7 @@ pub fn journal<'a, R: Wait, F: FileGiver, W: Write>(
     } = inputs;
     let fabric = driven(rt, alloc, &layout, script.into_lines(), &mut io::sink())?;
     let Some(domain) = fabric.domain(start.domain()) else {
-        return Err(Fault::NoDomain { number });
+        unreachable!();
     };
     let mut text = Vec::new(alloc);
     write_journal(rt, alloc, &mut text, domain)?;
@@ -93,17 +110,18 @@ fn replayed<'a, R: Wait>(
     lines: Vec<Line>,
     start: &Start,
 ) -> Result<Domain, Fault<'a>>
-    ensures { IfOk result (λ domain. IsReplayed layout.now lines.items start.now domain) }
+    requires { IsGiven layout.now start.now }
+    ensures ok { IfOk result (λ domain. IsReplayed layout.now lines.items start.now domain) }
+    ensures fault { IfErr result (λ fault. IsRunFault fault) }
 {
     let fabric = driven(rt, alloc, layout, lines, &mut io::sink())?;
     let number = start.domain();
     let Some(domain) = fabric.domain(number) else {
-        return Err(Fault::NoDomain {
-            number: u32::from(number.get()),
-        });
+        unreachable!();
     };
     match Domain::replay(rt, alloc, start, domain.journal()) {
         Ok(domain) => Ok(domain),
-        Err(fault) => Err(Fault::of_replay(fault)),
+        Err(ReplayFault::NoMemory) => Err(Fault::NoMemory),
+        Err(ReplayFault::Illegal(_)) => unreachable!(),
     }
 }

@@ -7,6 +7,7 @@ use Rattle.commands.specs.Isolated.{IsIsolated}
 use Rattle.commands.specs.Settled.{Settles}
 use Rattle.reports.specs.Writing.{Wrote}
 use Rattle.commands.proofs.Isolating.{isolated_by}
+use Rattle.commands.proofs.Owning.{has_owners}
 use Rattle.commands.proofs.Settling.{settled_by}
 use Rattle.commands.proofs.drive.driven.Goals as goal
 
@@ -33,3 +34,6 @@ returns-clause-isolated g c =
 pub returns-clause-settled : goal.returns-clause-settled
 returns-clause-settled g c =
     settled_by c.a_sweep_that_moves_nothing_is_the_last.ensures c.args.layout.now c.args.lines.items c.into_fabric.result c.ports.ensures.laws (returns-clause-isolated g c) c.in_ok-sweeper.ensures.unblocked c.in_ok-sweeper.ensures.consumed
+
+pub returns-clause-owners : goal.returns-clause-owners
+returns-clause-owners g c = has_owners c.args.layout.now c.args.lines.items c.into_fabric.result c.ports.ensures.laws (returns-clause-isolated g c)

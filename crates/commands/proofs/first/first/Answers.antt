@@ -1,7 +1,9 @@
-use Rattle.std.proofs.Common.{◌++◌, refl}
+use Rattle.std.proofs.Common.{◌++◌, inr, refl, subst, sym}
 use Rattle.std.specs.List.{flat_map}
 use Rattle.reports.specs.Report.{memory_lines}
 use Rattle.reports.proofs.Writing.{joined}
+use Rattle.inputs.specs.Endings.{IsRunFault}
+use Rattle.commands.proofs.Reading.{only_memory}
 use Rattle.commands.proofs.first.first.Goals as goal
 
 -- the refusal, if any, and then the memory
@@ -21,3 +23,6 @@ returns-clause-printed g c =
       },
       joined _ _ _ _ _ written.2 (rw c.domains.ensures at c.in_ok-write_memory.ensures),
     )
+
+pub returns-in-Err-read-clause-fault : goal.returns-in-Err-read-clause-fault
+returns-in-Err-read-clause-fault g c = inr (subst IsRunFault (sym (c.of_layout.ensures.memory (only_memory c.in-Err-read.fault c.in-Err-read.ensures.exact))) tt)
