@@ -24,28 +24,28 @@ pub returns-in-Run : goal.returns-in-Run
 returns-in-Run g c = λ asked is.
     asked_alone (λ a. IfOk c.done-in-Run.result (λ status. Wrote (g.O.Write.contents c.args.out.now) (g.O.Write.contents c.run.new.out) (AskedPrints (g.F.FileGiver.holds c.args.files.now) a status)))
     (request.Run c.in-Run.names) (Run c.in-Run.names.layout.now c.in-Run.names.script.now) asked refl
-    (done_writes c.run.result c.done-in-Run.result _ _ (RunPrints (g.F.FileGiver.holds c.args.files.now) c.in-Run.names.layout.now c.in-Run.names.script.now) c.run.ensures c.done-in-Run.ensures)
+    (done_writes c.run.result c.done-in-Run.result _ _ (RunPrints (g.F.FileGiver.holds c.args.files.now) c.in-Run.names.layout.now c.in-Run.names.script.now) c.run.ensures.ok c.done-in-Run.ensures)
     (rw c.in-Run.is at is)
 
 pub returns-in-Alone : goal.returns-in-Alone
 returns-in-Alone g c = λ asked is.
     asked_alone (λ a. IfOk c.done-in-Alone.result (λ status. Wrote (g.O.Write.contents c.args.out.now) (g.O.Write.contents c.alone.new.out) (AskedPrints (g.F.FileGiver.holds c.args.files.now) a status)))
     (request.Alone c.in-Alone.names c.in-Alone.domain) (Alone c.in-Alone.names.layout.now c.in-Alone.names.script.now c.in-Alone.domain) asked refl
-    (done_writes c.alone.result c.done-in-Alone.result _ _ (AlonePrints (g.F.FileGiver.holds c.args.files.now) c.in-Alone.names.layout.now c.in-Alone.names.script.now c.in-Alone.domain) c.alone.ensures c.done-in-Alone.ensures)
+    (done_writes c.alone.result c.done-in-Alone.result _ _ (AlonePrints (g.F.FileGiver.holds c.args.files.now) c.in-Alone.names.layout.now c.in-Alone.names.script.now c.in-Alone.domain) c.alone.ensures.ok c.done-in-Alone.ensures)
     (rw c.in-Alone.is at is)
 
 pub returns-in-Journal : goal.returns-in-Journal
 returns-in-Journal g c = λ asked is.
     asked_alone (λ a. IfOk c.done-in-Journal.result (λ status. Wrote (g.O.Write.contents c.args.out.now) (g.O.Write.contents c.journal.new.out) (AskedPrints (g.F.FileGiver.holds c.args.files.now) a status)))
     (request.Journal c.in-Journal.names c.in-Journal.domain) (Journal c.in-Journal.names.layout.now c.in-Journal.names.script.now c.in-Journal.domain) asked refl
-    (done_writes c.journal.result c.done-in-Journal.result _ _ (JournalPrints (g.F.FileGiver.holds c.args.files.now) c.in-Journal.names.layout.now c.in-Journal.names.script.now c.in-Journal.domain) c.journal.ensures c.done-in-Journal.ensures)
+    (done_writes c.journal.result c.done-in-Journal.result _ _ (JournalPrints (g.F.FileGiver.holds c.args.files.now) c.in-Journal.names.layout.now c.in-Journal.names.script.now c.in-Journal.domain) c.journal.ensures.ok c.done-in-Journal.ensures)
     (rw c.in-Journal.is at is)
 
 pub returns-in-Replay : goal.returns-in-Replay
 returns-in-Replay g c = λ asked is.
     asked_alone (λ a. IfOk c.done-in-Replay.result (λ status. Wrote (g.O.Write.contents c.args.out.now) (g.O.Write.contents c.replay.new.out) (AskedPrints (g.F.FileGiver.holds c.args.files.now) a status)))
     (request.Replay c.in-Replay.layout c.in-Replay.text c.in-Replay.domain) (Replay c.in-Replay.layout.now c.in-Replay.text.now c.in-Replay.domain) asked refl
-    (done_writes c.replay.result c.done-in-Replay.result _ _ (ReplayPrints (g.F.FileGiver.holds c.args.files.now) c.in-Replay.layout.now c.in-Replay.text.now c.in-Replay.domain) c.replay.ensures c.done-in-Replay.ensures)
+    (done_writes c.replay.result c.done-in-Replay.result _ _ (ReplayPrints (g.F.FileGiver.holds c.args.files.now) c.in-Replay.layout.now c.in-Replay.text.now c.in-Replay.domain) c.replay.ensures.ok c.done-in-Replay.ensures)
     (rw c.in-Replay.is at is)
 
 pub returns-in-Threads : goal.returns-in-Threads
