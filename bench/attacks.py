@@ -3,19 +3,22 @@
 
 `attacks.py PROGRAM random [COUNT]` deals 200 random layouts, or COUNT, and runs each script that `explain` tells of one:
 the victim's part of the report or its journal has to be another than without the script. In a guarded layout none may be
-told. `attacks.py PROGRAM cleared LAYOUT [PAIRS]` clears each of the five controls at each port of a layout in turn, and then
-PAIRS random pairs of them at two ports, and runs all candidates in each: writes, reads and FetchAdds of each function in each
-name, for each page that is a frame's number, mapped, a register page or none of these, with AT 00 and 10. Where one is seen to
-land in some way of harm, `explain` has to tell a witness of that way for these two domains. It prints what differs, and its
-last line counts.
+told. A read of the victim's that is said to be closed by another's completion has to be closed otherwise than without the
+attacker's line. `attacks.py PROGRAM cleared LAYOUT [PAIRS]` clears each of the five controls at each port of a layout in turn,
+and then PAIRS random pairs of them at two ports, and runs all candidates in each: writes, reads and FetchAdds of each function
+in each name, for each page that is a frame's number, mapped, a register page or none of these, with AT 00 and 10; and reads in
+the name of a function, ahead of one of its own for each page that it may read, by each number of sweeps from 1 to 20. Where one
+is seen to land in some way of harm, `explain` has to tell a witness of that way for these two domains. It prints what differs,
+and its last line counts.
 """
 
 import itertools, random, re, subprocess, sys, tempfile
 
 from deal import Deal
 
-FRAME_WRITTEN, FRAME_READ, PAGE_WRITTEN, PAGE_READ, COMPLETION, COUNTS = range(6)
-WORDS = ['write to frame', 'read of frame', 'write to registers', 'read of registers', 'completion not asked for', 'counts changed']
+FRAME_WRITTEN, FRAME_READ, PAGE_WRITTEN, PAGE_READ, TAG_CLOSED, COMPLETION, COUNTS = range(7)
+WORDS = ['write to frame', 'read of frame', 'write to registers', 'read of registers', 'Tag of', 'completion not asked for', 'counts changed']
+MOST_AHEAD = 20
 CONTROLS = [1, 2, 4, 8, 16]
 program = sys.argv[1]
 work = tempfile.TemporaryDirectory()
@@ -72,6 +75,7 @@ class Lines:
         above = {each[2]: int(each[7]) for each in self.ports}
         self.functions = {each[1]: (above[each[1][:2]], int(each[2], 16)) for each in fields if each[0] == 'function'}
         self.maps = [(each[1], int(each[2], 16), each[3], each[4]) for each in fields if each[0] == 'map']
+        self.readable = [(each[1], int(each[2], 16)) for each in fields if each[0] == 'map' and 'r' in each[5]]
         self.frames = {int(target) for _, _, kind, target in self.maps if kind == 'frame'}
         self.is_guarded = all(int(each[6], 16) & 31 == 31 for each in self.ports)
 
@@ -108,6 +112,16 @@ def candidates(layout, function):
         yield f'{first:08x}{name:04x}000f' + f'{address:0{16 if high else 8}x}' + ('deadbeef' if kind else '')
 
 
+def read_of(name, address):
+    """A plain read of 1 DW in this name."""
+    high = address >= 1 << 32
+    return f'{0x20 * high << 24 | 1:08x}{name:04x}000f' + f'{address:0{16 if high else 8}x}'
+
+
+def is_plain_read(packet):
+    return packet[:8] in ('00000001', '20000001')
+
+
 def counts(lines):
     words = lines[0].split()
     return words[5], words[7]
@@ -142,6 +156,29 @@ def harms(layout, path, function, packet, before):
     return found
 
 
+def closed(path, script, victim, function):
+    """The completion that first closed a request of the victim's function in a run of this script."""
+    report, _ = ran('run', path, put('race', script))
+    return next(iter(rows(parts(report)[victim], f'record {function}')), None)
+
+
+def closings(layout, path, function, packet):
+    """(victim, way) of each own read of a victim that is closed by the completion of this read in its name."""
+    attacker, found = layout.functions[function][0], set()
+    for requester, page in layout.readable:
+        victim = layout.functions[requester][0]
+        if victim == attacker or (victim, TAG_CLOSED) in found or int(packet[8:12], 16) != number(requester):
+            continue
+        own = f'submit {requester} {read_of(number(requester), page << 12)}\n'
+        alone = closed(path, own + 'sweep 1000\n', victim, requester)
+        for ahead in range(1, MOST_AHEAD + 1):
+            other = closed(path, f'submit {function} {packet}\nsweep {ahead}\n{own}sweep 1000\n', victim, requester)
+            if alone and other and alone != other:
+                found.add((victim, TAG_CLOSED))
+                break
+    return found
+
+
 def searched(layout, path):
     """(attacker, victim, way) of each harm that some candidate does."""
     before = parts(ran('run', path, put('nothing', 'sweep 1\n'))[0])
@@ -149,14 +186,21 @@ def searched(layout, path):
     for function, (attacker, _) in layout.functions.items():
         for packet in candidates(layout, function):
             found |= {(attacker, victim, way) for victim, way in harms(layout, path, function, packet, before)}
+            if is_plain_read(packet) and not {(attacker, victim, TAG_CLOSED) for victim in layout.owners} <= found:
+                found |= {(attacker, victim, way) for victim, way in closings(layout, path, function, packet)}
     return found
 
 
 def lands(layout, path, witness):
-    attacker, victim, way, script = witness
-    script = put('told', script)
+    attacker, victim, way, text = witness
+    script = put('told', text)
     changed = ran('journal', path, script, str(victim))[0] != ''
-    submitter = open(script).read().split()[1]
+    if way == TAG_CLOSED:
+        first, *own = text.splitlines(keepends=True)
+        reader = own[1].split()[1]
+        alone, other = (closed(path, ''.join(lines), victim, reader) for lines in (own, [first, *own]))
+        changed = layout.functions[reader][0] == victim and None not in (alone, other) and alone != other
+    submitter = text.split()[1]
     return changed and layout.functions[submitter][0] == attacker != victim
 
 

@@ -147,6 +147,7 @@ fn events_of(stations: &[Station]) -> u64 {
 }
 
 /// A fabric that is swept, with how many events a sweep has and how many were made.
+#[derive(Drop)]
 struct Counter {
     sweeper: Sweeper,
     events: u64,

@@ -68,10 +68,7 @@ use fab_types::{Bdf, Class, Cost, Head, Header, Parties};
 pub fn head() -> Head {
     Head {
         parties: Parties::Upward(Bdf::from_bits(0x0300)),
-        cost: Cost {
-            class: Class::Posted,
-            data: 0,
-        },
+        cost: Cost::without_data(Class::Posted),
         header: Header::Malformed,
     }
 }

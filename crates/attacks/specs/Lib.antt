@@ -1,3 +1,4 @@
+pub mod Closings
 pub mod Controls
 pub mod Findings
 pub mod Packets

@@ -20,6 +20,7 @@ use Rattle.attacks.specs.declared.attack.Harm.TheVariants as harm
 use Rattle.attacks.specs.declared.attack.Way.{Way}
 use Rattle.attacks.specs.declared.attack.Way.TheVariants as way
 use Rattle.attacks.specs.declared.control.Control.TheVariants.{SourceValidation, TranslationBlocking, RequestRedirect}
+use Rattle.attacks.specs.Closings.{closings}
 use Rattle.attacks.specs.Paths.{is_blocked, is_validated, is_validated_below, turn_of}
 
 -- ---- what a request does in each way of harm, if anything, and the harm
@@ -166,5 +167,10 @@ tries_below platform way function victim (Some first) =
     ++ in_names platform.ports first.id way function victim
     ++ answered platform way function victim
 
+abbrev pub requests : Platform → Way → ℕ → Share → List Attack
+requests platform way function victim = tries_below platform way function victim (first_port platform.ports function)
+
+-- a read of the domain's own is to be closed by those that are tried for a completion that it didn't ask for
 abbrev pub tries : Platform → Way → ℕ → Share → List Attack
-tries platform way function victim = tries_below platform way function victim (first_port platform.ports function)
+tries platform way.TagClosed function victim = closings victim.maps (requests platform way.Completion function victim)
+tries platform other function victim = requests platform other function victim

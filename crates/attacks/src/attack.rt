@@ -2,12 +2,14 @@
 
 ghost use Rattle.std.specs.Prelude.{◌≡◌, IfOk};
 ghost use Rattle.tlp_view.specs.Requests.{packet_bytes};
-ghost use Rattle.attacks.specs.Packets.{address_of, head_of, packet_of, payload};
+ghost use Rattle.attacks.specs.Packets.{address_of, head_of, own_read, packet_of, payload};
 
 use crate::control::Control;
+use crate::own_read::OwnRead;
+use crate::packet::{head_at, start_of};
 use fab_types::{AddressType, Bdf, NoMemory, PacketBytes, PortId};
 use std::alloc::Global;
-use tlp_view::{Attributes, Enables, RequestBuf, RequestHead};
+use tlp_view::{RequestBuf, RequestHead};
 
 /// Where a register page has its buffer, which takes any bytes.
 const BUFFER: u64 = 0x400;
@@ -26,6 +28,8 @@ pub enum Way {
     RegistersWritten,
     /// A register page is read, and the attacker gets the data.
     RegistersRead,
+    /// A read of the other's own is closed by the completion of another read.
+    TagClosed,
     /// A completion comes that the other didn't ask for.
     Completion,
     /// The other's counts change.
@@ -43,6 +47,8 @@ pub enum Harm {
     RegistersWritten(Bdf),
     /// That page is read, and the attacker gets the data.
     RegistersRead(Bdf),
+    /// This read of the other's own is closed by the completion of another read.
+    TagClosed(OwnRead),
     /// A completion comes that the other didn't ask for.
     Completion,
     /// The other's counts change.
@@ -83,10 +89,14 @@ pub struct Attack {
 fn address_of(page: u64, harm: &Harm) -> u64
     ensures { result ≡ address_of page harm.now }
 {
-    let start = page % 0x10_0000_0000_0000 * 4096;
+    let start = start_of(page);
     match harm {
         Harm::RegistersWritten(_) | Harm::RegistersRead(_) => start + BUFFER,
-        Harm::FrameWritten(_) | Harm::FrameRead(_) | Harm::Completion | Harm::Counts => start,
+        Harm::FrameWritten(_)
+        | Harm::FrameRead(_)
+        | Harm::TagClosed(_)
+        | Harm::Completion
+        | Harm::Counts => start,
     }
 }
 
@@ -98,17 +108,19 @@ fn head_of(attack: &Attack) -> RequestHead
     } else {
         AddressType::Untranslated
     };
-    RequestHead {
-        requester: attack.requester,
-        tag: 0,
-        enables: Enables { first: 15, last: 0 },
-        address: address_of(attack.page, &attack.harm),
-        address_type,
-        attributes: Attributes {
-            id_based_ordering: false,
-            relaxed_ordering: false,
-            no_snoop: false,
-        },
+    let address = address_of(attack.page, &attack.harm);
+    head_at(attack.requester, address, address_type)
+}
+
+impl Harm {
+    /// The harmed domain's own read that is closed, if that is the harm.
+    pub fn own_read(&self) -> Option<OwnRead>
+        ensures { result ≡ own_read self.now }
+    {
+        match self {
+            Harm::TagClosed(read) => Some(*read),
+            _ => None,
+        }
     }
 }
 

@@ -3,10 +3,13 @@
 
 mod answers;
 mod attack;
+mod closings;
 mod control;
 mod deeds;
 mod findings;
 mod names;
+mod own_read;
+mod packet;
 mod path;
 mod requests;
 
@@ -14,4 +17,5 @@ pub use attack::{Attack, Deed, Harm, Way};
 pub use control::{Control, is_clear};
 pub use findings::{Findings, Pair, Witness};
 pub use names::own_functions;
+pub use own_read::OwnRead;
 pub use requests::tries;

@@ -1,5 +1,5 @@
 -- What is told of two domains, or of one way more.
-use Rattle.std.proofs.Common.{◌≡◌, ◌≢◌, ◌⊎◌, ℕ, suc, ◌+◌, ◌<◌, ◌≤◌, Bool, true, false, List, [], ◌∷◌, ◌++◌, length, take, drop, Option, Some, None, refl, subst, sym, ap, ◌∙◌, append_assoc, ⊎_elim}
+use Rattle.std.proofs.Common.{◌≡◌, ◌≢◌, ℕ, suc, ◌+◌, ◌<◌, ◌≤◌, Bool, true, false, List, [], ◌∷◌, ◌++◌, length, take, drop, Option, Some, refl, subst, sym, ap, ◌∙◌, append_assoc, ⊎_elim}
 use Rattle.std.specs.Prelude.{All, ◌==◌, map, slice_index_or, if◌then◌else◌}
 use Rattle.std.specs.List.{flat_map}
 use Rattle.std.specs.Option.{option_to_list}
@@ -7,7 +7,7 @@ use Rattle.std.proofs.Math.Seq.{split_at}
 use Rattle.std.proofs.lemmas.Bool.{false≢true}
 use Rattle.std.proofs.lemmas.Bool.Decides.{eqb_tells}
 use Rattle.std.proofs.lemmas.Grind.{flat_map-append}
-use Rattle.std.proofs.lemmas.List.{append-nil, map-append}
+use Rattle.std.proofs.lemmas.List.{append-nil, map-append, take_more}
 use Rattle.std.proofs.lemmas.List.Elements.{All-append, All-cons, All-nil}
 use Rattle.reports.proofs.Taking.{take_all, take_next}
 use Rattle.platform.specs.Platform.{Platform}
@@ -17,11 +17,10 @@ use Rattle.fabric_core.specs.World.{World, world_of}
 use Rattle.attacks.specs.Tries.{own_ids}
 use Rattle.attacks.specs.declared.attack.Attack.{Attack}
 use Rattle.attacks.specs.declared.attack.Way.{Way}
-use Rattle.attacks.specs.declared.attack.Way.TheVariants as way
 use Rattle.attacks.specs.declared.findings.Pair.{Pair}
 use Rattle.attacks.specs.declared.findings.Witness.{Witness}
 use Rattle.audit.specs.Landing.{Fails, Lands}
-use Rattle.audit.specs.Telling.{Adds, AddsFound, AreFound, ArePairsOf, IsFound, IsPairOf, attempts, candidates, couple_of, couples, couples_of, ways, witness_by}
+use Rattle.audit.specs.Telling.{Adds, AddsFound, AreFound, ArePairsOf, IsFound, IsPairOf, attempts, candidates, couple_of, couples, couples_of, witness_by}
 
 -- ---- requests
 
@@ -70,17 +69,20 @@ found_more p a v (w ∷ ws) one told more found before now e = (
   e ∙ (ap (λ (l : List Witness). l ++ option_to_list found) before.4 ∙ append_assoc (option_to_list before.0) before.1 (option_to_list found)),
 )
 
-pub all_ways : (p : Platform) (a v : Share) (t0 t1 t2 t3 t4 t5 t6 : List Witness) → t0 ≡ [] → AddsFound p (candidates p a v way.FrameWritten) t0 t1
-    → AddsFound p (candidates p a v way.FrameRead) t1 t2 → AddsFound p (candidates p a v way.RegistersWritten) t2 t3 → AddsFound p (candidates p a v way.RegistersRead) t3 t4
-    → AddsFound p (candidates p a v way.Completion) t4 t5 → AddsFound p (candidates p a v way.Counts) t5 t6 → AreFound p a v ways t6
-all_ways p a v t0 t1 t2 t3 t4 t5 t6 none h1 h2 h3 h4 h5 h6 =
-    let one = found_more p a v [] way.FrameWritten t0 t1 h1.found none h1.is h1.all in
-    let two = found_more p a v (way.FrameWritten ∷ []) way.FrameRead t1 t2 h2.found one h2.is h2.all in
-    let three = found_more p a v (way.FrameWritten ∷ way.FrameRead ∷ []) way.RegistersWritten t2 t3 h3.found two h3.is h3.all in
-    let four = found_more p a v (way.FrameWritten ∷ way.FrameRead ∷ way.RegistersWritten ∷ []) way.RegistersRead t3 t4 h4.found three h4.is h4.all in
-    let five =
-    found_more p a v (way.FrameWritten ∷ way.FrameRead ∷ way.RegistersWritten ∷ way.RegistersRead ∷ []) way.Completion t4 t5 h5.found four h5.is h5.all in
-    found_more p a v (way.FrameWritten ∷ way.FrameRead ∷ way.RegistersWritten ∷ way.RegistersRead ∷ way.Completion ∷ []) way.Counts t5 t6 h6.found five h6.is h6.all
+-- that of one way more
+pub found_next : (p : Platform) (a v : Share) (ws : List Way) (i : ℕ) (d : Way) (told more : List Witness) → i < length ws → AreFound p a v (take i ws) told
+    → AddsFound p (candidates p a v (slice_index_or ws i d)) told more → AreFound p a v (take (i + 1) ws) more
+found_next p a v ws i d told more lt before now =
+    let list : take (i + 1) ws ≡ take i ws ++ slice_index_or ws i d ∷ [] = take_more ws i d lt in
+    subst (λ (l : List Way). AreFound p a v l more) (sym list) (found_more p a v (take i ws) (slice_index_or ws i d) told more now.found before now.is now.all)
+
+pub found_first : (p : Platform) (a v : Share) (ws : List Way) (told : List Witness) → told ≡ [] → AreFound p a v (take 0 ws) told
+found_first p a v [] told none = none
+found_first p a v (w ∷ ws) told none = none
+
+-- those of all ways
+pub found_all : (p : Platform) (a v : Share) (ws : List Way) (i : ℕ) (told : List Witness) → length ws ≤ i → AreFound p a v (take i ws) told → AreFound p a v ws told
+found_all p a v ws i told le h = subst (λ (l : List Way). AreFound p a v l told) (take_all ws i le) h
 
 -- ---- pairs
 

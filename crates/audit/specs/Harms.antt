@@ -1,6 +1,6 @@
 -- What is seen of a domain after an attack.
-use Rattle.std.specs.Prelude.{◌≡◌, ◌≢◌, ℕ, ◌==◌, ◌&&◌, ◌<◌, Bool, true, false, List, bytes_eq}
-use Rattle.std.specs.List.{list_any}
+use Rattle.std.specs.Prelude.{◌≡◌, ◌≢◌, ℕ, ◌==◌, ◌&&◌, ◌<◌, Bool, true, false, List, Option, Some, None, bytes_eq}
+use Rattle.std.specs.List.{find, list_any}
 use Rattle.fab_types.specs.Origins.{same_origin}
 use Rattle.fab_types.specs.declared.head.Parties.{Parties}
 use Rattle.fab_types.specs.declared.head.Parties.TheVariants.{Upward, Downward, Answer}
@@ -13,7 +13,7 @@ use Rattle.domain.specs.declared.entry.Entry.{Entry}
 use Rattle.domain.specs.declared.entry.Entry.TheVariants.{Alien}
 use Rattle.domain.specs.Domains.{DomainView}
 use Rattle.attacks.specs.declared.attack.Harm.{Harm}
-use Rattle.attacks.specs.declared.attack.Harm.TheVariants.{FrameWritten, FrameRead, RegistersWritten, RegistersRead, Completion, Counts}
+use Rattle.attacks.specs.declared.attack.Harm.TheVariants.{FrameWritten, FrameRead, RegistersWritten, RegistersRead, TagClosed, Completion, Counts}
 
 abbrev pub is_successful : Status → Bool
 is_successful SC = true
@@ -39,11 +39,22 @@ is_served function bytes _ = false
 abbrev pub is_answered : ℕ → List ℕ → DomainView → DomainView → Bool
 is_answered function bytes victim attacker = list_any (is_served function bytes) victim.journal && list_any (is_success function) attacker.state.deliveries
 
--- what of the domain's old and new state, and of the attacker's new one, shows the harm
+-- what of the domain's old and new state, and of the attacker's new one, shows the harm; that a read is closed is shown by two runs
 abbrev pub IsSeen : Harm → ℕ → List ℕ → DomainView → DomainView → DomainView → Type 0
 IsSeen (FrameWritten frame) function bytes old new attacker = page_of new.state.frames frame ≢ page_of old.state.frames frame
 IsSeen (FrameRead frame) function bytes old new attacker = is_answered function bytes new attacker ≡ true
 IsSeen (RegistersWritten peer) function bytes old new attacker = page_of new.state.registers peer ≢ page_of old.state.registers peer
 IsSeen (RegistersRead peer) function bytes old new attacker = is_answered function bytes new attacker ≡ true
+IsSeen (TagClosed read) function bytes old new attacker = ⊥
 IsSeen Completion function bytes old new attacker = old.state.counts.unexpected < new.state.counts.unexpected
 IsSeen Counts function bytes old new attacker = new.state.counts ≢ old.state.counts
+
+-- the completion that closed a request of the function
+abbrev pub closing : ℕ → DomainView → Option Delivery
+closing function domain = find (λ d. same_origin d.owner (Function function)) domain.state.deliveries
+
+-- one completion here, and another there
+abbrev pub IsAnother : Option Delivery → Option Delivery → Type 0
+IsAnother (Some own) (Some other) = other.bytes ≢ own.bytes
+IsAnother (Some own) None = ⊥
+IsAnother None other = ⊥

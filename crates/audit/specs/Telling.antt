@@ -21,7 +21,7 @@ use Rattle.audit.specs.Landing.{Fails, Lands}
 
 -- all ways of harm, the worst first
 abbrev pub ways : List Way
-ways = way.FrameWritten ∷ way.FrameRead ∷ way.RegistersWritten ∷ way.RegistersRead ∷ way.Completion ∷ way.Counts ∷ []
+ways = way.FrameWritten ∷ way.FrameRead ∷ way.RegistersWritten ∷ way.RegistersRead ∷ way.TagClosed ∷ way.Completion ∷ way.Counts ∷ []
 
 -- a request of one domain against another, as a witness tells it
 abbrev pub witness_by : ℕ → ℕ → Attack → Witness

@@ -8,8 +8,8 @@ ghost use Rattle.attacks.specs.declared.findings.Findings.TheVariants.{Guarded};
 ghost use Rattle.audit.specs.Settings.{IsSetting};
 ghost use Rattle.audit.specs.Telling.{Adds, AddsFound, AreFound, ArePairsOf, IsFound, IsPairOf, Tell, attempts, candidates, couple_of, couples, couples_of, ways, witness_by};
 
+use crate::landing::witness_of;
 use crate::setting::Setting;
-use crate::trial::witness_of;
 use attacks::{Attack, Findings, Pair, Way, Witness, own_functions, tries};
 use domain::Domain;
 use fab_types::{Bdf, DomainId, NoMemory};
@@ -113,6 +113,21 @@ fn pair_of<R: Wait>(
     })
 }
 
+/// All ways of harm, the worst first.
+fn ways() -> [Way; 7]
+    ensures { result ≡ ways }
+{
+    [
+        Way::FrameWritten,
+        Way::FrameRead,
+        Way::RegistersWritten,
+        Way::RegistersRead,
+        Way::TagClosed,
+        Way::Completion,
+        Way::Counts,
+    ]
+}
+
 /// The first witness of each way of harm, if there is one, the worst first.
 fn all_found<R: Wait>(
     rt: &R,
@@ -125,53 +140,11 @@ fn all_found<R: Wait>(
     requires other { attacker.now.domain ≢ victim.now.domain }
     ensures { IfOk result (λ witnesses. AreFound setting.now.layout.now attacker.now victim.now ways witnesses.items) }
 {
+    let ways = ways();
     let mut all = Vec::new(alloc);
-    add_found(
-        rt,
-        alloc,
-        setting,
-        Way::FrameWritten,
-        attacker,
-        victim,
-        &mut all,
-    )?;
-    add_found(
-        rt,
-        alloc,
-        setting,
-        Way::FrameRead,
-        attacker,
-        victim,
-        &mut all,
-    )?;
-    add_found(
-        rt,
-        alloc,
-        setting,
-        Way::RegistersWritten,
-        attacker,
-        victim,
-        &mut all,
-    )?;
-    add_found(
-        rt,
-        alloc,
-        setting,
-        Way::RegistersRead,
-        attacker,
-        victim,
-        &mut all,
-    )?;
-    add_found(
-        rt,
-        alloc,
-        setting,
-        Way::Completion,
-        attacker,
-        victim,
-        &mut all,
-    )?;
-    add_found(rt, alloc, setting, Way::Counts, attacker, victim, &mut all)?;
+    for way in &ways {
+        add_found(rt, alloc, setting, *way, attacker, victim, &mut all)?;
+    }
     Ok(all)
 }
 

@@ -3,7 +3,7 @@
 ghost use Rattle.std.specs.Prelude.{◌≡◌, ◌≢◌, ◌↔◌, IsTrue};
 ghost use Rattle.std.specs.List.{list_any};
 ghost use Rattle.std.specs.Option.{option_copied};
-ghost use Rattle.audit.specs.Harms.{IsSeen, is_answered, is_served, is_success};
+ghost use Rattle.audit.specs.Harms.{IsAnother, IsSeen, closing, is_answered, is_served, is_success};
 ghost use Rattle.host_memory.specs.Pages.{page_of};
 
 use attacks::Harm;
@@ -97,7 +97,36 @@ pub(crate) fn is_seen(
         Harm::FrameRead(_) => has_answer(new, attacker, function, bytes),
         Harm::RegistersWritten(peer) => differs_in_registers(old, new, peer),
         Harm::RegistersRead(_) => has_answer(new, attacker, function, bytes),
+        // two runs show that
+        Harm::TagClosed(_) => false,
         Harm::Completion => old.counts().unexpected < new.counts().unexpected,
         Harm::Counts => old.counts() != new.counts(),
     }
+}
+
+/// The completion that closed a request of this function, if one did.
+fn closing(domain: &Domain, function: Bdf) -> Option<&Record>
+    ensures { option_copied result ≡ closing function domain.now }
+{
+    domain.records().iter().find(|delivery| same_origin(
+        delivery.owner(),
+        Origin::Function(function),
+    ))
+}
+
+/// Are there two completions, which differ?
+fn is_another(own: Option<&Record>, other: Option<&Record>) -> bool
+    ensures { IsTrue result ↔ IsAnother (option_copied own.entry) (option_copied other.entry) }
+{
+    match (own, other) {
+        (Some(own), Some(other)) => own.bytes() != other.bytes(),
+        _ => false,
+    }
+}
+
+/// Was a request of this function closed in both, and by two different completions?
+pub(crate) fn is_closed_otherwise(own: &Domain, other: &Domain, function: Bdf) -> bool
+    ensures { IsTrue result ↔ IsAnother (closing function own.now) (closing function other.now) }
+{
+    is_another(closing(own, function), closing(other, function))
 }

@@ -1,25 +1,25 @@
-//! One attack, tried on a fresh fabric.
+//! Runs of a fresh fabric in which a packet is submitted.
 
-ghost use Rattle.std.specs.Prelude.{◌≡◌, ◌≢◌, ◌↔◌, IfOk, IfSome, IsTrue, MatchOption, OnOk};
+ghost use Rattle.std.specs.Prelude.{◌≡◌, IfOk, IfSome, OnOk};
 ghost use Rattle.std.specs.List.{flat_map};
+ghost use Rattle.fab_types.specs.declared.outcome.Outcome.TheVariants.{Moved};
 ghost use Rattle.fabric_core.specs.declared.event.Event.TheVariants.{Submit};
+ghost use Rattle.fabric_core.specs.Events.{StepsTo};
 ghost use Rattle.fabric_core.specs.Isolation.{home};
 ghost use Rattle.fabric_core.specs.Stations.{events_at};
 ghost use Rattle.fabric_core.specs.World.{world_of};
 ghost use Rattle.audit.specs.Settings.{IsSetting};
-ghost use Rattle.audit.specs.Landing.{ComesToRest, Fails, IsRefused, IsRun, Lands, Shows};
-ghost use Rattle.audit.specs.Telling.{witness_by};
+ghost use Rattle.audit.specs.Landing.{ComesToRest, IsRace, IsRefused, IsRun};
 
-use crate::seen::is_seen;
 use crate::setting::Setting;
-use attacks::{Attack, Harm, Witness, is_clear};
+use attacks::OwnRead;
 use fab_types::{Bdf, DomainId, NoMemory, Outcome, PacketBytes};
 use fabric_core::{Event, Fabric, Station};
 use std::alloc::Global;
 use std::sync::Wait;
 use sweeps::sweeps;
 
-/// The most sweeps that follow the packet.
+/// The most sweeps that follow the last packet.
 const MOST_SWEEPS: u32 = 1000;
 
 /// Makes so many sweeps, or fewer, until nothing moves.
@@ -36,103 +36,87 @@ fn come_to_rest<R: Wait>(
     Ok(())
 }
 
-/// Submits a packet in a fresh fabric, and lets that come to rest.
+/// Submits a packet in a fresh fabric.
 /// None where the packet is refused, or its function is not of the domain.
-fn ran<R: Wait>(
+fn begun<R: Wait>(
     rt: &R,
     alloc: Global,
     setting: &Setting<'_>,
-    attacker: DomainId,
+    domain: DomainId,
     function: Bdf,
     bytes: PacketBytes,
 ) -> Result<Option<Fabric>, NoMemory>
     requires { IsSetting setting.now }
-    ensures run { IfOk result (λ ran. IfSome ran (λ fabric. IsRun setting.now.layout.now function bytes fabric)) }
-    ensures own { IfOk result (λ ran. IfSome ran (λ _. home (world_of setting.now.layout.now) (Submit function bytes) ≡ Some attacker)) }
-    ensures refused { IfOk result (λ ran. (ran ≡ None) → IsRefused setting.now.layout.now attacker function bytes) }
+    ensures begun { IfOk result (λ begun. IfSome begun (λ fabric. StepsTo (world_of setting.now.layout.now) (Submit function bytes) Moved fabric)) }
+    ensures own { IfOk result (λ begun. IfSome begun (λ _. home (world_of setting.now.layout.now) (Submit function bytes) ≡ Some domain)) }
+    ensures refused { IfOk result (λ begun. (begun ≡ None) → IsRefused setting.now.layout.now domain function bytes) }
 {
     let event = Event::Submit(function, bytes);
-    if setting.start.home(&event) != Some(attacker) {
+    if setting.start.home(&event) != Some(domain) {
         return Ok(None);
     }
     let mut fabric = Fabric::new(alloc, setting.layout)?;
     match fabric.step(rt, &event) {
-        Outcome::Moved => {
-            come_to_rest(rt, &mut fabric, &setting.stations, MOST_SWEEPS)?;
-            Ok(Some(fabric))
-        }
+        Outcome::Moved => Ok(Some(fabric)),
         Outcome::Refused(_) => Ok(None),
         Outcome::Idle => unreachable!(),
         Outcome::NoMemory => Err(NoMemory),
     }
 }
 
-/// Is the harm seen in a fabric of one who attacked, and of one who was attacked?
-fn shows(
-    setting: &Setting<'_>,
-    end: &Fabric,
-    attacker: DomainId,
-    victim: DomainId,
-    harm: Harm,
-    function: Bdf,
-    bytes: &PacketBytes,
-) -> bool
-    ensures { IsTrue result ↔ Shows setting.now.start end.now attacker victim harm function bytes.now }
-{
-    let Some(old) = setting.start.domain(victim) else {
-        return false;
-    };
-    let Some(new) = end.domain(victim) else {
-        return false;
-    };
-    let Some(attacker) = end.domain(attacker) else {
-        return false;
-    };
-    !old.has_same_journal(new) && is_seen(harm, function, bytes, old, new, attacker)
-}
-
-/// The witness of an attack by this function, if the attack lands.
-pub(crate) fn witness_of<R: Wait>(
+/// Submits a packet in a fresh fabric, and lets that come to rest.
+/// None where the packet is refused, or its function is not of the domain.
+pub(crate) fn ran<R: Wait>(
     rt: &R,
     alloc: Global,
     setting: &Setting<'_>,
-    attacker: DomainId,
-    victim: DomainId,
-    attack: &Attack,
-) -> Result<Option<Witness>, NoMemory>
-    requires setting { IsSetting setting.now }
-    requires other { attacker ≢ victim }
-    ensures { IfOk result (λ found. MatchOption found (Fails setting.now.layout.now (witness_by attacker victim attack.now)) (λ w. (w ≡ witness_by attacker victim attack.now) × Lands setting.now.layout.now w)) }
+    domain: DomainId,
+    function: Bdf,
+    bytes: PacketBytes,
+) -> Result<Option<Fabric>, NoMemory>
+    requires { IsSetting setting.now }
+    ensures run { IfOk result (λ ran. IfSome ran (λ fabric. IsRun setting.now.layout.now function bytes fabric)) }
+    ensures own { IfOk result (λ ran. IfSome ran (λ _. home (world_of setting.now.layout.now) (Submit function bytes) ≡ Some domain)) }
+    ensures refused { IfOk result (λ ran. (ran ≡ None) → IsRefused setting.now.layout.now domain function bytes) }
 {
-    if !is_clear(setting.layout.ports(), attack.port, attack.control) {
-        return Ok(None);
-    }
-    let function = attack.function;
-    let bytes = attack.bytes(alloc)?;
-    let copy = PacketBytes::copy_of(alloc, bytes.as_slice())?;
-    let Some(end) = ran(rt, alloc, setting, attacker, function, copy)? else {
+    let Some(mut fabric) = begun(rt, alloc, setting, domain, function, bytes)? else {
         return Ok(None);
     };
-    let is_shown = shows(
-        setting,
-        &end,
-        attacker,
-        victim,
-        attack.harm,
-        function,
-        &bytes,
-    );
-    if is_shown {
-        Ok(Some(Witness {
-            attacker,
-            victim,
-            harm: attack.harm,
-            function,
-            port: attack.port,
-            control: attack.control,
-            bytes,
-        }))
-    } else {
-        Ok(None)
+    come_to_rest(rt, &mut fabric, &setting.stations, MOST_SWEEPS)?;
+    Ok(Some(fabric))
+}
+
+/// Asks for a begin, which may be refused.
+fn ask<R: Wait>(rt: &R, fabric: &mut Fabric, event: &Event) -> Result<(), NoMemory>
+    ensures { OnOk result ((outcome : Outcome) × StepsTo fabric.old event.now outcome fabric.new) }
+{
+    match fabric.step(rt, event) {
+        Outcome::NoMemory => Err(NoMemory),
+        Outcome::Moved | Outcome::Idle | Outcome::Refused(_) => Ok(()),
     }
+}
+
+/// The same with a read that follows some sweeps later.
+pub(crate) fn raced<R: Wait>(
+    rt: &R,
+    alloc: Global,
+    setting: &Setting<'_>,
+    domain: DomainId,
+    function: Bdf,
+    bytes: PacketBytes,
+    read: &OwnRead,
+) -> Result<Option<Fabric>, NoMemory>
+    requires { IsSetting setting.now }
+    ensures race { IfOk result (λ raced. IfSome raced (λ fabric. IsRace setting.now.layout.now function bytes read.now fabric)) }
+    ensures own { IfOk result (λ raced. IfSome raced (λ _. home (world_of setting.now.layout.now) (Submit function bytes) ≡ Some domain)) }
+    ensures refused { IfOk result (λ raced. (raced ≡ None) → IsRefused setting.now.layout.now domain function bytes) }
+{
+    let Some(mut fabric) = begun(rt, alloc, setting, domain, function, bytes)? else {
+        return Ok(None);
+    };
+    sweeps(rt, &mut fabric, &setting.stations, read.sweeps)?;
+    let own = Event::Submit(read.function, read.bytes(alloc)?);
+    ask(rt, &mut fabric, &own)?;
+    come_to_rest(rt, &mut fabric, &setting.stations, MOST_SWEEPS)?;
+    Ok(Some(fabric))
 }

@@ -1,8 +1,8 @@
 -- The words of the command line, by the definitions of the library that reads them.
-use Rattle.std.specs.Prelude.{◌≡◌, ℕ, ◌&&◌, nat_le, true, false, List, [], Option, Some, None, codes, bytes_eq, option_map, if◌then◌else◌}
+use Rattle.std.specs.Prelude.{◌≡◌, ℕ, ◌&&◌, nat_le, Bool, true, false, List, [], Option, Some, None, codes, bytes_eq, option_map, if◌then◌else◌}
 use Rattle.std.specs.Option.{option_and_then}
 use Rattle.clap.specs.Words.{App, Kinds, Row, Rule, Text, app_of, fault_of, first_of, new_app, new_rule, subcommand_of, subcommand_rows_of, with_rule, with_subcommand}
-use Rattle.clap.specs.declared.builder.action.ArgAction.TheVariants.{Set}
+use Rattle.clap.specs.declared.builder.action.ArgAction.TheVariants.{Set, SetTrue}
 use Rattle.clap.specs.declared.builder.command.Command.{Command}
 use Rattle.clap.specs.declared.builder.command.Command.TheViews.{out-Command}
 use Rattle.clap.specs.declared.parser.matches.ArgMatches.{ArgMatches}
@@ -19,6 +19,10 @@ word_rule name = record (new_rule name) { required = true; action = Some Set }
 -- a word behind `--` and its name, which may be there
 abbrev pub option_rule : Text → Rule
 option_rule name = record (new_rule name) { long = Some name; action = Some Set }
+
+-- `--` and its name alone, which may be there
+abbrev pub flag_rule : Text → Rule
+flag_rule name = record (new_rule name) { long = Some name; action = Some SetTrue }
 
 abbrev pub first_command : App
 first_command = with_rule (new_app (codes "first")) (word_rule (codes "HEX"))
@@ -54,7 +58,7 @@ abbrev pub draw_command : App
 draw_command = with_rule (new_app (codes "draw")) (word_rule (codes "LAYOUT"))
 
 abbrev pub explain_command : App
-explain_command = with_rule (new_app (codes "explain")) (word_rule (codes "LAYOUT"))
+explain_command = with_rule (with_rule (with_rule (new_app (codes "explain")) (word_rule (codes "LAYOUT"))) (option_rule (codes "scripts"))) (flag_rule (codes "linux"))
 
 abbrev pub import_command : App
 import_command = with_rule (with_rule (with_rule (new_app (codes "import")) (word_rule (codes "DUMP"))) (option_rule (codes "owners"))) (option_rule (codes "root"))
@@ -67,8 +71,8 @@ abbrev pub run_commands : App
 run_commands = with_subcommand (with_subcommand (with_subcommand program first_command.top) run_command.top) alone_command.top
 
 -- `first HEX`, `run LAYOUT SCRIPT`, `alone LAYOUT SCRIPT DOMAIN`, `journal LAYOUT SCRIPT DOMAIN`,
--- `replay LAYOUT JOURNAL DOMAIN`, `threads LAYOUT SCRIPT TURNS`, `draw LAYOUT`, `explain LAYOUT` and
--- `import DUMP [--owners FILE] [--root ID]`; help is the library's own
+-- `replay LAYOUT JOURNAL DOMAIN`, `threads LAYOUT SCRIPT TURNS`, `draw LAYOUT`, `explain LAYOUT [--scripts FOLDER] [--linux]`
+-- and `import DUMP [--owners FILE] [--root ID]`; help is the library's own
 abbrev pub commands : App
 commands =
     with_subcommand (with_subcommand (with_subcommand (with_subcommand (with_subcommand (with_subcommand run_commands journal_command.top) replay_command.top) threads_command.top) draw_command.top) explain_command.top) import_command.top
@@ -87,7 +91,7 @@ pub data Asked : Type 0 where
   Replay : Text → Text → ℕ → Asked  -- the files of these names, a layout and a journal of the domain of this number
   Threads : Text → Text → ℕ → Asked  -- a run of the files on threads, each of which makes so many turns
   Draw : Text → Asked  -- the drawing of the file of this name, a layout
-  Explain : Text → Asked  -- whether the domains of that layout are kept apart
+  Explain : Text → Option Text → Bool → Asked  -- whether the domains of that layout are kept apart, with scripts in this folder, and with Linux's groups
   Import : Text → Option Text → Option ℕ → Asked  -- the layout of the file of this name, a dump, with a list of owners, below this root port
 
 -- the names of the files of a layout and of this
@@ -115,6 +119,14 @@ abbrev pub root_in : Option Text → Option (Option ℕ)
 root_in None = Some None
 root_in (Some word) = option_map Some (id_at word)
 
+-- is a name there behind `--`?
+abbrev pub is_flag : Option Text → Bool
+is_flag None = false
+is_flag (Some word) = bytes_eq word (codes "true")
+
+abbrev pub explain_in : List Row → Option Asked
+explain_in rows = option_map (λ layout. Explain layout (first_of (codes "scripts") rows) (is_flag (first_of (codes "linux") rows))) (first_of (codes "LAYOUT") rows)
+
 abbrev pub import_in : List Row → Option Asked
 import_in rows = do
   dump ← first_of (codes "DUMP") rows
@@ -131,7 +143,7 @@ asked_of entered =
     else (if bytes_eq entered.0 (codes "replay") then option_map (λ a. Replay a.0 a.1 a.2) (domain_in (codes "JOURNAL") entered.1)
     else (if bytes_eq entered.0 (codes "threads") then number_in (codes "SCRIPT") (codes "TURNS") entered.1 >>= turns_within
     else (if bytes_eq entered.0 (codes "draw") then option_map Draw (first_of (codes "LAYOUT") entered.1)
-    else (if bytes_eq entered.0 (codes "explain") then option_map Explain (first_of (codes "LAYOUT") entered.1)
+    else (if bytes_eq entered.0 (codes "explain") then explain_in entered.1
     else (if bytes_eq entered.0 (codes "import") then import_in entered.1
     else None))))))))
 
@@ -157,7 +169,7 @@ asked_by (request.Journal files domain) = Some (Journal files.layout.now files.s
 asked_by (request.Replay layout journal domain) = Some (Replay layout.now journal.now domain)
 asked_by (request.Threads files turns) = Some (Threads files.layout.now files.script.now turns)
 asked_by (request.Draw layout) = Some (Draw layout.now)
-asked_by (request.Explain layout) = Some (Explain layout.now)
+asked_by (request.Explain asked) = Some (Explain asked.layout.now (option_map (λ word. word.now) asked.scripts) asked.groups)
 asked_by (request.Import dump owners root) = Some (Import dump.now (option_map (λ word. word.now) owners) root)
 
 -- a request is for what was asked

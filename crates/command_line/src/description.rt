@@ -2,7 +2,7 @@
 
 ghost use Rattle.std.specs.Prelude.{◌≡◌, IfOk};
 ghost use Rattle.clap.specs.Words.{App, app_of, new_app, with_rule};
-ghost use Rattle.command_line.specs.CommandLine.{IsDefined, commands, domain_command, draw_command, explain_command, files_command, first_command, import_command, option_rule, run_commands, third_command, threads_command, word_rule};
+ghost use Rattle.command_line.specs.CommandLine.{IsDefined, commands, domain_command, draw_command, explain_command, files_command, first_command, flag_rule, import_command, option_rule, run_commands, third_command, threads_command, word_rule};
 
 use clap::{Arg, ArgAction, Command};
 use std::alloc::{AllocError, Global};
@@ -33,6 +33,12 @@ const DRAW_ABOUT: &str =
 
 const EXPLAIN_ABOUT: &str =
     "Prints the tree of a layout as text, and whether its domains are kept apart: where they aren't, for each two of them what one was seen to do to the other, with a script for `run` that shows it. Exit status 0: guarded; 3: not, and something was seen; 4: not, and nothing was seen";
+
+const SCRIPTS_HELP: &str =
+    "A folder: each script is written there too, as ATTACKER-reaches-VICTIM-NN.script by the numbers of the domains";
+
+const LINUX_HELP: &str =
+    "Adds the IOMMU groups that Linux makes of the tree, and the domains that they keep apart though one reaches the other";
 
 const IMPORT_ABOUT: &str =
     "Prints the layout of a real machine, from what `lspci -xxxx` printed there: what is below its root ports, or below one of them";
@@ -103,6 +109,22 @@ fn with_option<'a>(
     let word = Arg::new(alloc, name)
         .long(name)
         .action(ArgAction::Set)
+        .help(help);
+    command.arg(word)
+}
+
+/// The command with `--` and this name, which may be there.
+fn with_flag<'a>(
+    alloc: Global,
+    command: Command<'a>,
+    name: &'a str,
+    help: &'a str,
+) -> Result<Command<'a>, AllocError>
+    ensures { (app : App) → IsDefined command.entry app → IfOk result (λ more. IsDefined more (with_rule app (flag_rule name.entry.now))) }
+{
+    let word = Arg::new(alloc, name)
+        .long(name)
+        .action(ArgAction::SetTrue)
         .help(help);
     command.arg(word)
 }
@@ -183,7 +205,9 @@ fn explain_definition<'a>(alloc: Global) -> Result<Command<'a>, AllocError>
     ensures { IfOk result (λ command. IsDefined command explain_command) }
 {
     let plain = subcommand(alloc, "explain", EXPLAIN_ABOUT);
-    with_word(alloc, plain, "LAYOUT", LAYOUT_HELP)
+    let with_layout = with_word(alloc, plain, "LAYOUT", LAYOUT_HELP)?;
+    let with_scripts = with_option(alloc, with_layout, "scripts", SCRIPTS_HELP)?;
+    with_flag(alloc, with_scripts, "linux", LINUX_HELP)
 }
 
 fn import_definition<'a>(alloc: Global) -> Result<Command<'a>, AllocError>

@@ -3,7 +3,7 @@
 ghost use Rattle.std.specs.Prelude.{◌≡◌, MatchResult, codes, map, option_map};
 ghost use Rattle.std.specs.Option.{option_and_then};
 ghost use Rattle.clap.specs.Words.{first_of, found_of, rows_of};
-ghost use Rattle.command_line.specs.CommandLine.{Ask, Asked, IsAsked, asked_by, asked_in, domain_in, files_in, import_in, number_in, root_in};
+ghost use Rattle.command_line.specs.CommandLine.{Ask, Asked, IsAsked, asked_by, asked_in, domain_in, explain_in, files_in, import_in, is_flag, number_in, root_in};
 
 use crate::description::definition;
 use clap::ArgMatches;
@@ -80,9 +80,9 @@ pub enum Request<'a> {
     },
     /// To print whether the domains of a layout are kept apart.
     Explain {
-        layout: &'a str,
+        asked: Explaining<'a>,
     },
-    /// To print the layout of a dump, by a list of owners, of what is below this root port.
+    /// To print the layout of what a dump shows below a root port.
     Import {
         dump: &'a str,
         owners: Option<&'a str>,
@@ -97,6 +97,17 @@ pub struct Files<'a> {
     pub layout: &'a str,
     /// The name of the script's file.
     pub script: &'a str,
+}
+
+/// What `explain` is asked for.
+#[derive(Clone, Copy, Debug, PartialEq, Eq)]
+pub struct Explaining<'a> {
+    /// The name of the layout's file.
+    pub layout: &'a str,
+    /// The name of the folder where scripts are to be written, if they are wanted.
+    pub scripts: Option<&'a str>,
+    /// Are Linux's groups wanted?
+    pub groups: bool,
 }
 
 /// Reads the words of the command line, without the program's name.
@@ -160,10 +171,7 @@ fn requested<'a>(matches: &ArgMatches<'a>) -> Option<Request<'a>>
             let layout = word_in(words, "LAYOUT")?;
             Some(Request::Draw { layout })
         }
-        ("explain", words) => {
-            let layout = word_in(words, "LAYOUT")?;
-            Some(Request::Explain { layout })
-        }
+        ("explain", words) => explain_in(words),
         ("import", words) => import_in(words),
         _ => None,
     }
@@ -184,6 +192,31 @@ fn root_in<'a>(words: &ArgMatches<'a>) -> Option<Option<Bdf>>
         None => Some(None),
         Some(word) => Some(Some(id(word.as_bytes())?)),
     }
+}
+
+/// Is this name there behind `--`?
+fn is_flag<'a>(words: &ArgMatches<'a>, name: &str) -> bool
+    ensures { result ≡ is_flag (first_of name.now (rows_of (found_of words.now))) }
+{
+    match word_in(words, name) {
+        Some(word) => word == "true",
+        None => false,
+    }
+}
+
+/// What the words of `explain` ask for.
+fn explain_in<'a>(words: &ArgMatches<'a>) -> Option<Request<'a>>
+    ensures { option_and_then asked_by result ≡ explain_in (rows_of (found_of words.now)) }
+{
+    let layout = word_in(words, "LAYOUT")?;
+    let scripts = word_in(words, "scripts");
+    let groups = is_flag(words, "linux");
+    let asked = Explaining {
+        layout,
+        scripts,
+        groups,
+    };
+    Some(Request::Explain { asked })
 }
 
 /// What the words of `import` ask for.

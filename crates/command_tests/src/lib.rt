@@ -3,3 +3,5 @@
 
 #[cfg(test)]
 mod outputs;
+#[cfg(test)]
+mod scripts;

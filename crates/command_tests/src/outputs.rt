@@ -1,6 +1,6 @@
 //! Outputs that fail: what the commands answer then.
 
-use program::{ExitStatus, FileFault, FileGiver, command};
+use program::{ExitStatus, FileFault, FileGiver, FileTaker, WriteFault, command};
 use std::alloc::Global;
 use std::io;
 use std::io::Write;
@@ -9,7 +9,7 @@ use std::test::Fail;
 use std::thread::Threads;
 use std::time::Clock;
 
-/// No file can be read.
+/// No file can be read or written.
 #[derive(Drop)]
 struct NoFiles;
 
@@ -22,6 +22,16 @@ impl FileGiver for NoFiles {
 
     fn bytes_of(&self, _name: &str) -> Result<Vec<u8>, FileFault> {
         Err(FileFault::Unreadable)
+    }
+}
+
+impl FileTaker for NoFiles {
+    ghost use Rattle.std.specs.Prelude.{[], Some};
+
+    ghost written = { λ files. Some [] };
+
+    fn write_file(&mut self, _name: &str, _bytes: &[u8]) -> Result<(), WriteFault> {
+        Err(WriteFault::Unwritable)
     }
 }
 
@@ -55,7 +65,7 @@ where
 {
     let mut out = Failing(kind);
     let mut err = Vec::new(alloc);
-    let end = command(rt, alloc, words, &NoFiles, &mut out, &mut err);
+    let end = command(rt, alloc, words, &NoFiles, &mut NoFiles, &mut out, &mut err);
     Ok((end.code(), String::from_utf8(err)?))
 }
 
@@ -81,7 +91,15 @@ where
 {
     let mut out = Vec::new(alloc);
     let mut err = Failing(io::ErrorKind::BrokenPipe);
-    let end = command(rt, alloc, &["first"], &NoFiles, &mut out, &mut err);
+    let end = command(
+        rt,
+        alloc,
+        &["first"],
+        &NoFiles,
+        &mut NoFiles,
+        &mut out,
+        &mut err,
+    );
     (end, out.is_empty())
 }
 

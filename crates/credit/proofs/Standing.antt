@@ -35,10 +35,11 @@ pub through : {P Q R : Type 0} → P ↔ Q → Q ↔ R → P ↔ R
 through pq qr = (λ p. qr.0 (pq.0 p), λ r. pq.1 (qr.1 r))
 
 -- a test of the two counters of the packet's class is one of all six
-pub room-exact : (s : Ledger) (cost : Cost) (answer : Bool) (sent limit : Credits) → sent ≡ credits_at s.credits_consumed cost.class → limit ≡ credits_at s.credit_limit cost.class
-    → IsTrue answer ↔ (1 ≤ distance 256 sent.headers limit.headers) × (cost.data ≤ distance 4096 sent.payload limit.payload)
+pub room-exact : (s : Ledger) (cost : Cost) (payload : ℕ) (answer : Bool) (sent limit : Credits) → payload ≡ cost.data → sent ≡ credits_at s.credits_consumed cost.class → limit ≡ credits_at s.credit_limit cost.class
+    → IsTrue answer ↔ (1 ≤ distance 256 sent.headers limit.headers) × (payload ≤ distance 4096 sent.payload limit.payload)
     → IsTrue answer ↔ HasRoom s cost
-room-exact s cost answer sent limit sent_is limit_is covers =
+room-exact s cost payload answer sent limit same sent_is limit_is tells =
+    let covers = subst (λ (d : ℕ). IsTrue answer ↔ (1 ≤ distance 256 sent.headers limit.headers) × (d ≤ distance 4096 sent.payload limit.payload)) same tells in
     let P : Credits → Type 0 = λ x. IsTrue answer ↔ (1 ≤ distance 256 x.headers limit.headers) × (cost.data ≤ distance 4096 x.payload limit.payload) in
     let Q : Credits → Type 0 = λ x. IsTrue answer ↔ (1 ≤ distance 256 (credits_at s.credits_consumed cost.class).headers x.headers) × (cost.data ≤ distance 4096 (credits_at s.credits_consumed cost.class).payload x.payload) in
     through (subst Q limit_is (subst P sent_is covers)) (covers-all cost.class cost.data (left_of s))

@@ -63,7 +63,7 @@ impl Credits {
     }
 }
 
-/// A counter of each of the six kinds: PH and PD, NPH and NPD, CPLH and CPLD.
+/// A counter of each of the six kinds of credits (PCIe 4.0, 2.6.1).
 #[derive(Clone, Copy, Debug, PartialEq, Eq)]
 pub struct Counters {
     /// PH and PD: for posted requests.
@@ -108,21 +108,22 @@ impl Counters {
             non_posted,
             completion,
         } = self;
+        let data = cost.data.get();
         match cost.class {
             Class::Posted => Counters {
-                posted: posted.plus(cost.data),
+                posted: posted.plus(data),
                 non_posted,
                 completion,
             },
             Class::NonPosted => Counters {
                 posted,
-                non_posted: non_posted.plus(cost.data),
+                non_posted: non_posted.plus(data),
                 completion,
             },
             Class::Completion => Counters {
                 posted,
                 non_posted,
-                completion: completion.plus(cost.data),
+                completion: completion.plus(data),
             },
         }
     }
@@ -136,21 +137,22 @@ impl Counters {
             non_posted,
             completion,
         } = self;
+        let data = cost.data.get();
         match cost.class {
             Class::Posted => Counters {
-                posted: posted.minus(cost.data),
+                posted: posted.minus(data),
                 non_posted,
                 completion,
             },
             Class::NonPosted => Counters {
                 posted,
-                non_posted: non_posted.minus(cost.data),
+                non_posted: non_posted.minus(data),
                 completion,
             },
             Class::Completion => Counters {
                 posted,
                 non_posted,
-                completion: completion.minus(cost.data),
+                completion: completion.minus(data),
             },
         }
     }

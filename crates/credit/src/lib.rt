@@ -7,12 +7,10 @@
 
 mod counter;
 mod counters;
-mod price;
 mod receiver;
 mod sender;
 
 pub use counter::Counter;
 pub use counters::{Counters, Credits, DataCounter, HeaderCounter, Limits};
-pub use price::cost_of_payload;
 pub use receiver::Receiver;
 pub use sender::Sender;

@@ -58,13 +58,13 @@ impl Sender {
         // Whatever totals the counters stand for, the answer is theirs.
         ensures totals { (sent limit : Kind → ℕ) → StandsFor sent limit self.now → (IsTrue result ↔ IsAllowed sent limit cost) }
 
-        // For a cost below half of a counter it is the standard's own test.
-        ensures gate { (sent limit : Kind → ℕ) → StandsFor sent limit self.now → cost.data < 2048 → (IsTrue result ↔ PassesGate self.now cost) }
+        // It is the standard's own test: no cost reaches half of a counter.
+        ensures gate { (sent limit : Kind → ℕ) → StandsFor sent limit self.now → (IsTrue result ↔ PassesGate self.now cost) }
     {
         covers(
             self.credits_consumed.of(cost.class),
             self.credit_limit.of(cost.class),
-            cost.data,
+            cost.data.get(),
         )
     }
 

@@ -1,53 +1,53 @@
 //! Whether the domains of the layout in a file are kept apart.
 
-ghost use Rattle.std.specs.Prelude.{◌≡◌, ◌⊎◌, ◌==◌, IfErr, IfOk, not};
+ghost use Rattle.std.specs.Prelude.{◌≡◌, ◌⊎◌, IfErr, IfOk, MatchOption, option_map};
 ghost use Rattle.std.specs.List.{list_any};
+ghost use Rattle.attacks.specs.Findings.{has_witness};
+ghost use Rattle.inputs.specs.Files.{WroteBoth};
 ghost use Rattle.inputs.specs.Refusals.{HasNoText, IsNoLayout};
-ghost use Rattle.reports.specs.Writing.{Wrote};
-ghost use Rattle.explain_command.specs.Explained.{ExplainPrints, has_witness, status_after};
+ghost use Rattle.explain_command.specs.Explained.{Explains, status_after};
 
+use crate::scripts::write_scripts;
 use attacks::{Findings, Pair};
 use audit::audit;
+use command_line::Explaining;
 use findings_text::write_explanation;
-use inputs::{ExitStatus, Fault, FileGiver, layout_of};
+use inputs::{ExitStatus, Fault, FileGiver, FileTaker, layout_of};
 use std::alloc::Global;
 use std::io::Write;
 use std::sync::Wait;
 
-/// Reads the layout of a file, audits it, and writes its tree and what was found.
-/// It answers how the program ends: `Done` where the layout is guarded, `Harmed` where it isn't and a domain was seen to harm
-/// another, `Unguarded` where it isn't and no harm was seen.
+/// Audits the layout of a file, and writes its tree and what was found.
+/// Before that the script of each witness goes into a file, if a folder is named. It answers how the program ends: `Done` where
+/// the layout is guarded, `Harmed` where it isn't and a domain was seen to harm another, `Unguarded` where it isn't and no harm
+/// was seen.
 ///
 /// # Errors
-/// As `layout_of`; and `NoMemory` where memory is refused before the text stands ready, `Unwritable` where the output takes no
-/// more.
-pub fn explain<'a, R: Wait, F: FileGiver, W: Write>(
+/// As `layout_of`; and `NoMemory` where memory is refused before the text stands ready, `Folder` where a script can't be written,
+/// `Unwritable` where the output takes no more.
+pub fn explain<'a, R: Wait, F: FileGiver, T: FileTaker, W: Write>(
     rt: &R,
     alloc: Global,
     files: &F,
-    name: &'a str,
+    asked: Explaining<'a>,
+    scripts: &mut T,
     out: &mut W,
 ) -> Result<ExitStatus, Fault<'a>>
-    ensures ok { IfOk result (λ status. Wrote (W.contents out.old) (W.contents out.new) (ExplainPrints (F.holds files.now) name.entry.now status)) }
-    ensures fault { IfErr result (λ f. (f ≡ Fault.NoMemory) ⊎ ((f ≡ Fault.Unreadable name.entry) × HasNoText (F.withholds files.now name.entry.now) (F.holds files.now name.entry.now)) ⊎ IsNoLayout (F.holds files.now name.entry.now) f ⊎ (f ≡ Fault.Unwritable)) }
+    ensures ok { IfOk result (λ status. WroteBoth (W.contents out.old) (W.contents out.new) (T.written scripts.old) (T.written scripts.new) (Explains (F.holds files.now) asked.entry.layout.now (option_map (λ name. name.now) asked.entry.scripts) asked.entry.groups status)) }
+    ensures fault { IfErr result (λ f. (f ≡ Fault.NoMemory) ⊎ ((f ≡ Fault.Unreadable asked.entry.layout) × HasNoText (F.withholds files.now asked.entry.layout.now) (F.holds files.now asked.entry.layout.now)) ⊎ IsNoLayout (F.holds files.now asked.entry.layout.now) f ⊎ MatchOption asked.entry.scripts ⊥ (λ name. f ≡ Fault.Folder name) ⊎ (f ≡ Fault.Unwritable)) }
 {
-    let layout = layout_of(alloc, files, name)?;
+    let layout = layout_of(alloc, files, asked.layout)?;
     let findings = audit(rt, alloc, &layout)?;
-    write_explanation(alloc, out, &layout, &findings)?;
+    write_scripts(alloc, scripts, asked.scripts, &findings)?;
+    write_explanation(alloc, out, &layout, &findings, asked.groups)?;
     Ok(status_after(&findings))
-}
-
-fn has_witness(pair: &Pair) -> bool
-    ensures { result ≡ has_witness pair.now }
-{
-    !pair.witnesses.is_empty()
 }
 
 /// Was harm seen of any two domains?
 fn have_witness(pairs: &[Pair]) -> bool
     ensures { result ≡ list_any has_witness pairs.now }
 {
-    pairs.iter().any(|pair| has_witness(pair))
+    pairs.iter().any(|pair| pair.has_witness())
 }
 
 /// How the program ends after these findings.

@@ -17,7 +17,7 @@ mod violation;
 
 pub use class::Class;
 pub use controls::AcsControl;
-pub use cost::Cost;
+pub use cost::{Cost, DataCredits};
 pub use faults::begin::{BeginFault, MmioFault, SubmitFault, TickFault};
 pub use faults::injector::InjectorFault;
 pub use faults::layout::{LayoutCause, LayoutFault};

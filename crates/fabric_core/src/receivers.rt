@@ -15,7 +15,7 @@ const FRAME: u64 = 4096;
 fn is_addition(cost: Cost) -> bool
     ensures { result ≡ is_addition cost }
 {
-    matches!(cost.class, Class::NonPosted) && cost.data != 0
+    matches!(cost.class, Class::NonPosted) && cost.data.get() != 0
 }
 
 /// A memory request: the owner of its Requester ID, or of the frame of memory whose number is its page. A FetchAdd of a

@@ -1,1 +1,2 @@
 pub mod Buses
+pub mod Groups

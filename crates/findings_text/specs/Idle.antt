@@ -68,25 +68,18 @@ above_text other = id_text other ++ codes " above it still stops "
 abbrev pub below_text : ℕ → List ℕ
 below_text other = id_text other ++ codes " below it stops what comes from there by that control\n"
 
--- what a control stops
-abbrev pub stopped_text : Control → List ℕ
-stopped_text SourceValidation = codes "a spoofed ID\n"
-stopped_text TranslationBlocking = codes "a translated address\n"
-stopped_text RequestRedirect = codes "a direct request\n"
-stopped_text CompletionRedirect = codes "a direct completion\n"
-stopped_text UpstreamForwarding = codes "a request for its own window\n"
-
-abbrev pub reason_text : Obstacle → Control → List ℕ
-reason_text (Above other) control = above_text other ++ stopped_text control
-reason_text (Below other) control = below_text other
-reason_text Nothing control = codes "nothing below it was seen to use that\n"
+-- what still stops this, if anything
+abbrev pub reason_text : Obstacle → List ℕ → List ℕ
+reason_text (Above other) stopped = above_text other ++ stopped
+reason_text (Below other) stopped = below_text other
+reason_text Nothing stopped = codes "nothing below it was seen to use that\n"
 
 abbrev pub idle_head : DownstreamPort → Control → List ℕ
 idle_head port control = id_text port.id ++ codes " lacks " ++ control_name control ++ codes "; "
 
 abbrev pub stop_text : List DownstreamPort → DownstreamPort → Control → List ℕ
-stop_text ports port SourceValidation = reason_text (obstacle_of ports port SourceValidation) SourceValidation
-stop_text ports port TranslationBlocking = reason_text (obstacle_of ports port TranslationBlocking) TranslationBlocking
+stop_text ports port SourceValidation = reason_text (obstacle_of ports port SourceValidation) (codes "a spoofed ID\n")
+stop_text ports port TranslationBlocking = reason_text (obstacle_of ports port TranslationBlocking) (codes "a translated address\n")
 stop_text ports port RequestRedirect = codes "no function below it was seen to reach one of another domain beside it\n"
 stop_text ports port CompletionRedirect = codes "a completion still goes to whom it answers\n"
 stop_text ports port UpstreamForwarding = codes "a request for its own window is still refused there\n"

@@ -1,3 +1,4 @@
 pub mod Idle
+pub mod Linux
 pub mod Tree
 pub mod Witnesses

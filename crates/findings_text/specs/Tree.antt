@@ -11,6 +11,8 @@ use Rattle.platform.specs.Platform.{Platform}
 use Rattle.platform.specs.Tree.{domain_of, internal_bus}
 use Rattle.platform.specs.declared.parts.DownstreamPort.{DownstreamPort}
 use Rattle.platform.specs.declared.parts.EndpointFunction.{EndpointFunction}
+use Rattle.platform.specs.declared.parts.LayoutVersion.{LayoutVersion}
+use Rattle.platform.specs.declared.parts.LayoutVersion.TheVariants.{One, Two}
 use Rattle.platform.specs.declared.parts.Switch.{Switch}
 use Rattle.attacks.specs.Controls.{is_set}
 use Rattle.findings_text.specs.declared.tree.Tree.{Tree}
@@ -39,8 +41,14 @@ controls_text controls =
 abbrev pub vector_of : DownstreamPort → ℕ
 vector_of port = unwrap_or port.egress_vector 4294967295
 
-abbrev pub egress_text : DownstreamPort → List ℕ
-egress_text port = if controls_egress port.controls then codes "E vector " ++ word_text (vector_of port) ++ codes "\n" else codes "\n"
+-- version 1 has no Egress Control
+abbrev pub clear_egress_text : LayoutVersion → List ℕ
+clear_egress_text One = codes "\n"
+clear_egress_text Two = codes ".\n"
+
+abbrev pub egress_text : LayoutVersion → DownstreamPort → List ℕ
+egress_text version port =
+    if controls_egress port.controls then codes "E vector " ++ word_text (vector_of port) ++ codes "\n" else clear_egress_text version
 
 -- which port it is, whose, and the buses below it
 abbrev pub port_head : DownstreamPort → List ℕ
@@ -49,12 +57,12 @@ port_head port = codes "port " ++ id_text port.id ++ codes " domain " ++ decimal
 abbrev pub window_text : DownstreamPort → List ℕ
 window_text port = codes " window " ++ word_text port.base ++ codes "-" ++ word_text port.limit ++ codes " controls "
 
-abbrev pub port_line : ℕ → DownstreamPort → List ℕ
-port_line depth port = indent (depth - 1) ++ port_head port ++ window_text port ++ controls_text port.controls ++ egress_text port
+abbrev pub port_line : LayoutVersion → ℕ → DownstreamPort → List ℕ
+port_line version depth port = indent (depth - 1) ++ port_head port ++ window_text port ++ controls_text port.controls ++ egress_text version port
 
-abbrev pub port_lines : ℕ → Option DownstreamPort → List ℕ
-port_lines depth None = []
-port_lines depth (Some port) = port_line depth port
+abbrev pub port_lines : LayoutVersion → ℕ → Option DownstreamPort → List ℕ
+port_lines version depth None = []
+port_lines version depth (Some port) = port_line version depth port
 
 abbrev pub switch_lines : ℕ → Option Switch → List ℕ
 switch_lines depth None = []
@@ -79,12 +87,13 @@ function_on functions bus = find (λ line. bus_of line.id == bus) functions
 
 -- what a tree is made of
 pub record Parts : Type 0 where
+  pub version : LayoutVersion
   pub ports : List DownstreamPort
   pub switches : List Switch
   pub functions : List EndpointFunction
 
 abbrev pub parts_of : Tree → Parts
-parts_of tree = record { ports = tree.ports.now; switches = tree.switches.now; functions = tree.functions.now }
+parts_of tree = record { version = tree.version; ports = tree.ports.now; switches = tree.switches.now; functions = tree.functions.now }
 
 abbrev pub switch_on : List Switch → ℕ → Option Switch
 switch_on switches bus = find (λ switch. bus_of switch.id == bus) switches
@@ -93,11 +102,11 @@ abbrev pub port_to : List DownstreamPort → ℕ → Option DownstreamPort
 port_to ports bus = find (λ port. port.secondary == bus) ports
 
 -- the lines of the port that leads to a bus, and of the switch or function on it
-abbrev pub lines_at : ℕ → List DownstreamPort → Option DownstreamPort → Option Switch → Option EndpointFunction → List ℕ
-lines_at depth ports port switch line = port_lines depth port ++ switch_lines depth switch ++ function_lines depth ports line
+abbrev pub lines_at : Parts → ℕ → Option DownstreamPort → Option Switch → Option EndpointFunction → List ℕ
+lines_at p depth port switch line = port_lines p.version depth port ++ switch_lines depth switch ++ function_lines depth p.ports line
 
 abbrev pub lines_on : Parts → ℕ → List ℕ
-lines_on p bus = lines_at (levels_above p.ports bus * 2) p.ports (port_to p.ports bus) (switch_on p.switches bus) (function_on p.functions bus)
+lines_on p bus = lines_at p (levels_above p.ports bus * 2) (port_to p.ports bus) (switch_on p.switches bus) (function_on p.functions bus)
 
 -- the lines of the first so many buses
 unfoldable pub lines_below : Parts → ℕ → List ℕ
@@ -106,4 +115,4 @@ lines_below p (suc bus) = lines_below p bus ++ lines_on p bus
 
 -- those of all buses
 abbrev pub tree_text : Platform → List ℕ
-tree_text platform = lines_below (record { ports = platform.ports; switches = platform.switches; functions = platform.functions }) 256
+tree_text platform = lines_below (record { version = platform.version; ports = platform.ports; switches = platform.switches; functions = platform.functions }) 256

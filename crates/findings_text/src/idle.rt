@@ -4,7 +4,7 @@ ghost use Rattle.std.specs.Prelude.{◌≡◌, ◌++◌, OnOk};
 ghost use Rattle.std.specs.List.{find, flat_map, list_any};
 ghost use Rattle.std.specs.Option.{option_copied};
 ghost use Rattle.std.specs.Io.KnownBytes.{Appends};
-ghost use Rattle.findings_text.specs.Idle.{above_text, below_text, idle_head, idle_line, idle_lines, idle_of, idle_text, is_idle, is_set_above, is_set_below, is_used, obstacle_below, obstacle_of, reason_text, stop_text, stopped_text, uses};
+ghost use Rattle.findings_text.specs.Idle.{above_text, below_text, idle_head, idle_line, idle_lines, idle_of, idle_text, is_idle, is_set_above, is_set_below, is_used, obstacle_below, obstacle_of, reason_text, stop_text, uses};
 
 use attacks::{Control, Findings, Pair, Witness};
 use fab_types::PortId;
@@ -126,6 +126,15 @@ fn write_above<W: Write>(out: &mut W, other: PortId) -> io::Result<()>
     write!(out, "{other} above it still stops ")
 }
 
+/// Writes that a port above still stops this.
+fn write_above_line<W: Write>(out: &mut W, other: PortId, stopped: &[u8]) -> io::Result<()>
+    ensures { OnOk result (Appends (W.contents out.old) (W.contents out.new) (above_text other ++ stopped.now)) }
+{
+    write_above(out, other)?;
+    out.write_all(stopped)?;
+    Ok(())
+}
+
 /// A port below stops what comes from below itself alone.
 fn write_below<W: Write>(out: &mut W, other: PortId) -> io::Result<()>
     ensures { OnOk result (Appends (W.contents out.old) (W.contents out.new) (below_text other)) }
@@ -136,33 +145,12 @@ fn write_below<W: Write>(out: &mut W, other: PortId) -> io::Result<()>
     )
 }
 
-/// Writes what a control stops.
-fn write_stopped<W: Write>(out: &mut W, control: Control) -> io::Result<()>
-    ensures { OnOk result (Appends (W.contents out.old) (W.contents out.new) (stopped_text control)) }
-{
-    match control {
-        Control::SourceValidation => out.write_all(b"a spoofed ID\n"),
-        Control::TranslationBlocking => out.write_all(b"a translated address\n"),
-        Control::RequestRedirect => out.write_all(b"a direct request\n"),
-        Control::CompletionRedirect => out.write_all(b"a direct completion\n"),
-        Control::UpstreamForwarding => out.write_all(b"a request for its own window\n"),
-    }
-}
-
-fn write_above_line<W: Write>(out: &mut W, other: PortId, control: Control) -> io::Result<()>
-    ensures { OnOk result (Appends (W.contents out.old) (W.contents out.new) (above_text other ++ stopped_text control)) }
-{
-    write_above(out, other)?;
-    write_stopped(out, control)?;
-    Ok(())
-}
-
 /// Writes what a port above or below still stops.
-fn write_reason<W: Write>(out: &mut W, obstacle: &Obstacle, control: Control) -> io::Result<()>
-    ensures { OnOk result (Appends (W.contents out.old) (W.contents out.new) (reason_text obstacle.now control)) }
+fn write_reason<W: Write>(out: &mut W, obstacle: &Obstacle, stopped: &[u8]) -> io::Result<()>
+    ensures { OnOk result (Appends (W.contents out.old) (W.contents out.new) (reason_text obstacle.now stopped.now)) }
 {
     match obstacle {
-        Obstacle::Above(other) => write_above_line(out, *other, control),
+        Obstacle::Above(other) => write_above_line(out, *other, stopped),
         Obstacle::Below(other) => write_below(out, *other),
         Obstacle::Nothing => out.write_all(b"nothing below it was seen to use that\n"),
     }
@@ -185,9 +173,15 @@ fn write_stop<W: Write>(
     ensures { OnOk result (Appends (W.contents out.old) (W.contents out.new) (stop_text ports.now port.now control)) }
 {
     match control {
-        Control::SourceValidation => write_reason(out, &obstacle_of(ports, port, control), control),
+        Control::SourceValidation => {
+            write_reason(out, &obstacle_of(ports, port, control), b"a spoofed ID\n")
+        }
         Control::TranslationBlocking => {
-            write_reason(out, &obstacle_of(ports, port, control), control)
+            write_reason(
+                out,
+                &obstacle_of(ports, port, control),
+                b"a translated address\n",
+            )
         }
         Control::RequestRedirect => out.write_all(
             b"no function below it was seen to reach one of another domain beside it\n",

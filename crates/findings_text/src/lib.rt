@@ -4,6 +4,7 @@
 mod explanation;
 mod findings;
 mod idle;
+mod linux;
 mod tree;
 mod witness;
 

@@ -5,13 +5,14 @@ ghost use Rattle.std.specs.List.{find};
 ghost use Rattle.std.specs.Io.KnownBytes.{Appends};
 ghost use Rattle.std.specs.Option.{option_copied};
 ghost use Rattle.fab_types.specs.Id.{bus_of};
-ghost use Rattle.findings_text.specs.Tree.{controls_text, egress_text, function_line, function_lines, function_on, function_words, indent, levels_above, letter_or_dot, lines_below, lines_on, parts_of, port_line, port_head, port_lines, switch_lines, tree_text, vector_of, window_text};
+ghost use Rattle.findings_text.specs.Tree.{clear_egress_text, controls_text, egress_text, function_line, function_lines, function_on, function_words, indent, levels_above, letter_or_dot, lines_below, lines_on, parts_of, port_line, port_head, port_lines, switch_lines, tree_text, vector_of, window_text};
 
 use attacks::Control;
 use fab_types::{AcsControl, Bdf};
 use layout::Layout;
 use platform::{
-    DownstreamPort, EndpointFunction, Switch, domain_of, internal_bus, port_with_secondary,
+    DownstreamPort, EndpointFunction, LayoutVersion, Switch, domain_of, internal_bus,
+    port_with_secondary,
 };
 use std::io;
 use std::io::Write;
@@ -25,6 +26,7 @@ const LEVELS: usize = 3;
 /// What a tree is made of.
 #[derive(Clone, Copy)]
 pub(crate) struct Tree<'a> {
+    pub(crate) version: LayoutVersion,
     pub(crate) ports: &'a [DownstreamPort],
     pub(crate) switches: &'a [Switch],
     pub(crate) functions: &'a [EndpointFunction],
@@ -36,6 +38,7 @@ pub(crate) fn write_tree<W: Write>(out: &mut W, layout: &Layout) -> io::Result<(
     ensures { OnOk result (Appends (W.contents out.old) (W.contents out.new) (tree_text layout.now)) }
 {
     let tree = Tree {
+        version: layout.version(),
         ports: layout.ports(),
         switches: layout.switches(),
         functions: layout.functions(),
@@ -81,7 +84,12 @@ fn write_bus<W: Write>(out: &mut W, tree: &Tree<'_>, bus: u8) -> io::Result<()>
     ensures { OnOk result (Appends (W.contents out.old) (W.contents out.new) (lines_on (parts_of tree.now) bus)) }
 {
     let depth = levels_above(tree.ports, bus) * 2;
-    write_port(out, depth, port_with_secondary(tree.ports, bus))?;
+    write_port(
+        out,
+        tree.version,
+        depth,
+        port_with_secondary(tree.ports, bus),
+    )?;
     write_switch(out, depth, switch_on(tree.switches, bus))?;
     write_function(out, depth, tree.ports, function_on(tree.functions, bus))?;
     Ok(())
@@ -126,15 +134,29 @@ fn vector_of(port: &DownstreamPort) -> u32
     }
 }
 
+/// What stands in place of E where it is clear: version 1 has no Egress Control.
+fn clear_egress(version: LayoutVersion) -> &'static str
+    ensures { result.now ≡ clear_egress_text version }
+{
+    match version {
+        LayoutVersion::One => "\n",
+        LayoutVersion::Two => ".\n",
+    }
+}
+
 /// Writes E and the vector where a port controls egress, and ends the line.
-fn write_egress<W: Write>(out: &mut W, port: &DownstreamPort) -> io::Result<()>
-    ensures { OnOk result (Appends (W.contents out.old) (W.contents out.new) (egress_text port.now)) }
+fn write_egress<W: Write>(
+    out: &mut W,
+    version: LayoutVersion,
+    port: &DownstreamPort,
+) -> io::Result<()>
+    ensures { OnOk result (Appends (W.contents out.old) (W.contents out.new) (egress_text version port.now)) }
 {
     if port.controls.controls_egress() {
         let vector = vector_of(port);
         writeln!(out, "E vector {vector:08x}")
     } else {
-        out.write_all(b"\n")
+        out.write_all(clear_egress(version).as_bytes())
     }
 }
 
@@ -154,22 +176,32 @@ fn write_window<W: Write>(out: &mut W, port: &DownstreamPort) -> io::Result<()>
     write!(out, " window {base:08x}-{limit:08x} controls ")
 }
 
-fn write_port_line<W: Write>(out: &mut W, depth: u8, port: &DownstreamPort) -> io::Result<()>
-    ensures { OnOk result (Appends (W.contents out.old) (W.contents out.new) (port_line depth port.now)) }
+fn write_port_line<W: Write>(
+    out: &mut W,
+    version: LayoutVersion,
+    depth: u8,
+    port: &DownstreamPort,
+) -> io::Result<()>
+    ensures { OnOk result (Appends (W.contents out.old) (W.contents out.new) (port_line version depth port.now)) }
 {
     write_indent(out, depth.saturating_sub(1))?;
     write_port_head(out, port)?;
     write_window(out, port)?;
     write_controls(out, port.controls)?;
-    write_egress(out, port)?;
+    write_egress(out, version, port)?;
     Ok(())
 }
 
-fn write_port<W: Write>(out: &mut W, depth: u8, port: Option<&DownstreamPort>) -> io::Result<()>
-    ensures { OnOk result (Appends (W.contents out.old) (W.contents out.new) (port_lines depth (option_copied port.entry))) }
+fn write_port<W: Write>(
+    out: &mut W,
+    version: LayoutVersion,
+    depth: u8,
+    port: Option<&DownstreamPort>,
+) -> io::Result<()>
+    ensures { OnOk result (Appends (W.contents out.old) (W.contents out.new) (port_lines version depth (option_copied port.entry))) }
 {
     match port {
-        Some(port) => write_port_line(out, depth, port),
+        Some(port) => write_port_line(out, version, depth, port),
         None => Ok(()),
     }
 }

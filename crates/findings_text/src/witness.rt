@@ -2,14 +2,21 @@
 
 ghost use Rattle.std.specs.Prelude.{◌≡◌, OnOk};
 ghost use Rattle.std.specs.Io.KnownBytes.{Appends};
-ghost use Rattle.findings_text.specs.Witnesses.{harm_text, head_text, script_text, submitter_text, witness_text};
+ghost use Rattle.attacks.specs.Packets.{own_read};
+ghost use Rattle.findings_text.specs.Witnesses.{closed_text, harm_text, head_text, own_text, read_text, script_text, submitter_text, sweeps_text, witness_text};
 ghost use Rattle.reports.specs.Report.{packet_text};
 
-use attacks::{Harm, Witness};
+use attacks::{Harm, OwnRead, Witness};
 use fab_types::Bdf;
 use std::alloc::Global;
 use std::io;
-use std::io::Write;
+use std::io::{ErrorKind, Write};
+
+fn write_closed<W: Write>(out: &mut W, function: Bdf) -> io::Result<()>
+    ensures { OnOk result (Appends (W.contents out.old) (W.contents out.new) (closed_text function)) }
+{
+    write!(out, "Tag of {function} closed by another's completion")
+}
 
 fn write_harm<W: Write>(out: &mut W, harm: &Harm) -> io::Result<()>
     ensures { OnOk result (Appends (W.contents out.old) (W.contents out.new) (harm_text harm.now)) }
@@ -19,6 +26,7 @@ fn write_harm<W: Write>(out: &mut W, harm: &Harm) -> io::Result<()>
         Harm::FrameRead(frame) => write!(out, "read of frame {frame}"),
         Harm::RegistersWritten(function) => write!(out, "write to registers of {function}"),
         Harm::RegistersRead(function) => write!(out, "read of registers of {function}"),
+        Harm::TagClosed(read) => write_closed(out, read.function),
         Harm::Completion => write!(out, "completion not asked for"),
         Harm::Counts => write!(out, "counts changed"),
     }
@@ -49,12 +57,42 @@ fn write_submitter<W: Write>(out: &mut W, function: Bdf) -> io::Result<()>
     write!(out, "submit {function} ")
 }
 
-/// Writes the script that shows a witness: its packet, and sweeps.
+fn write_sweeps<W: Write>(out: &mut W, sweeps: u32) -> io::Result<()>
+    ensures { OnOk result (Appends (W.contents out.old) (W.contents out.new) (sweeps_text sweeps)) }
+{
+    writeln!(out, "sweep {sweeps}")
+}
+
+/// Writes some sweeps, and the read that follows.
+fn write_read<W: Write>(alloc: Global, out: &mut W, read: &OwnRead) -> io::Result<()>
+    ensures { OnOk result (Appends (W.contents out.old) (W.contents out.new) (read_text read.now)) }
+{
+    let Ok(bytes) = read.bytes(alloc) else {
+        return Err(io::Error::from(ErrorKind::OutOfMemory));
+    };
+    write_sweeps(out, read.sweeps)?;
+    write_submitter(out, read.function)?;
+    write_packet(alloc, out, bytes.as_slice())?;
+    Ok(())
+}
+
+/// Writes the read of the harmed domain's own, if the witness has one.
+fn write_own<W: Write>(alloc: Global, out: &mut W, harm: &Harm) -> io::Result<()>
+    ensures { OnOk result (Appends (W.contents out.old) (W.contents out.new) (own_text (own_read harm.now))) }
+{
+    match harm.own_read() {
+        Some(read) => write_read(alloc, out, &read),
+        None => Ok(()),
+    }
+}
+
+/// Writes the script that shows a witness: its packet, a read of the harmed domain's own if it has one, and sweeps.
 pub fn write_script<W: Write>(alloc: Global, out: &mut W, witness: &Witness) -> io::Result<()>
     ensures { OnOk result (Appends (W.contents out.old) (W.contents out.new) (script_text witness.now)) }
 {
     write_submitter(out, witness.function)?;
     write_packet(alloc, out, witness.bytes.as_slice())?;
+    write_own(alloc, out, &witness.harm)?;
     out.write_all(b"sweep 1000\n")?;
     Ok(())
 }

@@ -53,7 +53,7 @@ pub fn ports_and_machines_test_alike()
     ensures translation { (port : DownstreamPort) (parties : Parties) (t : Packet) → is_completion t.kind ≡ false → ports.fails_translation port (packet_header parties t) ≡ fates.fails_translation port t }
 {}
 
-/// Each port that a bus is below has the owner of that bus (PCIe 4.0, 7.5.1.3).
+/// Each port above a bus has the owner of that bus (PCIe 4.0, 7.5.1.3).
 /// This is so in every layout, for all ports that hold the bus and not only for the first that is found.
 pub fn ports_share_the_owner_of_a_bus()
     ensures { (platform : Platform) (port : DownstreamPort) (bus : ℕ) → IsPlatform platform → port_at platform.ports port.id ≡ Some port → holds_bus port bus ≡ true

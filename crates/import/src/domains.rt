@@ -72,7 +72,7 @@ fn top_owner(owners: &[Owner], ports: &[DownstreamPort], port: Bdf, buses: &Brid
     }
 }
 
-/// The owner of a port: of one below another port that has the owner of that, or 0, which is no domain, without one.
+/// The owner of a port, or 0, which is no domain, without one. A port below another has the owner of that.
 pub fn owner_of(
     tree: &Tree,
     owners: &[Owner],

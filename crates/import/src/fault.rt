@@ -39,7 +39,7 @@ pub enum Reason {
     /// No port of the layout leads to it.
     #[error("no port of the layout leads to it")]
     Unreached,
-    /// It isn't function 0, or, of an endpoint or an upstream port, not of device 0.
+    /// It isn't function 0; or an endpoint or upstream port isn't of device 0.
     #[error("a layout has function 0 alone")]
     Function,
     /// Its buses have no room in a layout.
@@ -57,7 +57,7 @@ pub enum Reason {
     /// The port has a prefetchable window besides that for memory, which alone the layout has.
     #[error("its prefetchable window: a layout has one window of a port")]
     FurtherWindow,
-    /// The port has controls besides V, B, R, C and U, which alone the layout has.
+    /// The port has other controls than V, B, R, C and U.
     #[error("its controls besides V, B, R, C and U")]
     FurtherControls,
 }

@@ -63,7 +63,7 @@ fn imported(alloc: Global, source: &Source<'_>, text: &str) -> Result<Devices, N
     Ok(devices)
 }
 
-/// Makes a layout of the devices of a dump, whose text is there for their names: of what is below the root port of an ID,
+/// Makes a layout of the devices of a dump, whose text has their names. It is of what is below the root port of an ID,
 /// or below all root ports of bus 00. The owners are those of a list; a port of the top switch below which no device
 /// is in the list is a domain of its own.
 ///

@@ -118,7 +118,7 @@ impl<'a> Names<'a> {
         Some(first_line(rest))
     }
 
-    /// The name of the device that begins in this line: that line, or only where it is.
+    /// The name of the device that begins in this line. It is that line, or only where the device is.
     pub fn name_of(
         &mut self,
         alloc: Global,

@@ -59,7 +59,7 @@ impl LineReader for OwnerReader {
     }
 }
 
-/// Reads a list of owners: in each line an ID, a blank, and the number of a domain, 1 to 31.
+/// Reads a list of owners. Each line has an ID, a blank, and the number of a domain, 1 to 31.
 /// A line that begins with `#` is a comment.
 ///
 /// # Errors

@@ -16,8 +16,8 @@ fn is_page(window: &LowWindow, address: u64) -> bool
         && address + 4095 <= u64::from(window.limit)
 }
 
-/// The first page that is inside the window, of so many base address registers from this number on. Of one of 64 bits
-/// the next register has the upper half.
+/// The first page inside the window, of base address registers from this number on. So many are looked at, and of one
+/// of 64 bits the next register has the upper half.
 #[tactic(auto, using(crate::proofs::PageSteps::page_none, crate::proofs::PageSteps::page_step))]
 pub fn page_from(space: &ConfigSpace<'_>, window: &LowWindow, left: u16, number: u16) -> Option<u32>
     ensures { result ≡ page_from space.now.bytes.now window.now left number }

@@ -101,7 +101,7 @@ fn low_window(window: Option<Window>) -> Option<LowWindow>
     Some(LowWindow { base, limit })
 }
 
-/// The window of a bridge below 4 GB: that for memory, or, where it has none, the prefetchable one.
+/// The window of a bridge below 4 GB. It is that for memory, or, without one, the prefetchable one.
 pub fn port_window(space: &ConfigSpace<'_>) -> Option<LowWindow>
     ensures { result ≡ port_window space.now.bytes.now }
 {

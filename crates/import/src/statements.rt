@@ -118,7 +118,7 @@ fn function_line(
     Ok(LayoutLine::Function(FunctionText { id: place, bar }))
 }
 
-/// The line that a device has behind those that gave these ports, or why it has none.
+/// The line of a device behind those of these ports, or why it has none.
 #[tactic(auto, unfolding(crate::specs::Statements::statement_of))]
 pub fn statement_of(
     dump: &Dump,

@@ -151,7 +151,7 @@ fn root_at(dump: &Dump, id: Bdf) -> Option<Device>
     None
 }
 
-/// What is below the root port of this ID, or below all root ports of bus 00.
+/// What is below the root port of this ID, or below all of bus 00.
 ///
 /// # Errors
 /// `NotRoot` where no root port has the ID; `NoRoot` where none stands on bus 00.

@@ -12,7 +12,7 @@ use inputs::{Fault, FileGiver, text_of};
 use std::alloc::Global;
 use std::io::Write;
 
-/// Reads the dump of a file and a list of owners, and writes the layout of what is below this root port, or below all
+/// Writes the layout of the dump in a file, with a list of owners. It is of what is below this root port, or below all
 /// root ports of bus 00. It answers how many things the layout hasn't.
 ///
 /// # Errors

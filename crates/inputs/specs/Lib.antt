@@ -1,3 +1,4 @@
 pub mod Endings
+pub mod Files
 pub mod Inputs
 pub mod Refusals

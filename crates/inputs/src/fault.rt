@@ -5,8 +5,7 @@ ghost use Rattle.inputs.specs.Endings.{exit_code, status_of};
 
 use command_line::WordsFault;
 use fab_types::{
-    Bdf, LayoutCause, LayoutFault, NoMemory, ReplayFault, ScriptCause, ScriptFault, StartFault,
-    StopFault,
+    Bdf, LayoutCause, LayoutFault, NoMemory, ScriptCause, ScriptFault, StartFault, StopFault,
 };
 use journals::LineFault;
 use lspci::DumpFault;
@@ -26,7 +25,7 @@ pub enum ExitStatus {
     NoMemory,
     /// All is done, and a domain was seen to harm another: exit status 3.
     Harmed,
-    /// All is done, and the layout isn't guarded, but no harm was seen: exit status 4.
+    /// The layout isn't guarded, but no harm was seen: exit status 4.
     Unguarded,
 }
 
@@ -81,21 +80,21 @@ pub enum Fault<'a> {
     /// A list of owners names this device, which a dump hasn't.
     #[error("import: {id} has an owner, and there is no such device", id = Bdf::from_bits(*.id))]
     NoDevice { id: u16 },
-    /// Below one port of a layout's top switch these devices of a dump have different owners.
+    /// Below one port of the top switch these devices have different owners.
     #[error("import: {one} and {other} have different owners, and stand below one port", one = Bdf::from_bits(*.one), other = Bdf::from_bits(*.other))]
     TwoOwners { one: u16, other: u16 },
     /// No domain of this number owns a port.
     #[error("domain {number}: none")]
     NoDomain { number: u32 },
-    /// A journal has an entry that is illegal after those before it.
-    #[error("replay: illegal")]
-    IllegalReplay,
     /// The workers could not be started in threads, or one took no begin any more.
     #[error("threads: failed")]
     ThreadsFailed,
     /// Memory was refused.
     #[error("out of memory")]
     NoMemory,
+    /// A script cannot be written in the folder of this name.
+    #[error("folder {name}: unwritable")]
+    Folder { name: &'a str },
     /// Standard output takes no more.
     #[error("output: unwritable")]
     Unwritable,
@@ -132,17 +131,6 @@ impl Fault<'_> {
         match fault.cause {
             LayoutCause::NoMemory => Fault::NoMemory,
             _ => Fault::Layout(fault),
-        }
-    }
-
-    /// The fault of a replay.
-    pub fn of_replay(fault: ReplayFault) -> Self
-        ensures memory { fault ≡ ReplayFault.NoMemory → result ≡ Fault.NoMemory }
-        ensures illegal { fault ≢ ReplayFault.NoMemory → result ≡ Fault.IllegalReplay }
-    {
-        match fault {
-            ReplayFault::NoMemory => Fault::NoMemory,
-            ReplayFault::Illegal(_) => Fault::IllegalReplay,
         }
     }
 

@@ -9,7 +9,7 @@ mod starts;
 mod texts;
 
 pub use fault::{ExitStatus, Fault};
-pub use files::{FileFault, FileGiver};
+pub use files::{FileFault, FileGiver, FileTaker, WriteFault};
 pub use given::{Inputs, inputs_of};
 pub use starts::start_of;
 pub use texts::{journal_of, layout_of, script_of, text_of};

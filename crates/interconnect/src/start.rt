@@ -106,7 +106,10 @@ fn add_downstream(alloc: Global, layout: &Layout, ports: &mut Vec<Port>) -> Resu
     ensures { OnOk result (ports.new.items ≡ ports.old.items ++ map (λ port. idle_port (downstream_config layout.now port)) layout.now.ports) }
 {
     for line in layout.ports() {
-        ports.push(Port::downstream(alloc, layout, line)?)?;
+        let Some(port) = Port::downstream(alloc, layout, line)? else {
+            unreachable!();
+        };
+        ports.push(port)?;
     }
     Ok(())
 }

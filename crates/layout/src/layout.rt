@@ -56,7 +56,8 @@ impl Layout {
         }
     }
 
-    pub(crate) fn version(&self) -> LayoutVersion
+    /// The version that the first line says.
+    pub fn version(&self) -> LayoutVersion
         ensures { result ≡ self.now.version }
     {
         self.version

@@ -8,7 +8,7 @@ ghost use Rattle.layout_texts.specs.HasLines.{HasLines};
 ghost use Rattle.layout_texts.specs.Texts.{text_of};
 ghost use Rattle.platform.specs.Platform.{Platform};
 
-/// A law: the text of a platform that keeps the rules is read as that platform.
+/// A law: a platform that keeps the rules is read from its text.
 pub fn layouts_are_read_back()
     ensures { (platform : Platform) → IsPlatform platform → IsWellPlaced platform → HasLines platform → reading (text_of platform) ≡ Ok platform }
 {}

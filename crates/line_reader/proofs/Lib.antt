@@ -1,1 +1,2 @@
+pub mod LineFeeds
 pub mod ReadingLemmas

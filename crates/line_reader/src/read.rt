@@ -1,13 +1,37 @@
 //! Reading the lines of a text.
 
-ghost use Rattle.std.specs.Prelude.{◌≡◌, ◌<◌, ◌++◌, OnOk, option_to_list};
+ghost use Rattle.std.specs.Prelude.{◌≡◌, ◌<◌, ◌++◌, IfSome, OnOk, length, option_map, option_to_list};
+ghost use Rattle.std.specs.List.{position};
+ghost use Rattle.text.specs.Text.{cut, is_byte};
 ghost use Rattle.line_reader.specs.Answers.{IsItem};
 ghost use Rattle.line_reader.specs.Reading.{IsReading, adds, list_of, reading};
 
 use crate::reader::LineReader;
 use fab_types::{ScriptCause, ScriptFault};
+use memchr::memchr;
 use std::alloc::{AllocError, Global};
-use text::{cut, is_comment};
+use text::{Parts, is_comment};
+
+fn line_feed(text: &[u8]) -> Option<usize>
+    ensures place { result ≡ position (is_byte 10) text.now }
+    ensures within { IfSome result (λ at. at < length text.now) }
+{
+    memchr(b'\n', text)
+}
+
+/// Cuts a text behind its first line, if it has a line feed.
+fn first_line(text: &[u8]) -> Option<Parts<'_>>
+    ensures parts { option_map (λ parts. (parts.before.now, parts.after.now)) result ≡ cut 10 text.now }
+    ensures shorter { IfSome result (λ parts. length parts.after.now < length text.now) }
+{
+    match line_feed(text) {
+        Some(at) => Some(Parts {
+            before: &text[..at],
+            after: &text[at + 1..],
+        }),
+        None => None,
+    }
+}
 
 /// What one line adds: none that is behind the last, and a comment nothing.
 fn item_at<R: LineReader>(
@@ -57,7 +81,7 @@ pub fn read_lines<R: LineReader>(
     let mut items = Vec::new(alloc);
     let mut line: u32 = 1;
     let mut rest = text.as_bytes();
-    while let Some(parts) = cut(rest, b'\n') {
+    while let Some(parts) = first_line(rest) {
         let item = match item_at(alloc, last, reader, line, parts.before) {
             Ok(item) => item,
             Err(cause) => return Err(ScriptFault { cause, line }),

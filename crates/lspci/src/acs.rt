@@ -11,7 +11,7 @@ use crate::space::ConfigSpace;
 pub enum Acs {
     /// The function has no such capability.
     Absent,
-    /// They aren't shown: not even the first 256 bytes are, or of a PCI Express function no more than those.
+    /// They aren't shown. Not even the first 256 bytes are, or of a PCI Express function no more than those.
     Unknown,
     /// The capability register, and the control register behind it.
     Standard { capability: u16, control: u16 },

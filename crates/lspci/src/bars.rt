@@ -17,7 +17,7 @@ pub enum Bar {
 }
 
 impl ConfigSpace<'_> {
-    /// What the base address register of a number, 0 to 5, of an endpoint says, if it is shown.
+    /// What an endpoint's base address register says, if it is shown. Its number is 0 to 5.
     pub fn bar(&self, number: u16) -> Option<Bar>
         requires { number < 6 }
         ensures { result ≡ bar_at self.now.bytes.now number }

@@ -78,7 +78,7 @@ impl ConfigSpace<'_> {
         self.capability_from(id, left - 1, entry.next)
     }
 
-    /// The offset of the capability of this ID, if the list has one that is shown. At most 48 entries are looked at.
+    /// The offset of the capability of this ID, if one is shown. At most 48 entries of the list are looked at.
     pub fn capability(&self, id: u16) -> Option<u16>
         ensures { result ≡ capability_of self.now.bytes.now id }
     {
@@ -117,8 +117,7 @@ impl ConfigSpace<'_> {
         self.extended_from(id, left - 1, entry.next)
     }
 
-    /// The offset of the extended capability of this ID, if the list has one that is shown. At most 960 entries are
-    /// looked at.
+    /// The offset of the extended capability of this ID, if one is shown. At most 960 entries of the list are looked at.
     pub fn extended_capability(&self, id: u16) -> Option<u16>
         ensures { result ≡ extended_of self.now.bytes.now id }
     {

@@ -6,7 +6,7 @@ ghost use Rattle.lspci.specs.Lines.{byte_at, device_line, dump_line_of, location
 use fab_types::Bdf;
 use text::{at_blank, cut, hex_byte, hexadecimal, id};
 
-/// Where a device is: its PCI segment (which `lspci` calls a domain), and its ID there.
+/// Where a device is: its PCI segment, and its ID there. `lspci` calls a segment a domain.
 #[derive(Clone, Copy, Debug, PartialEq, Eq)]
 pub struct Location {
     /// The number of the PCI segment, mostly 0.

@@ -21,7 +21,7 @@ pub fn malformed_by_the_least_cause()
     ensures well { (bytes : List ℕ) → (malformed bytes ≡ None) ↔ ((cause : Malformed) → applies cause bytes ≡ false) }
 {}
 
-/// A byte of a memory write lies in a run exactly where it is enabled (PCIe 4.0, 2.2.5).
+/// A written byte lies in a run exactly where it is enabled (PCIe 4.0, 2.2.5).
 ///
 /// - `enabled`: that, of each byte of the payload; and beyond its end no run lies.
 /// - `bytes`: each run is the bytes of the payload that stand there.
@@ -31,7 +31,7 @@ pub fn runs_are_the_enabled_bytes()
     ensures bytes { (t : Packet) → AreOf t.payload (runs t) }
 {}
 
-/// Runs rise, none is empty, and between two of them a byte at least isn't enabled.
+/// Runs rise, none is empty, and between two a byte isn't enabled.
 pub fn runs_do_not_touch()
     ensures { (t : Packet) → AreApart (runs t) }
 {}

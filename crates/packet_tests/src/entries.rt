@@ -11,10 +11,7 @@ const WRITE: [u8; 16] = [
 fn head() -> Head {
     Head {
         parties: Parties::Upward(Bdf::from_bits(0x0300)),
-        cost: Cost {
-            class: Class::Posted,
-            data: 1,
-        },
+        cost: Cost::without_data(Class::Posted),
         header: Header::Malformed,
     }
 }

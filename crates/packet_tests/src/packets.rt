@@ -82,7 +82,7 @@ fn target(packet: &TlpView<'_>) -> (Option<u64>, Option<AddressType>, Option<Ena
     (packet.address(), packet.at(), packet.enables())
 }
 
-/// What a completion has: its status, its byte count and the low bits of the address.
+/// A completion's status, its byte count and the low bits of the address.
 pub fn result_of(packet: &TlpView<'_>) -> (Option<Status>, Option<u16>, Option<u8>) {
     (packet.status(), packet.byte_count(), packet.lower_address())
 }
@@ -106,7 +106,7 @@ fn a_write_gives_its_fields(rt: HostRuntime) -> Result<(), Fail> {
 /// The class of bytes and what their data cost.
 fn cost_of(bytes: &[u8]) -> (Class, u16) {
     let cost = cost(bytes);
-    (cost.class, cost.data)
+    (cost.class, cost.data.get())
 }
 
 #[test]

@@ -1,6 +1,6 @@
 //! What the program takes from its host: its words, standard output, and files.
 
-use program::{Fault, FileFault, FileGiver};
+use program::{Fault, FileFault, FileGiver, FileTaker, WriteFault};
 use std::io::{BufWriter, ErrorKind, Printer};
 use std::rt::{Env, Files};
 use std::{env, fs, io};
@@ -46,6 +46,21 @@ impl<R: Files + AllocGlobal> FileGiver for HostFiles<'_, R> {
             Ok(bytes) => Ok(bytes),
             Err(error) if error.kind() == ErrorKind::OutOfMemory => Err(FileFault::NoMemory),
             Err(_) => Err(FileFault::Unreadable),
+        }
+    }
+}
+
+impl<R: Files + AllocGlobal> FileTaker for HostFiles<'_, R> {
+    ghost use Rattle.std.specs.Prelude.{None};
+
+    // What the host then has is not known.
+    ghost written = { λ files. None };
+
+    fn write_file(&mut self, name: &str, bytes: &[u8]) -> Result<(), WriteFault> {
+        match fs::write(self.rt, name, bytes) {
+            Ok(()) => Ok(()),
+            Err(error) if error.kind() == ErrorKind::OutOfMemory => Err(WriteFault::NoMemory),
+            Err(_) => Err(WriteFault::Unwritable),
         }
     }
 }

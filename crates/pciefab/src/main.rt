@@ -10,12 +10,14 @@ use std::process::ExitCode;
 
 fn main(rt: HostRuntime) -> ExitCode {
     let mut err = rt.stderr();
+    let mut scripts = HostFiles::new(&rt);
     let status = match host::words_and_output(&rt) {
         Ok((words, mut out)) => command(
             &rt,
             rt.alloc(),
             words.as_slice(),
             &HostFiles::new(&rt),
+            &mut scripts,
             &mut out,
             &mut err,
         ),

@@ -1,3 +1,4 @@
 pub mod OneLane
+pub mod Own
 pub mod Stopping
 pub mod Wanting

@@ -31,8 +31,9 @@ exits_of platform bus = map (exit_of platform) (filter (is_on_bus bus) platform.
 abbrev pub is_of_port : ℕ → Exit → Bool
 is_of_port port exit = exit.port == port
 
-abbrev pub own_lane : List Exit → ℕ → ℕ
-own_lane exits id = option_map_or suc (position (is_of_port id) exits) 0
+-- the lane out of a downstream port itself, if its switch has the port
+abbrev pub own_lane : List Exit → ℕ → Option ℕ
+own_lane exits id = option_map suc (position (is_of_port id) exits)
 
 abbrev pub leads_to : ℕ → Exit → Bool
 leads_to port exit = is_of_port port exit && exit.leads_on
@@ -41,13 +42,16 @@ leads_to port exit = is_of_port port exit && exit.leads_on
 abbrev pub lane_to : List Exit → ℕ → Option ℕ
 lane_to exits port = option_map suc (position (leads_to port) exits)
 
+abbrev pub config_with : DownstreamPort → List Exit → ℕ → Config
+config_with line exits own = record { id = line.id; line = Some line; exits = exits; own = own }
+
+-- a downstream port, if its switch has it
+abbrev pub known_config : Platform → DownstreamPort → Option Config
+known_config platform line = let exits = exits_of platform (bus_of line.id) in option_map (config_with line exits) (own_lane exits line.id)
+
+-- a downstream port of the platform
 abbrev pub downstream_config : Platform → DownstreamPort → Config
-downstream_config platform line = let exits = exits_of platform (bus_of line.id) in record {
-  id = line.id;
-  line = Some line;
-  exits = exits;
-  own = own_lane exits line.id;
-}
+downstream_config platform line = let exits = exits_of platform (bus_of line.id) in config_with line exits (option_map_or suc (position (is_of_port line.id) exits) 0)
 
 abbrev pub upstream_config : Platform → Switch → Config
 upstream_config platform switch = record {

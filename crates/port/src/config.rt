@@ -75,14 +75,14 @@ fn find_leading(exits: &[Exit], port: PortId) -> Option<usize>
     exits.iter().position(|exit| exit.leads_to(port))
 }
 
-/// The lane out of a port of the switch itself.
-pub(crate) fn own_lane(exits: &[Exit], id: PortId) -> usize
+/// The lane out of a downstream port, if its switch has the port.
+pub(crate) fn own_lane(exits: &[Exit], id: PortId) -> Option<usize>
     ensures value { result ≡ own_lane exits.now id }
-    ensures within { result ≤ length exits.now }
+    ensures within { IfSome result (λ lane. lane ≤ length exits.now) }
 {
     match find_own(exits, id) {
-        Some(index) => index + 1,
-        None => 0,
+        Some(index) => Some(index + 1),
+        None => None,
     }
 }
 

@@ -1,8 +1,9 @@
 //! A port of a switch.
 
 ghost use Rattle.std.specs.Prelude.{◌≡◌, ◌+◌, ◌≤◌, IfOk, option_map, None, Some, [], length};
+ghost use Rattle.std.specs.List.{Contains};
 ghost use Rattle.std.specs.Option.{option_copied};
-ghost use Rattle.port.specs.Configs.{config_of, direction_in, downstream_config, upstream_config};
+ghost use Rattle.port.specs.Configs.{config_of, direction_in, downstream_config, known_config, upstream_config};
 
 use crate::config::{Exit, exits_of, own_lane, switch_at};
 use fab_types::{Direction, NoMemory, PortId, Violation, Way};
@@ -50,7 +51,7 @@ impl Port {
         ensures { IfOk result (λ port. port ≡ option_map (λ config. record { config = config; held = None; kept = None; strays = [] }) (config_of layout.now id)) }
     {
         if let Some(line) = port_at(layout.ports(), id.id()) {
-            return Ok(Some(Port::downstream(alloc, layout, &line)?));
+            return Port::downstream(alloc, layout, &line);
         }
         match switch_at(layout.switches(), id) {
             Some(switch) => Ok(Some(Port::upstream(alloc, layout, switch)?)),
@@ -66,17 +67,23 @@ impl Port {
         Ok(Port::of(alloc, PortId::new(switch.id), None, exits, 0))
     }
 
-    /// A downstream port of the layout. It answers `NoMemory` where memory was refused.
+    /// A downstream port of the layout. None where its switch has no such port, as none of the layout's own.
+    /// It answers `NoMemory` where memory was refused.
     pub fn downstream(
         alloc: Global,
         layout: &Layout,
         line: &DownstreamPort,
-    ) -> Result<Port, NoMemory>
-        ensures { IfOk result (λ port. port ≡ record { config = downstream_config layout.now line.now; held = None; kept = None; strays = [] }) }
+    ) -> Result<Option<Port>, NoMemory>
+        ensures exact { IfOk result (λ port. port ≡ option_map (λ config. record { config = config; held = None; kept = None; strays = [] }) (known_config layout.now line.now)) }
+
+        // Each port of the layout stands on its switch.
+        ensures listed { Contains layout.now.ports line.now → IfOk result (λ port. port ≡ Some (record { config = downstream_config layout.now line.now; held = None; kept = None; strays = [] })) }
     {
         let exits = exits_of(alloc, layout, u16::from(line.id.id().bus()))?;
-        let own = own_lane(&exits, line.id);
-        Ok(Port::of(alloc, line.id, Some(*line), exits, own))
+        match own_lane(&exits, line.id) {
+            Some(own) => Ok(Some(Port::of(alloc, line.id, Some(*line), exits, own))),
+            None => Ok(None),
+        }
     }
 
     fn of(

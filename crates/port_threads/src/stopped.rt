@@ -43,8 +43,7 @@ impl Stopped {
     ghost use Rattle.std.specs.List.{find};
     ghost use Rattle.port_threads.specs.Left.{frames_of};
 
-    /// What counts of the domain of this number: its packets and its begins, as they were when the fabric was stopped. None
-    /// where no domain of it has that number.
+    /// The counts of a domain's packets and begins at the stop. None where no domain has that number.
     pub fn totals(&self, number: DomainId) -> Option<Totals>
         ensures { result ≡ option_map (totals_of (frames_of self.now) self.now.remains.items) (find (λ d. d.share.domain == number) self.now.domains.items) }
     {

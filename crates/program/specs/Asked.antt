@@ -1,30 +1,32 @@
--- What each command prints, and the exit status that goes with it.
+-- What each command prints and writes, and the exit status that goes with it.
 use Rattle.std.specs.Prelude.{◌≡◌, ℕ, Bool, false, List, [], ◌∷◌, bytes_eq, codes}
 use Rattle.command_line.specs.CommandLine.{Asked, First, Run, Alone, Journal, Replay, Threads, Draw, Explain, Import}
 use Rattle.commands.specs.First.{Prints}
 use Rattle.commands.specs.Runs.{AlonePrints, JournalPrints, ReplayPrints, RunPrints}
 use Rattle.draw_command.specs.Drawn.{DrawPrints}
-use Rattle.explain_command.specs.Explained.{ExplainPrints}
+use Rattle.explain_command.specs.Explained.{Explains}
 use Rattle.import_command.specs.Printed.{ImportPrints}
+use Rattle.inputs.specs.Files.{File}
 use Rattle.inputs.specs.declared.fault.ExitStatus.{ExitStatus}
 use Rattle.inputs.specs.declared.fault.ExitStatus.TheVariants.{Done}
 use Rattle.threads_command.specs.Threads.{ThreadsPrints}
 
--- this is printed, and the status is 0
-abbrev pub IsDoneWith : ExitStatus → Type 0 → Type 0
-IsDoneWith status prints = (status ≡ Done) × prints
+-- this is printed, no file is written, and the status is 0
+abbrev pub IsDoneWith : ExitStatus → List File → Type 0 → Type 0
+IsDoneWith status written prints = (status ≡ Done) × (written ≡ []) × prints
 
--- what a command prints that was asked for, and how the program ends then, where files may have these bytes under these names
-abbrev pub AskedPrints : (List ℕ → List ℕ → Type 0) → Asked → ExitStatus → List ℕ → Type 0
-AskedPrints holds (First packet) status text = IsDoneWith status (Prints packet text)
-AskedPrints holds (Run layout script) status text = IsDoneWith status (RunPrints holds layout script text)
-AskedPrints holds (Alone layout script number) status text = IsDoneWith status (AlonePrints holds layout script number text)
-AskedPrints holds (Journal layout script number) status text = IsDoneWith status (JournalPrints holds layout script number text)
-AskedPrints holds (Replay layout journal number) status text = IsDoneWith status (ReplayPrints holds layout journal number text)
-AskedPrints holds (Threads layout script turns) status text = IsDoneWith status (ThreadsPrints holds layout script text)
-AskedPrints holds (Draw layout) status text = IsDoneWith status (DrawPrints holds layout text)
-AskedPrints holds (Explain layout) status text = ExplainPrints holds layout status text
-AskedPrints holds (Import dump owners root) status text = IsDoneWith status ((count : ℕ) × ImportPrints holds dump owners root count text)
+-- what a command prints that was asked for, which files it writes, and how the program ends then, where files may have these bytes
+-- under these names
+abbrev pub AskedDoes : (List ℕ → List ℕ → Type 0) → Asked → ExitStatus → List ℕ → List File → Type 0
+AskedDoes holds (First packet) status text written = IsDoneWith status written (Prints packet text)
+AskedDoes holds (Run layout script) status text written = IsDoneWith status written (RunPrints holds layout script text)
+AskedDoes holds (Alone layout script number) status text written = IsDoneWith status written (AlonePrints holds layout script number text)
+AskedDoes holds (Journal layout script number) status text written = IsDoneWith status written (JournalPrints holds layout script number text)
+AskedDoes holds (Replay layout journal number) status text written = IsDoneWith status written (ReplayPrints holds layout journal number text)
+AskedDoes holds (Threads layout script turns) status text written = IsDoneWith status written (ThreadsPrints holds layout script text)
+AskedDoes holds (Draw layout) status text written = IsDoneWith status written (DrawPrints holds layout text)
+AskedDoes holds (Explain layout folder groups) status text written = Explains holds layout folder groups status text written
+AskedDoes holds (Import dump owners root) status text written = IsDoneWith status written ((count : ℕ) × ImportPrints holds dump owners root count text)
 
 -- the first word is `import`
 abbrev pub begins_with_import : List (List ℕ) → Bool

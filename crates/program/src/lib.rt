@@ -3,5 +3,5 @@
 
 mod program;
 
-pub use inputs::{ExitStatus, Fault, FileFault, FileGiver};
+pub use inputs::{ExitStatus, Fault, FileFault, FileGiver, FileTaker, WriteFault};
 pub use program::{command, stopped};

@@ -2,9 +2,9 @@
 
 ghost use Rattle.std.specs.Prelude.{◌≡◌, IfOk, MatchResult, Err, Ok, false, map, true};
 ghost use Rattle.command_line.specs.CommandLine.{Ask, Asked, IsAsked};
-ghost use Rattle.reports.specs.Writing.{Wrote};
 ghost use Rattle.inputs.specs.Endings.{is_done, status_of};
-ghost use Rattle.program.specs.Asked.{AskedPrints, begins_with_import};
+ghost use Rattle.inputs.specs.Files.{WroteBoth};
+ghost use Rattle.program.specs.Asked.{AskedDoes, begins_with_import};
 
 use command_line::Request;
 use commands::first::first;
@@ -13,7 +13,7 @@ use commands::run::{alone, journal, run};
 use draw_command::draw;
 use explain_command::explain;
 use import_command::import_layout;
-use inputs::{ExitStatus, Fault, FileGiver};
+use inputs::{ExitStatus, Fault, FileGiver, FileTaker};
 use std::alloc::Global;
 use std::convert::AsStr;
 use std::io::Write;
@@ -24,25 +24,26 @@ use threads_command::threads;
 
 /// Carries out the command that the words are, without the program's name. What it prints goes to
 /// `out`, and where it stops before its work is done, one line of why goes to `err`. The files are those that
-/// the words name. Where the words ask for a command and it is done, it has written what that prints, and the status is
-/// that of what was printed; and where they begin with `import`, one line goes to `err` on how much a layout hasn't of the
-/// machine, if there is anything.
+/// the words name; scripts go to `scripts`. Where the words ask for a command and it is done, it has written what that prints,
+/// and the status is that of what was printed; and where they begin with `import`, one line goes to `err` on how much a layout
+/// hasn't of the machine, if there is anything.
 #[tactic(auto, using(crate::proofs::Endings::not_done))]
-pub fn command<R, S: AsStr, F: FileGiver, O: Write, E: Write>(
+pub fn command<R, S: AsStr, F: FileGiver, T: FileTaker, O: Write, E: Write>(
     rt: &R,
     alloc: Global,
     words: &[S],
     files: &F,
+    scripts: &mut T,
     out: &mut O,
     err: &mut E,
 ) -> ExitStatus
 where
     R: Threads + Wait + Clock + Copy + Send + Sync + Drop + 'static,
-    ensures asked { (asked : Asked) → Ask (map S.text words.now) asked → is_done result ≡ true → Wrote (O.contents out.old) (O.contents out.new) (AskedPrints (F.holds files.now) asked result) }
+    ensures asked { (asked : Asked) → Ask (map S.text words.now) asked → is_done result ≡ true → WroteBoth (O.contents out.old) (O.contents out.new) (T.written scripts.old) (T.written scripts.new) (AskedDoes (F.holds files.now) asked result) }
     ensures silent { is_done result ≡ true → begins_with_import (map S.text words.now) ≡ false → err.new ≡ err.old }
 {
     let mut left_out = 0usize;
-    match carried_out(rt, alloc, words, files, out, &mut left_out) {
+    match carried_out(rt, alloc, words, files, scripts, out, &mut left_out) {
         Ok(status) => {
             if begins_with_import(words) {
                 tell_left_out(left_out, err);
@@ -72,20 +73,21 @@ fn tell_left_out<E: Write>(count: usize, err: &mut E) {
     }
 }
 
-fn carried_out<'a, R, S: AsStr, F: FileGiver, O: Write>(
+fn carried_out<'a, R, S: AsStr, F: FileGiver, T: FileTaker, O: Write>(
     rt: &R,
     alloc: Global,
     words: &'a [S],
     files: &F,
+    scripts: &mut T,
     out: &mut O,
     left_out: &mut usize,
 ) -> Result<ExitStatus, Fault<'a>>
 where
     R: Threads + Wait + Clock + Copy + Send + Sync + Drop + 'static,
-    ensures { (asked : Asked) → Ask (map S.text words.entry.now) asked → IfOk result (λ status. Wrote (O.contents out.old) (O.contents out.new) (AskedPrints (F.holds files.now) asked status)) }
+    ensures { (asked : Asked) → Ask (map S.text words.entry.now) asked → IfOk result (λ status. WroteBoth (O.contents out.old) (O.contents out.new) (T.written scripts.old) (T.written scripts.new) (AskedDoes (F.holds files.now) asked status)) }
 {
     let request = command_line::read_request(alloc, words)?;
-    let status = perform(rt, alloc, request, files, out, left_out)?;
+    let status = perform(rt, alloc, request, files, scripts, out, left_out)?;
     out.flush()?;
     Ok(status)
 }
@@ -100,17 +102,18 @@ fn done(ended: Result<(), Fault<'_>>) -> Result<ExitStatus, Fault<'_>>
     }
 }
 
-fn perform<'a, R, F: FileGiver, O: Write>(
+fn perform<'a, R, F: FileGiver, T: FileTaker, O: Write>(
     rt: &R,
     alloc: Global,
     request: Request<'a>,
     files: &F,
+    scripts: &mut T,
     out: &mut O,
     left_out: &mut usize,
 ) -> Result<ExitStatus, Fault<'a>>
 where
     R: Threads + Wait + Clock + Copy + Send + Sync + Drop + 'static,
-    ensures { (asked : Asked) → IsAsked request.entry asked → IfOk result (λ status. Wrote (O.contents out.old) (O.contents out.new) (AskedPrints (F.holds files.now) asked status)) }
+    ensures { (asked : Asked) → IsAsked request.entry asked → IfOk result (λ status. WroteBoth (O.contents out.old) (O.contents out.new) (T.written scripts.old) (T.written scripts.new) (AskedDoes (F.holds files.now) asked status)) }
 {
     match request {
         Request::Help(help) => {
@@ -137,7 +140,7 @@ where
             turns,
         } => done(threads(rt, alloc, files, names, turns, out)),
         Request::Draw { layout } => done(draw(alloc, files, layout, out)),
-        Request::Explain { layout } => explain(rt, alloc, files, layout, out),
+        Request::Explain { asked } => explain(rt, alloc, files, asked, scripts, out),
         Request::Import { dump, owners, root } => {
             *left_out = import_layout(alloc, files, dump, owners, root, out)?;
             Ok(ExitStatus::Done)

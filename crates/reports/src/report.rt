@@ -79,7 +79,7 @@ pub fn write_counts<W: Write>(out: &mut W, domain: &Domain) -> io::Result<()>
     writeln!(out, " open {open}")
 }
 
-/// Writes what a domain holds: its memory, its register pages, and the completions that it got.
+/// Writes what a domain holds: its memory, register pages, and completions.
 pub fn write_holding<W: Write>(alloc: Global, out: &mut W, domain: &Domain) -> io::Result<()>
     ensures { OnOk result (Wrote (W.contents out.old) (W.contents out.new) (IsHolding domain.now)) }
 {

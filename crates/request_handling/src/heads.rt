@@ -57,10 +57,7 @@ fn malformed_head(parties: Parties) -> Head
 {
     Head {
         parties,
-        cost: Cost {
-            class: Class::Posted,
-            data: 0,
-        },
+        cost: Cost::without_data(Class::Posted),
         header: Header::Malformed,
     }
 }

@@ -98,7 +98,7 @@ fn access_text(alloc: Global, fields: &AccessFields<'_>) -> Result<HostAccess, S
     })
 }
 
-/// What a host asks of a register page: `read ID OFF DWS`, or `write ID OFF HEX`.
+/// What a host asks of a register page. The text is `read ID OFF DWS` or `write ID OFF HEX`.
 ///
 /// # Errors
 ///

@@ -1,13 +1,14 @@
 //! The words by which a script names bytes.
 
-ghost use Rattle.std.specs.Prelude.{◌≡◌};
+ghost use Rattle.std.specs.Prelude.{◌≡◌, ◌<◌, ◌+◌, ◌*◌, ◌%◌, IfOk, None, Some, if◌then◌else◌, length, option_map, true};
 ghost use Rattle.std.specs.List.{list_all};
+ghost use Rattle.std.specs.Result.{result_ok};
+ghost use Rattle.hex.specs.Hex.{decode_of, hex_digit_value};
 ghost use Rattle.script.specs.PacketWord.{is_lower_digit, is_hexadecimal, packet_bytes};
 ghost use Rattle.line_reader.specs.Answers.{IsRead};
 
 use fab_types::{PacketBytes, ScriptCause};
-use hex::FromHexError;
-use std::alloc::Global;
+use std::alloc::{AllocError, Global};
 use text::is_keyword;
 
 fn is_lower_digit(byte: u8) -> bool
@@ -29,6 +30,34 @@ fn is_hexadecimal(text: &[u8]) -> bool
     !text.is_empty() && text.len() % 2 == 0 && has_lower_digits(text)
 }
 
+/// The value of a digit in lower case: `0` to `9` are 30h to 39h, and `a` to `f` are 61h to 66h.
+fn digit_value(byte: u8) -> u8
+    ensures value { is_lower_digit byte ≡ true → hex_digit_value byte ≡ Some result }
+    ensures small { result < 16 }
+{
+    (byte % 16 + byte / 64 * 9) % 16
+}
+
+/// The bytes of digits in lower case, pair by pair. None where one is no such digit, which is asked once, behind the last:
+/// so no digit waits for the test of another.
+fn decoded(alloc: Global, word: &[u8]) -> Result<Option<Vec<u8>>, AllocError>
+    requires { length word.now % 2 ≡ 0 }
+    ensures { IfOk result (λ decoded. option_map (λ bytes. bytes.items) decoded ≡ (if list_all is_lower_digit word.now then result_ok (decode_of word.now) else None)) }
+{
+    let mut bytes = Vec::with_capacity(alloc, word.len() / 2)?;
+    let mut are_digits = true;
+    for place in 0..word.len() / 2 {
+        let (high, low) = (word[2 * place], word[2 * place + 1]);
+        are_digits &= is_lower_digit(high) & is_lower_digit(low);
+        bytes.push_reserved(digit_value(high) * 16 + digit_value(low));
+    }
+    if are_digits {
+        Ok(Some(bytes))
+    } else {
+        Ok(None)
+    }
+}
+
 /// The bytes that a word stands for: none at `-`, else those of its digits. There is no limit to
 /// how many.
 ///
@@ -42,12 +71,13 @@ pub fn packet_bytes(alloc: Global, word: &[u8]) -> Result<PacketBytes, ScriptCau
     if is_keyword(word, "-") {
         return Ok(PacketBytes::from_vec(Vec::new(alloc)));
     }
-    if !is_hexadecimal(word) {
+    if word.is_empty() || word.len() % 2 != 0 {
         return Err(ScriptCause::Line);
     }
-    match hex::decode(alloc, word) {
-        Ok(bytes) => Ok(PacketBytes::from_vec(bytes)),
-        Err(FromHexError::OutOfMemory) => Err(ScriptCause::NoMemory),
-        Err(_) => unreachable!(),
+    match decoded(alloc, word) {
+        Ok(Some(bytes)) => Ok(PacketBytes::from_vec(bytes)),
+        Err(_) if is_hexadecimal(word) => Err(ScriptCause::NoMemory),
+        // Want of memory never stands for a fault.
+        Ok(None) | Err(_) => Err(ScriptCause::Line),
     }
 }

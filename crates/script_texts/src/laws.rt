@@ -15,7 +15,7 @@ pub fn commands_are_read_back()
     ensures { (command : Command) → IsInRange command → command_of (command_text command) ≡ Some command }
 {}
 
-/// A law: the text of any commands, of 65,536 lines at most, is read as those commands.
+/// A law: commands, at most 65,536 of them, are read from their text.
 pub fn scripts_are_read_back()
     ensures { (commands : List Command) → All IsInRange commands → length commands ≤ 65536 → reading (script_text commands) ≡ Ok (numbered 1 commands) }
 {}
@@ -25,12 +25,12 @@ pub fn commands_are_in_range()
     ensures { (text : List ℕ) (command : Command) → command_of text ≡ Some command → IsInRange command }
 {}
 
-/// A law: the commands of a script that is read are in range, and 65,536 at most.
+/// A law: a script that is read has commands in range, at most 65,536.
 pub fn scripts_are_in_range()
     ensures { (text : List ℕ) (script : List Line) → reading text ≡ Ok script → All IsInRange (commands_of script) × (length script ≤ 65536) }
 {}
 
-/// A law: the commands of every script that is read are read from their own text too.
+/// A law: whatever script is read, its commands are read from their text too.
 pub fn each_script_has_a_text()
     ensures { (text : List ℕ) (script : List Line) → reading text ≡ Ok script → reading (script_text (commands_of script)) ≡ Ok (numbered 1 (commands_of script)) }
 {}

@@ -1,4 +1,5 @@
 pub mod Cutting
+pub mod CutVisits
 pub mod Events
 pub mod Running
 pub mod Settling

@@ -202,7 +202,7 @@ module _ (w v : World) (stop other : Stop) (place : ℕ) (moves : Moves) (visit 
 
 -- ---- where nothing moved
 
-others_split : (s : Station) → receiving_at s ++ telling_at s ≡ others_at s
+pub others_split : (s : Station) → receiving_at s ++ telling_at s ≡ others_at s
 others_split (station.FunctionOutbox function) = refl
 others_split (station.HostOutbox domain) = refl
 others_split (station.Port port) = refl

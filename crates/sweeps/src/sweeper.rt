@@ -1,6 +1,6 @@
 //! Sweeps of a fabric that pass over the stations at which nothing can move.
 
-ghost use Rattle.std.specs.Prelude.{◌≡◌, ◌≢◌, All, IfOk, OnOk, Some, length, map, slice_get, true};
+ghost use Rattle.std.specs.Prelude.{◌≡◌, ◌≢◌, All, IfOk, OnErr, OnOk, Some, length, map, slice_get, true};
 ghost use Rattle.std.specs.List.{flat_map};
 ghost use Rattle.fab_types.specs.declared.outcome.Outcome.TheVariants.{Idle};
 ghost use Rattle.fabric_core.specs.Events.{StepsTo, is_begin};
@@ -9,7 +9,7 @@ ghost use Rattle.fabric_core.specs.Still.{Concludes, NeverBlocks};
 ghost use Rattle.fabric_core.specs.TakenOut.{NoneCanTell};
 ghost use Rattle.fabric_core.specs.World.{is_guarded, world_of};
 ghost use Rattle.sweeps.specs.Asleep.{AreAsleep, AreWithin, station_of};
-ghost use Rattle.sweeps.specs.Sweeps.{IsSweep, Sweeps, SweepsUpTo};
+ghost use Rattle.sweeps.specs.Sweeps.{CutShort, IsSweep, Sweeps, SweepsCutShort, SweepsUpTo};
 
 use crate::awake::Awake;
 use crate::order::stations;
@@ -58,6 +58,7 @@ fn visit_awake<R: Wait>(
     requires within { All (AreWithin (length stops.now)) stops.now }
     requires asleep { AreAsleep stops.now fabric.old awake.old }
     ensures made { IfOk result (λ moved. Sweeps (events_at stop.now.station) fabric.old moved fabric.new) }
+    ensures cut_short { OnErr result (CutShort (events_at stop.now.station) fabric.old fabric.new) }
     ensures asleep { AreAsleep stops.now fabric.new awake.new }
 {
     if !awake.flags[place] {
@@ -77,6 +78,7 @@ fn sweep<R: Wait>(
     requires within { All (AreWithin (length stops.now)) stops.now }
     requires asleep { AreAsleep stops.now fabric.old awake.old }
     ensures made { IfOk result (λ moved. Sweeps (flat_map events_at (map station_of stops.now)) fabric.old moved fabric.new) }
+    ensures cut_short { OnErr result (CutShort (flat_map events_at (map station_of stops.now)) fabric.old fabric.new) }
     ensures asleep { AreAsleep stops.now fabric.new awake.new }
 {
     let mut moved = false;
@@ -98,6 +100,7 @@ fn sweep_up_to<R: Wait>(
     requires within { All (AreWithin (length stops.now)) stops.now }
     requires asleep { AreAsleep stops.now fabric.old awake.old }
     ensures made { OnOk result (SweepsUpTo (flat_map events_at (map station_of stops.now)) most fabric.old fabric.new) }
+    ensures cut_short { OnErr result (SweepsCutShort (flat_map events_at (map station_of stops.now)) most fabric.old fabric.new) }
     ensures asleep { AreAsleep stops.now fabric.new awake.new }
 {
     for _ in 0..most {
@@ -158,18 +161,22 @@ impl Sweeper {
         outcome
     }
 
-    /// Makes one sweep. Did any of its events move something?
+    /// Makes one sweep. Did any of its events move something? It answers `NoMemory` at the first event that was refused
+    /// memory: those before it were made, and it and those behind it were not.
     pub fn sweep<R: Wait>(&mut self, rt: &R) -> Result<bool, NoMemory>
         ensures made { IfOk result (λ moved. Sweeps (flat_map events_at self.old.stations) self.old.world moved self.new.world) }
+        ensures cut_short { OnErr result (CutShort (flat_map events_at self.old.stations) self.old.world self.new.world) }
         ensures stations { self.new.stations ≡ self.old.stations }
     {
         sweep(rt, &mut self.fabric, &self.stops, &mut self.awake)
     }
 
     /// Makes so many sweeps, or fewer.
-    /// The last one is the first in which nothing moves.
+    /// The last one is the first in which nothing moves. It answers `NoMemory` at the first event that was refused memory,
+    /// as `sweep` does.
     pub fn sweeps<R: Wait>(&mut self, rt: &R, most: u32) -> Result<(), NoMemory>
         ensures made { OnOk result (SweepsUpTo (flat_map events_at self.old.stations) most self.old.world self.new.world) }
+        ensures cut_short { OnErr result (SweepsCutShort (flat_map events_at self.old.stations) most self.old.world self.new.world) }
         ensures stations { self.new.stations ≡ self.old.stations }
     {
         sweep_up_to(rt, &mut self.fabric, &self.stops, most, &mut self.awake)

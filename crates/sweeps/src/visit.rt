@@ -1,9 +1,9 @@
 //! Visits of stations that are awake.
 
-ghost use Rattle.std.specs.Prelude.{◌≡◌, All, IfOk, Some, length, slice_get};
+ghost use Rattle.std.specs.Prelude.{◌≡◌, All, IfOk, OnErr, Some, length, slice_get};
 ghost use Rattle.fabric_core.specs.Stations.{events_at};
 ghost use Rattle.sweeps.specs.Asleep.{AreAsleep, AreWithin, IsVisit, receiving_at, telling_at};
-ghost use Rattle.sweeps.specs.Sweeps.{Sweeps};
+ghost use Rattle.sweeps.specs.Sweeps.{CutShort, Sweeps};
 
 use crate::awake::Awake;
 use crate::moves::Moves;
@@ -15,7 +15,8 @@ use std::sync::Wait;
 
 /// On a direction of a link the receiver gets the oldest packet of the wire.
 fn receive<R: Wait>(rt: &R, fabric: &mut Fabric, station: &Station) -> Result<bool, NoMemory>
-    ensures { IfOk result (λ received. Sweeps (receiving_at station.now) fabric.old received fabric.new) }
+    ensures made { IfOk result (λ received. Sweeps (receiving_at station.now) fabric.old received fabric.new) }
+    ensures cut_short { OnErr result (CutShort (receiving_at station.now) fabric.old fabric.new) }
 {
     match station {
         Station::Link(direction) => make_taking(rt, fabric, &Event::Take(*direction)),
@@ -29,7 +30,8 @@ fn receive<R: Wait>(rt: &R, fabric: &mut Fabric, station: &Station) -> Result<bo
 
 /// And its sender is told credits.
 fn tell<R: Wait>(rt: &R, fabric: &mut Fabric, station: &Station) -> Result<bool, NoMemory>
-    ensures { IfOk result (λ told. Sweeps (telling_at station.now) fabric.old told fabric.new) }
+    ensures made { IfOk result (λ told. Sweeps (telling_at station.now) fabric.old told fabric.new) }
+    ensures cut_short { OnErr result (CutShort (telling_at station.now) fabric.old fabric.new) }
 {
     match station {
         Station::Link(direction) => make(rt, fabric, &Event::Credit(*direction)),
@@ -43,7 +45,8 @@ fn tell<R: Wait>(rt: &R, fabric: &mut Fabric, station: &Station) -> Result<bool,
 
 /// Makes the events of a station in turn. What moved? Where the station is quiet nothing would, and none is tried.
 fn make_all<R: Wait>(rt: &R, fabric: &mut Fabric, station: &Station) -> Result<Moves, NoMemory>
-    ensures { IfOk result (λ moves. IsVisit station.now fabric.old moves fabric.new) }
+    ensures made { IfOk result (λ moves. IsVisit station.now fabric.old moves fabric.new) }
+    ensures cut_short { OnErr result (CutShort (events_at station.now) fabric.old fabric.new) }
 {
     if fabric.is_quiet(station) {
         return Ok(Moves::NONE);
@@ -72,6 +75,7 @@ pub(crate) fn visit<R: Wait>(
     requires within { All (AreWithin (length stops.now)) stops.now }
     requires asleep { AreAsleep stops.now fabric.old awake.old }
     ensures made { IfOk result (λ moved. Sweeps (events_at stop.now.station) fabric.old moved fabric.new) }
+    ensures cut_short { OnErr result (CutShort (events_at stop.now.station) fabric.old fabric.new) }
     ensures asleep { AreAsleep stops.now fabric.new awake.new }
 {
     match make_all(rt, fabric, &stop.station) {

@@ -22,10 +22,7 @@ const WIRES: [Wire; 1] = [Wire {
 fn packet<R: Wait>(rt: &R, bridge: &Bridge, log: &Log, number: u64) -> Option<VettedFrame> {
     let head = Head {
         parties: Parties::Upward(Bdf::from_bits(0x0300)),
-        cost: Cost {
-            class: Class::Posted,
-            data: 1,
-        },
+        cost: Cost::of_payload(Class::Posted, 4)?,
         header: Header::Malformed,
     };
     let domain = DomainId::new(1)?;

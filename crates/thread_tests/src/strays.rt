@@ -29,10 +29,7 @@ fn packet<R: Wait>(rt: &R, log: &Log) -> Option<Frame>
 {
     let head = Head {
         parties: Parties::Upward(Bdf::from_bits(0x0300)),
-        cost: Cost {
-            class: Class::Posted,
-            data: 1,
-        },
+        cost: Cost::of_payload(Class::Posted, 4)?,
         header: Header::Malformed,
     };
     let (frame, token) = log.emit(rt, DomainId::new(1)?, 0, head, &[0x40]).ok()?;

@@ -250,10 +250,10 @@ impl<'a> TlpView<'a> {
     pub fn cost(&self) -> Cost
         ensures { result ≡ packet_cost self.now }
     {
-        Cost {
-            class: self.kind.class(),
-            data: (self.payload().len() + 15) as u16 / 16,
-        }
+        let Some(cost) = Cost::of_payload(self.kind.class(), self.payload().len()) else {
+            unreachable!();
+        };
+        cost
     }
 
     /// The payload before DW `n` and from it on. None where the payload has fewer DWs.
@@ -289,9 +289,6 @@ pub fn cost(bytes: &[u8]) -> Cost
 {
     match TlpView::read(bytes) {
         Ok(packet) => packet.cost(),
-        Err(_) => Cost {
-            class: Class::Posted,
-            data: 0,
-        },
+        Err(_) => Cost::without_data(Class::Posted),
     }
 }

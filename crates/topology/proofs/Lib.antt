@@ -3,6 +3,7 @@ pub mod Buses
 pub mod Ends
 pub mod Found
 pub mod Indexed
+pub mod Known
 pub mod Outputs
 pub mod Members
 pub mod OwnEnds

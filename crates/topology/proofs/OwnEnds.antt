@@ -1,6 +1,6 @@
 -- No two directions of a platform's links are sent from one end.
-use Rattle.std.proofs.Common.{◌≡◌, ℕ, suc, ◌+◌, ◌<◌, ◌==◌, ◌⊎◌, inl, inr, Bool, true, false, length, get_or, Option, Some, None, refl, sym, ap, ◌∙◌, arith, subst, eqb-true, eq-eqb}
-use Rattle.std.specs.Prelude.{◌||◌, not, Contains}
+use Rattle.std.proofs.Common.{◌≡◌, ℕ, suc, ◌+◌, ◌<◌, ◌==◌, ◌⊎◌, inl, inr, true, length, get_or, Option, Some, None, refl, sym, ap, ◌∙◌, arith, subst, eqb-true, eq-eqb}
+use Rattle.std.specs.Prelude.{not, Contains}
 use Rattle.std.specs.List.{position}
 use Rattle.std.specs.Option.{option_map, option_map_or}
 use Rattle.std.proofs.lemmas.Option.{same_Some}
@@ -11,18 +11,16 @@ use Rattle.fab_types.specs.declared.place.Way.{Way}
 use Rattle.fab_types.specs.declared.place.Way.TheVariants.{Up, Down}
 use Rattle.platform.specs.declared.parts.DownstreamPort.{DownstreamPort}
 use Rattle.layout.specs.Laws.{IsPlatform, are_apart}
-use Rattle.platform.specs.Owners.{is_function}
 use Rattle.platform.specs.Platform.{Platform}
-use Rattle.platform.specs.Tree.{is_on_bus}
-use Rattle.platform.specs.Tree.{id_below, internal_bus, is_switch, is_taken}
+use Rattle.platform.specs.Tree.{id_below, internal_bus, is_taken}
 use Rattle.layout.proofs.Bools.{and-first}
 use Rattle.topology.specs.declared.links.Link.{Link}
 use Rattle.topology.specs.declared.nodes.LinkEnd.{LinkEnd}
 use Rattle.topology.specs.Links.{link_at, links_of, sender_of, sending_end}
 use Rattle.topology.specs.Nodes.{downstream_end, end_of_port, function_end, ports_on, root_end, upstream_end, upstream_end_at}
-use Rattle.topology.proofs.Buses.{port_stands}
 use Rattle.topology.proofs.Ends.{no_function, no_switch, switch_found}
-use Rattle.topology.proofs.Members.{any_found, found, kept, paired, some_passes}
+use Rattle.topology.proofs.Known.{id_known, place_known, switch_known}
+use Rattle.topology.proofs.Members.{found, paired}
 use Rattle.topology.proofs.Standing.{IsLinkOf, IsSentDown, link_is}
 
 -- ---- up
@@ -41,18 +39,12 @@ pub record IsUpFromFunction (platform : Platform) (id place : ℕ) (end : LinkEn
 abbrev pub IsSentUp : Platform → ℕ → LinkEnd → Type 0
 IsSentUp platform id end = ((place : ℕ) × IsUpFromSwitch platform id place end) ⊎ ((place : ℕ) × IsUpFromFunction platform id place end)
 
-neither : (switch function : Bool) → (switch || function) ≡ true → (switch ≡ true → ⊥) → (function ≡ true → ⊥) → ⊥
-neither true function h s f = s refl
-neither false function h s f = f h
-
 pub sent_up : (platform : Platform) (id : ℕ) → is_taken platform.switches platform.functions id ≡ true → IsSentUp platform id (upstream_end platform id)
 sent_up platform id taken = go (position (λ switch. switch.id == id) platform.switches) refl
   where
     of_function : (place : Option ℕ) → place ≡ position (λ function. function.id == id) platform.functions → position (λ switch. switch.id == id) platform.switches ≡ None
         → IsSentUp platform id (function_end (length platform.switches) place)
-    of_function None e none = absurd (neither (is_switch platform.switches id) (is_function platform.functions id) taken
-        (λ s. any_found (λ switch. switch.id == id) platform.switches s none)
-        (λ f. any_found (λ function. function.id == id) platform.functions f (sym e)))
+    of_function None e none = absurd (id_known platform id taken none (sym e))
     of_function (Some place) e none =
         let facts = position-Some (λ function. function.id == id) platform.functions place no_function (sym e) in
         inr (place, record { within = facts.0; named = eqb-true _ _ facts.1; same = refl })
@@ -96,9 +88,7 @@ module _ (platform : Platform) (laws : IsPlatform platform) where
     where
       on_output : (place : ℕ) (output : Option ℕ) → position (λ switch. internal_bus switch == bus_of port.id) platform.switches ≡ Some place → output ≡ position (λ other. other.id == port.id) (ports_on platform.ports (bus_of port.id))
           → (place : ℕ) × (output : ℕ) × IsOutputDown platform port place output
-      on_output place None at e =
-          let listed = kept (is_on_bus (bus_of port.id)) platform.ports port within (eq-eqb (bus_of port.id) (bus_of port.id) refl) in
-          absurd (any_found (λ other. other.id == port.id) (ports_on platform.ports (bus_of port.id)) (some_passes (λ other. other.id == port.id) (ports_on platform.ports (bus_of port.id)) port listed (eq-eqb port.id port.id refl)) (sym e))
+      on_output place None at e = absurd (place_known platform.ports port within (sym e))
       on_output place (Some output) at e =
           let on = switch_found platform port place at in (
             place,
@@ -112,9 +102,7 @@ module _ (platform : Platform) (laws : IsPlatform platform) where
           )
 
       on_switch : (place : Option ℕ) → place ≡ position (λ switch. internal_bus switch == bus_of port.id) platform.switches → (place : ℕ) × (output : ℕ) × IsOutputDown platform port place output
-      on_switch None e =
-          let on = port_stands platform laws port within in
-          absurd (any_found (λ switch. internal_bus switch == bus_of port.id) platform.switches (some_passes (λ switch. internal_bus switch == bus_of port.id) platform.switches on.0 on.1.listed (eq-eqb _ _ on.1.bus)) (sym e))
+      on_switch None e = absurd (switch_known platform port laws within (sym e))
       on_switch (Some place) e = on_output place (position (λ other. other.id == port.id) (ports_on platform.ports (bus_of port.id))) (sym e) refl
 
   -- ports are known by their IDs

@@ -1,6 +1,6 @@
 -- The tree of a platform: each end is an output that there is, and what comes into a port comes from another node.
 use Rattle.std.proofs.Common.{◌≡◌, ◌≢◌, ℕ, ◌+◌, ◌*◌, ◌<◌, ◌≤◌, ◌==◌, Bool, true, false, cond, List, length, get_or, Option, Some, None, refl, sym, ap, ◌∙◌, arith, subst, eqb-true, eq-eqb}
-use Rattle.std.specs.Prelude.{◌||◌, All, option_and_then}
+use Rattle.std.specs.Prelude.{All, option_and_then}
 use Rattle.std.specs.List.{list_all, position, position_or_len}
 use Rattle.std.proofs.lemmas.Bool.{ltb-true}
 use Rattle.std.proofs.lemmas.List.Elements.{All-append, All-map}
@@ -11,15 +11,14 @@ use Rattle.platform.specs.declared.parts.Switch.{Switch}
 use Rattle.platform.specs.declared.parts.DownstreamPort.{DownstreamPort}
 use Rattle.platform.specs.declared.parts.EndpointFunction.{EndpointFunction}
 use Rattle.layout.specs.Laws.{IsPlatform, is_hung, is_hung_by, is_hung_below, is_inside, is_nested, is_nested_on}
-use Rattle.platform.specs.Owners.{is_function}
 use Rattle.platform.specs.Platform.{Platform}
-use Rattle.platform.specs.Tree.{id_below, internal_bus, is_switch, is_taken, port_above, port_at, port_leading_to, switch_on}
+use Rattle.platform.specs.Tree.{id_below, internal_bus, is_taken, port_above, port_at, port_leading_to, switch_on}
 use Rattle.layout.proofs.Bools.{all-found, and-first, and-second}
 use Rattle.topology.specs.Nodes.{outputs_of, downstream_end, upstream_end, upstream_end_at, end_of_port, function_end}
 use Rattle.topology.specs.Links.{end_above, link_of_switch, link_of_function}
 use Rattle.topology.specs.Places.{upstream_place, downstream_place}
 use Rattle.topology.specs.Topologies.{IsEnd, IsFromElsewhere, IsLink, IsPlace, IsTree, tree_of}
-use Rattle.topology.proofs.Members.{any_found}
+use Rattle.topology.proofs.Known.{id_known}
 pub use Rattle.topology.proofs.Members.{listed}
 use Rattle.topology.proofs.Ends.{no_switch, root_is_end, upstream_is_end, downstream_is_end, switch_found}
 
@@ -94,10 +93,6 @@ upstream_apart platform switch k d nested hung less is same =
 
 -- ---- a downstream port
 
-taken_none : (switch function : Bool) → (switch || function) ≡ true → (switch ≡ true → ⊥) → (function ≡ true → ⊥) → ⊥
-taken_none true function h s f = s refl
-taken_none false function h s f = f h
-
 downstream_low : (platform : Platform) (port : DownstreamPort) (found : Option ℕ) → found ≡ position (λ switch. internal_bus switch == bus_of port.id) platform.switches → (end_of_port platform.ports port found).node ≤ length platform.switches
 downstream_low platform port None e = omega arith
 downstream_low platform port (Some place) e = let found = switch_found platform port place (sym e) in omega arith
@@ -112,9 +107,7 @@ below_apart : (platform : Platform) (port : DownstreamPort) (found : Option ℕ)
     → (upstream_end_at platform (id_below port) found).node ≢ (downstream_end platform port).node
 below_apart platform port None e after taken same =
     function_apart platform port (position (λ function. function.id == id_below port) platform.functions)
-    (λ none. taken_none (is_switch platform.switches (id_below port)) (is_function platform.functions (id_below port)) taken
-    (λ s. any_found (λ switch. switch.id == id_below port) platform.switches s (sym e))
-    (λ f. any_found (λ function. function.id == id_below port) platform.functions f none)) same
+    (λ none. id_known platform (id_below port) taken (sym e) none) same
 below_apart platform port (Some place) e after taken same =
     let facts = position-Some (λ switch. switch.id == id_below port) platform.switches place no_switch (sym e) in
     other_switch platform port place (id_below port) facts.0 (eqb-true _ _ facts.1) refl after (sym same)

@@ -1,6 +1,6 @@
 //! Links.
 
-ghost use Rattle.std.specs.Prelude.{◌≡◌, IfOk, map, ◌++◌};
+ghost use Rattle.std.specs.Prelude.{◌≡◌, ◌++◌, Contains, IfOk, OnOk, map};
 ghost use Rattle.platform.specs.Tree.{port_above};
 ghost use Rattle.topology.specs.Links.{end_above, link_of_switch, link_of_function, links_of, sending_end};
 
@@ -22,23 +22,18 @@ pub struct Link {
     pub below: LinkEnd,
 }
 
-fn end_above(layout: &Layout, port: Option<DownstreamPort>) -> LinkEnd
-    ensures { result ≡ end_above layout.now port }
+/// Where packets are sent down to a switch from. Without a port above it hangs below the root port.
+pub(crate) fn end_above_switch(layout: &Layout, switch: &Switch) -> LinkEnd
+    ensures { result ≡ end_above layout.now (port_above (layout.now).ports switch.now) }
 {
-    match port {
+    match port_above(layout.ports(), switch) {
         Some(port) => downstream_end(layout, &port),
         None => root_end(),
     }
 }
 
-/// Where packets are sent down to a switch from.
-pub(crate) fn end_above_switch(layout: &Layout, switch: &Switch) -> LinkEnd
-    ensures { result ≡ end_above layout.now (port_above (layout.now).ports switch.now) }
-{
-    end_above(layout, port_above(layout.ports(), switch))
-}
-
 fn link_of_switch(layout: &Layout, switch: &Switch) -> Link
+    requires { Contains (layout.now).switches switch.now }
     ensures { result ≡ link_of_switch layout.now switch.now }
 {
     Link {
@@ -49,28 +44,45 @@ fn link_of_switch(layout: &Layout, switch: &Switch) -> Link
 }
 
 fn link_of_function(layout: &Layout, function: &EndpointFunction) -> Link
+    requires { Contains (layout.now).functions function.now }
     ensures { result ≡ link_of_function layout.now function.now }
 {
+    let Some(port) = port_leading_to(layout.ports(), function.id) else {
+        unreachable!();
+    };
     Link {
         lower: function.id,
-        above: end_above(layout, port_leading_to(layout.ports(), function.id)),
+        above: downstream_end(layout, &port),
         below: upstream_end(layout, function.id),
     }
+}
+
+fn add_switch_links(layout: &Layout, links: &mut Vec<Link>) -> Result<(), NoMemory>
+    ensures { OnOk result (links.new.items ≡ links.old.items ++ map (link_of_switch layout.now) (layout.now).switches) }
+{
+    for switch in layout.switches() {
+        links.push(link_of_switch(layout, switch))?;
+    }
+    Ok(())
+}
+
+fn add_function_links(layout: &Layout, links: &mut Vec<Link>) -> Result<(), NoMemory>
+    ensures { OnOk result (links.new.items ≡ links.old.items ++ map (link_of_function layout.now) (layout.now).functions) }
+{
+    for function in layout.functions() {
+        links.push(link_of_function(layout, function))?;
+    }
+    Ok(())
 }
 
 /// All links: those of switches, and then those of functions.
 pub(crate) fn links_of(alloc: Global, layout: &Layout) -> Result<Vec<Link>, NoMemory>
     ensures { IfOk result (λ links. links.items ≡ links_of layout.now) }
 {
-    let of_switches = layout
-        .switches()
-        .iter()
-        .map(|line| link_of_switch(layout, line));
-    let of_functions = layout
-        .functions()
-        .iter()
-        .map(|line| link_of_function(layout, line));
-    Ok(of_switches.chain(of_functions).collect(alloc)?)
+    let mut links = Vec::new(alloc);
+    add_switch_links(layout, &mut links)?;
+    add_function_links(layout, &mut links)?;
+    Ok(links)
 }
 
 impl Link {

@@ -1,10 +1,9 @@
 //! The nodes of a tree, and the outputs that lead out of them.
 
-ghost use Rattle.std.specs.Prelude.{◌≡◌, ◌==◌, ◌+◌, ◌<◌, IfSome, length, count_by};
-ghost use Rattle.std.specs.List.{position, filter};
-ghost use Rattle.platform.specs.Tree.{is_on_bus};
-ghost use Rattle.platform.specs.Tree.{internal_bus};
-ghost use Rattle.topology.specs.Nodes.{root_end, ports_on, outputs_of_switch, output_of, end_of_port, downstream_end, function_end, upstream_end_at, upstream_end};
+ghost use Rattle.std.specs.Prelude.{◌≡◌, ◌==◌, ◌<◌, true, Contains, IfSome, length};
+ghost use Rattle.std.specs.List.{position};
+ghost use Rattle.platform.specs.Tree.{internal_bus, is_taken};
+ghost use Rattle.topology.specs.Nodes.{root_end, ports_on, outputs_of_switch, downstream_end, upstream_end};
 
 use fab_types::{Bdf, PortId};
 use layout::Layout;
@@ -48,15 +47,6 @@ pub(crate) fn outputs_of_switch(ports: &[DownstreamPort], switch: &Switch) -> us
     1 + ports.iter().filter(|port| is_on_bus(bus, port)).count()
 }
 
-fn output_of(ports: &[DownstreamPort], port: &DownstreamPort) -> usize
-    ensures { result ≡ output_of ports.now port.now }
-{
-    match place_on(ports, u16::from(port.id.id().bus()), port.id) {
-        Some(place) => place + 1,
-        None => 0,
-    }
-}
-
 fn switch_on(switches: &[Switch], bus: u16) -> Option<usize>
     ensures { result ≡ position (λ switch. internal_bus switch == bus) switches.now }
 {
@@ -77,21 +67,27 @@ fn function_with(functions: &[EndpointFunction], id: Bdf) -> Option<usize>
     functions.iter().position(|function| function.id == id)
 }
 
-/// Where packets are sent down from a downstream port.
+/// Where packets are sent down from a downstream port of the layout.
 pub(crate) fn downstream_end(layout: &Layout, port: &DownstreamPort) -> LinkEnd
+    requires { Contains (layout.now).ports port.now }
     ensures { result ≡ downstream_end layout.now port.now }
 {
-    match switch_on(layout.switches(), u16::from(port.id.id().bus())) {
-        Some(place) => LinkEnd {
-            node: 1 + place,
-            output: output_of(layout.ports(), port),
-        },
-        None => root_end(),
+    let bus = u16::from(port.id.id().bus());
+    let Some(switch) = switch_on(layout.switches(), bus) else {
+        unreachable!();
+    };
+    let Some(place) = place_on(layout.ports(), bus, port.id) else {
+        unreachable!();
+    };
+    LinkEnd {
+        node: 1 + switch,
+        output: 1 + place,
     }
 }
 
-/// Where packets are sent up from the upstream port of a switch, or from a function.
+/// Where packets are sent up from the upstream port of a switch, or from a function, that the layout has.
 pub(crate) fn upstream_end(layout: &Layout, id: Bdf) -> LinkEnd
+    requires { is_taken (layout.now).switches (layout.now).functions id ≡ true }
     ensures { result ≡ upstream_end layout.now id }
 {
     if let Some(place) = switch_with(layout.switches(), id) {
@@ -100,11 +96,11 @@ pub(crate) fn upstream_end(layout: &Layout, id: Bdf) -> LinkEnd
             output: 0,
         };
     }
-    match function_with(layout.functions(), id) {
-        Some(place) => LinkEnd {
-            node: 1 + layout.switches().len() + place,
-            output: 0,
-        },
-        None => root_end(),
+    let Some(place) = function_with(layout.functions(), id) else {
+        unreachable!();
+    };
+    LinkEnd {
+        node: 1 + layout.switches().len() + place,
+        output: 0,
     }
 }

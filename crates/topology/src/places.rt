@@ -1,6 +1,6 @@
 //! The ports of switches.
 
-ghost use Rattle.std.specs.Prelude.{◌≡◌, IfOk};
+ghost use Rattle.std.specs.Prelude.{◌≡◌, ◌++◌, Contains, IfOk, OnOk, map};
 ghost use Rattle.topology.specs.Places.{upstream_place, downstream_place, places_of};
 
 use crate::links::end_above_switch;
@@ -22,6 +22,7 @@ pub struct PortPlace {
 }
 
 fn upstream_place(layout: &Layout, switch: &Switch) -> PortPlace
+    requires { Contains (layout.now).switches switch.now }
     ensures { result ≡ upstream_place layout.now switch.now }
 {
     PortPlace {
@@ -42,6 +43,7 @@ fn input_of(layout: &Layout, port: &DownstreamPort) -> Option<LinkEnd>
 }
 
 fn downstream_place(layout: &Layout, port: &DownstreamPort) -> PortPlace
+    requires { Contains (layout.now).ports port.now }
     ensures { result ≡ downstream_place layout.now port.now }
 {
     PortPlace {
@@ -51,17 +53,30 @@ fn downstream_place(layout: &Layout, port: &DownstreamPort) -> PortPlace
     }
 }
 
+fn add_upstream_places(layout: &Layout, places: &mut Vec<PortPlace>) -> Result<(), NoMemory>
+    ensures { OnOk result (places.new.items ≡ places.old.items ++ map (upstream_place layout.now) (layout.now).switches) }
+{
+    for switch in layout.switches() {
+        places.push(upstream_place(layout, switch))?;
+    }
+    Ok(())
+}
+
+fn add_downstream_places(layout: &Layout, places: &mut Vec<PortPlace>) -> Result<(), NoMemory>
+    ensures { OnOk result (places.new.items ≡ places.old.items ++ map (downstream_place layout.now) (layout.now).ports) }
+{
+    for port in layout.ports() {
+        places.push(downstream_place(layout, port))?;
+    }
+    Ok(())
+}
+
 /// All ports of switches: the upstream ports, and then the downstream ports.
 pub(crate) fn places_of(alloc: Global, layout: &Layout) -> Result<Vec<PortPlace>, NoMemory>
     ensures { IfOk result (λ places. places.items ≡ places_of layout.now) }
 {
-    let upstream = layout
-        .switches()
-        .iter()
-        .map(|line| upstream_place(layout, line));
-    let downstream = layout
-        .ports()
-        .iter()
-        .map(|line| downstream_place(layout, line));
-    Ok(upstream.chain(downstream).collect(alloc)?)
+    let mut places = Vec::new(alloc);
+    add_upstream_places(layout, &mut places)?;
+    add_downstream_places(layout, &mut places)?;
+    Ok(places)
 }

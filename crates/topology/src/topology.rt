@@ -134,7 +134,7 @@ impl Topology {
         &self.outputs
     }
 
-    /// All links: those of switches, and then those of functions, in the order of the layout's lines.
+    /// All links. Those of switches come first, then those of functions, in the order of the layout's lines.
     pub fn links(&self) -> &[Link]
         ensures value { result.now ≡ self.now.links }
         ensures sound { IsTree self.now }

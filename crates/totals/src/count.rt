@@ -58,8 +58,8 @@ fn count_one(
     })
 }
 
-/// Counts what a fabric left of these domains: what stood in its workers' hands, and in the rings of links and between the
-/// ports of switches. It answers `NoMemory` where memory was refused.
+/// Counts what a fabric left of these domains. That is what stood in its workers' hands, and in the rings of links and
+/// between the ports of switches. It answers `NoMemory` where memory was refused.
 pub fn count_all(
     alloc: Global,
     remains: &[Remains],

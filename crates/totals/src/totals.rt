@@ -20,7 +20,7 @@ pub struct Totals {
     pub emitted: u64,
     /// How many of these an entry of its journal ended.
     pub consumed: u64,
-    /// How many stand anywhere: in an outbox, in a queue, in a ring, or in a worker's hand.
+    /// How many stand in an outbox, a queue, a ring or a worker's hand.
     pub found: u64,
     /// How many begins workers took out of its injectors' rings.
     /// These are the injectors of its functions and of its host. This count and that of the

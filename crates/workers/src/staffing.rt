@@ -46,7 +46,9 @@ fn add_downstream(
     ensures { OnOk result (map role_of staff.new ≡ map role_of staff.old ++ map (downstream_role layout.now) layout.now.ports) }
 {
     for line in layout.ports() {
-        let port = Port::downstream(alloc, layout, line)?;
+        let Some(port) = Port::downstream(alloc, layout, line)? else {
+            unreachable!();
+        };
         add_port(alloc, layout, shared, line.id, port, staff)?;
     }
     Ok(())

@@ -9,11 +9,11 @@ settle-requires-clause-within g c = listed_within c.args.stops.now c.args.fabric
 
 pub returns-in-Ok-clause-made : goal.returns-in-Ok-clause-made
 returns-in-Ok-clause-made g c =
-    subst (λ (b : Bool). Sweeps (events_at c.args.stop.now.station) c.args.fabric.now b c.make_all.new.fabric) (sym c.any.ensures) (visited c.args.stop.now.station c.args.fabric.now c.make_all.new.fabric c.in-Ok.moves c.in-Ok.ensures)
+    subst (λ (b : Bool). Sweeps (events_at c.args.stop.now.station) c.args.fabric.now b c.make_all.new.fabric) (sym c.any.ensures) (visited c.args.stop.now.station c.args.fabric.now c.make_all.new.fabric c.in-Ok.moves c.in-Ok.ensures.made)
 
 pub returns-in-Ok-clause-asleep : goal.returns-in-Ok-clause-asleep
 returns-in-Ok-clause-asleep g c =
-    asleep_after c.args.stops.now c.args.fabric.now c.make_all.new.fabric c.args.place c.args.stop.now c.in-Ok.moves c.args.awake.now c.settle.new.self c.requires.stop c.requires.asleep c.in-Ok.ensures c.settle.ensures.may c.settle.ensures.settled
+    asleep_after c.args.stops.now c.args.fabric.now c.make_all.new.fabric c.args.place c.args.stop.now c.in-Ok.moves c.args.awake.now c.settle.new.self c.requires.stop c.requires.asleep c.in-Ok.ensures.made c.settle.ensures.may c.settle.ensures.settled
 
 pub returns-in-Err-clause-asleep : goal.returns-in-Err-clause-asleep
 returns-in-Err-clause-asleep g c =

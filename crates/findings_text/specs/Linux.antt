@@ -1,0 +1,43 @@
+-- The groups that Linux makes of a tree, as text.
+use Rattle.std.specs.Prelude.{ℕ, ◌==◌, ◌++◌, ◌&&◌, not, List, [], codes, if◌then◌else◌}
+use Rattle.std.specs.Fmt.{decimal}
+use Rattle.std.specs.List.{flat_map}
+use Rattle.fab_types.specs.Texts.{id_text}
+use Rattle.platform.specs.Platform.{Platform}
+use Rattle.iommu_groups.specs.Groups.{have_common_group, members_of}
+use Rattle.iommu_groups.specs.declared.member.Member.{Member}
+use Rattle.attacks.specs.Findings.{has_witness}
+use Rattle.attacks.specs.declared.findings.Findings.{Findings}
+use Rattle.attacks.specs.declared.findings.Findings.TheVariants.{Guarded, Unguarded}
+use Rattle.attacks.specs.declared.findings.Pair.{Pair}
+
+-- a device of this group
+abbrev pub member_text : ℕ → Member → List ℕ
+member_text group m = if m.group == group then codes " " ++ id_text m.device else []
+
+abbrev pub group_line : List Member → ℕ → List ℕ
+group_line members group = codes "linux group" ++ flat_map (member_text group) members ++ codes "\n"
+
+-- of the group that the device is the first of
+abbrev pub group_lines : List Member → Member → List ℕ
+group_lines members m = if m.group == m.device then group_line members m.device else []
+
+abbrev pub apart_head : ℕ → ℕ → List ℕ
+apart_head attacker victim = decimal attacker ++ codes " and " ++ decimal victim ++ codes " apart, "
+
+abbrev pub apart_tail : ℕ → ℕ → List ℕ
+apart_tail attacker victim = codes "and domain " ++ decimal attacker ++ codes " reaches domain " ++ decimal victim ++ codes "\n"
+
+abbrev pub apart_text : ℕ → ℕ → List ℕ
+apart_text attacker victim = codes "linux keeps domains " ++ apart_head attacker victim ++ apart_tail attacker victim
+
+-- the two domains have no group in common, and the one was seen to reach the other
+abbrev pub apart_line : List Member → Pair → List ℕ
+apart_line members pair = if has_witness pair && not (have_common_group members pair.attacker pair.victim) then apart_text pair.attacker pair.victim else []
+
+abbrev pub apart_lines : List Member → Findings → List ℕ
+apart_lines members Guarded = []
+apart_lines members (Unguarded pairs) = flat_map (apart_line members) pairs.items
+
+abbrev pub linux_text : Platform → Findings → List ℕ
+linux_text platform findings = flat_map (group_lines (members_of platform)) (members_of platform) ++ apart_lines (members_of platform) findings
