@@ -1,6 +1,6 @@
 -- What is told of two domains, or of one way more.
-use Rattle.std.proofs.Common.{◌≡◌, ◌≢◌, ℕ, suc, ◌+◌, ◌<◌, ◌≤◌, Bool, true, false, List, [], ◌∷◌, ◌++◌, length, take, drop, Option, Some, refl, subst, sym, ap, ◌∙◌, append_assoc, ⊎_elim}
-use Rattle.std.specs.Prelude.{All, ◌==◌, map, slice_index_or, if◌then◌else◌}
+use Rattle.std.proofs.Common.{◌≡◌, ◌≢◌, ℕ, suc, ◌+◌, ◌<◌, ◌≤◌, Bool, true, false, List, [], ◌∷◌, ◌++◌, length, take, drop, Option, Some, None, refl, subst, sym, ap, ◌∙◌, append_assoc, ⊎_elim}
+use Rattle.std.specs.Prelude.{All, ◌==◌, is_some, map, slice_index_or, if◌then◌else◌}
 use Rattle.std.specs.List.{flat_map}
 use Rattle.std.specs.Option.{option_to_list}
 use Rattle.std.proofs.Math.Seq.{split_at}
@@ -14,13 +14,13 @@ use Rattle.platform.specs.Platform.{Platform}
 use Rattle.platform.specs.Share.{Share}
 use Rattle.domain.specs.Domains.{DomainView}
 use Rattle.fabric_core.specs.World.{World, world_of}
-use Rattle.attacks.specs.Tries.{own_ids}
+use Rattle.attacks.specs.Tries.{own_ids, tries}
 use Rattle.attacks.specs.declared.attack.Attack.{Attack}
 use Rattle.attacks.specs.declared.attack.Way.{Way}
 use Rattle.attacks.specs.declared.findings.Pair.{Pair}
 use Rattle.attacks.specs.declared.findings.Witness.{Witness}
 use Rattle.audit.specs.Landing.{Fails, Lands}
-use Rattle.audit.specs.Telling.{Adds, AddsFound, AreFound, ArePairsOf, IsFound, IsPairOf, attempts, candidates, couple_of, couples, couples_of, witness_by}
+use Rattle.audit.specs.Telling.{Adds, AddsFound, AreFound, ArePairsOf, IsFirst, IsFound, IsPairOf, attempts, candidates, couple_of, couples, couples_of, witness_by}
 
 -- ---- requests
 
@@ -47,13 +47,67 @@ found_at {X = X} p f xs i x w lt is before same lands = record {
   lands = lands;
 }
 
+-- ---- functions in turn
+
+-- what is listed of one more
+listed_next : {X Y : Type 0} (g : X → List Y) (xs : List X) (i : ℕ) (x : X) → i < length xs → x ≡ slice_index_or xs i x → flat_map g (take (i + 1) xs) ≡ flat_map g (take i xs) ++ g x
+listed_next {Y = Y} g xs i x lt is =
+    let one : flat_map g (x ∷ []) ≡ g x = append-nil (g x) in
+    ap (flat_map g) (take_next xs i x lt is) ∙ (flat_map-append g (take i xs) (x ∷ []) ∙ ap (λ (l : List Y). flat_map g (take i xs) ++ l) one)
+
+-- what is listed of one, and of those before and behind it
+listed_about : {X Y : Type 0} (g : X → List Y) (xs : List X) (i : ℕ) (x : X) → i < length xs → x ≡ slice_index_or xs i x → flat_map g xs ≡ flat_map g (take i xs) ++ (g x ++ flat_map g (drop (suc i) xs))
+listed_about {X = X} g xs i x lt is =
+    ap (flat_map g) (split_at xs i x lt ∙ ap (λ (y : X). take i xs ++ y ∷ drop (suc i) xs) (sym is)) ∙ flat_map-append g (take i xs) (x ∷ drop (suc i) xs)
+
+module _ {X Y : Type 0} (p : Platform) (f : Y → Witness) (g : X → List Y) (xs : List X) (i : ℕ) (x : X) (lt : i < length xs) (is : x ≡ slice_index_or xs i x) (before : All (Fails p) (map f (flat_map g (take i xs)))) where
+  -- where none of one more lands either
+  none_of_next : All (Fails p) (map f (g x)) → All (Fails p) (map f (flat_map g (take (i + 1) xs)))
+  none_of_next now =
+      let list : map f (flat_map g (take (i + 1) xs)) ≡ map f (flat_map g (take i xs)) ++ map f (g x) = ap (map f) (listed_next g xs i x lt is) ∙ map-append f (flat_map g (take i xs)) (g x) in
+      subst (All (Fails p)) (sym list) (All-append (Fails p) (map f (flat_map g (take i xs))) (map f (g x)) before now)
+
+  -- the first of one more is the first of all
+  first_of_next : (w : Witness) → IsFirst p (map f (g x)) w → IsFirst p (map f (flat_map g xs)) w
+  first_of_next w first =
+      let ahead : List Witness = map f (flat_map g (take i xs)) in
+      let behind : List Witness = map f (flat_map g (drop (suc i) xs)) in
+      let rest : map f (g x ++ flat_map g (drop (suc i) xs)) ≡ first.before ++ (w ∷ first.after ++ behind) =
+      map-append f (g x) (flat_map g (drop (suc i) xs)) ∙ (ap (λ (l : List Witness). l ++ behind) first.all ∙ append_assoc first.before (w ∷ first.after) behind) in record {
+        before = ahead ++ first.before;
+        after = first.after ++ behind;
+        all = ap (map f) (listed_about g xs i x lt is)
+            ∙ (map-append f (flat_map g (take i xs)) (g x ++ flat_map g (drop (suc i) xs))
+            ∙ (ap (λ (l : List Witness). ahead ++ l) rest ∙ sym (append_assoc ahead first.before (w ∷ first.after ++ behind))));
+        fail = All-append (Fails p) ahead first.before before first.fail;
+        lands = first.lands;
+      }
+
+  pub next_lands : (found : Option Witness) → is_some found ≡ true → IsFound p (map f (g x)) found → IsFound p (map f (flat_map g xs)) found
+  next_lands None some h = absurd (false≢true some)
+  next_lands (Some w) some h = first_of_next w h
+
+  pub next_fails : (found : Option Witness) → is_some found ≡ false → IsFound p (map f (g x)) found → All (Fails p) (map f (flat_map g (take (i + 1) xs)))
+  next_fails None none h = none_of_next h
+  next_fails (Some w) none h = absurd (false≢true (sym none))
+
+-- none of all
+pub none_of_all : {X Y : Type 0} (p : Platform) (f : Y → Witness) (g : X → List Y) (xs : List X) (i : ℕ) → length xs ≤ i → All (Fails p) (map f (flat_map g (take i xs))) → All (Fails p) (map f (flat_map g xs))
+none_of_all {X = X} p f g xs i le h = subst (λ (l : List X). All (Fails p) (map f (flat_map g l))) (take_all xs i le) h
+
+-- among what one function tries
+pub found_by_one : (p : Platform) (v : Share) (by : Way) (one other function : ℕ) (attacks : List Attack) (found : Option Witness) → other ≡ v.domain → attacks ≡ tries p by function v
+    → IsFound p (map (witness_by one other) attacks) found → IsFound p (map (witness_by one v.domain) (tries p by function v)) found
+found_by_one p v by one other function attacks found other_is attacks_is h =
+    let first = subst (λ (n : ℕ). IsFound p (map (witness_by one n) attacks) found) other_is h in
+    subst (λ (l : List Attack). IsFound p (map (witness_by one v.domain) l) found) attacks_is first
+
 -- among what one domain tries against another
-pub found_of : (p : Platform) (a v : Share) (by : Way) (one other : ℕ) (attacks : List Attack) (found : Option Witness) → one ≡ a.domain → other ≡ v.domain
-    → attacks ≡ attempts p by (own_ids a) v → IsFound p (map (witness_by one other) attacks) found → IsFound p (candidates p a v by) found
-found_of p a v by one other attacks found one_is other_is attacks_is h =
-    let first = subst (λ (n : ℕ). IsFound p (map (witness_by n other) attacks) found) one_is h in
-    let second = subst (λ (n : ℕ). IsFound p (map (witness_by a.domain n) attacks) found) other_is first in
-    subst (λ (l : List Attack). IsFound p (map (witness_by a.domain v.domain) l) found) attacks_is second
+pub found_of : (p : Platform) (a v : Share) (by : Way) (one : ℕ) (own : List ℕ) (found : Option Witness) → one ≡ a.domain → own ≡ own_ids a
+    → IsFound p (map (witness_by one v.domain) (attempts p by own v)) found → IsFound p (candidates p a v by) found
+found_of p a v by one own found one_is own_is h =
+    let first = subst (λ (n : ℕ). IsFound p (map (witness_by n v.domain) (attempts p by own v)) found) one_is h in
+    subst (λ (l : List ℕ). IsFound p (map (witness_by a.domain v.domain) (attempts p by l v)) found) own_is first
 
 -- ---- ways
 
@@ -116,12 +170,7 @@ adds_more p cs ds all old mid new e before now = record {
 -- those of one domain more
 pub adds_next : (p : Platform) (f : DomainView → List (DomainView × DomainView)) (xs : List DomainView) (i : ℕ) (x : DomainView) (old mid new : List Pair) → i < length xs
     → x ≡ slice_index_or xs i x → Adds p (flat_map f (take i xs)) old mid → Adds p (f x) mid new → Adds p (flat_map f (take (i + 1) xs)) old new
-adds_next p f xs i x old mid new lt is before now =
-    let one : flat_map f (x ∷ []) ≡ f x = append-nil (f x) in
-    let list : flat_map f (take (i + 1) xs) ≡ flat_map f (take i xs) ++ f x =
-    ap (flat_map f) (take_next xs i x lt is)
-    ∙ (flat_map-append f (take i xs) (x ∷ []) ∙ ap (λ (l : List (DomainView × DomainView)). flat_map f (take i xs) ++ l) one) in
-    adds_more p (flat_map f (take i xs)) (f x) (flat_map f (take (i + 1) xs)) old mid new list before now
+adds_next p f xs i x old mid new lt is before now = adds_more p (flat_map f (take i xs)) (f x) (flat_map f (take (i + 1) xs)) old mid new (listed_next f xs i x lt is) before now
 
 pub adds_start : (p : Platform) (f : DomainView → List (DomainView × DomainView)) (xs : List DomainView) (new : List Pair) → new ≡ [] → Adds p (flat_map f (take 0 xs)) [] new
 adds_start p f [] new e = record { added = []; of = refl; all = e }

@@ -193,28 +193,33 @@ fn found<R: Wait>(
     ensures { IfOk result (IsFound setting.now.layout.now (candidates setting.now.layout.now attacker.now victim.now way)) }
 {
     let own = own_functions(alloc, attacker)?;
-    let attempts = attempts(alloc, setting.layout, way, &own, victim)?;
-    let (attacker, victim) = (attacker.domain(), victim.domain());
-    let found = first_of(rt, alloc, setting, attacker, victim, &attempts)?;
+    let found = found_by(rt, alloc, setting, way, attacker.domain(), &own, victim)?;
     Ok(found)
 }
 
-/// What each of these functions tries in this way.
-fn attempts(
+/// The witness of the first request of these functions that lands. What a function tries is listed once nothing landed
+/// of what those before it tried.
+fn found_by<R: Wait>(
+    rt: &R,
     alloc: Global,
-    layout: &Layout,
+    setting: &Setting<'_>,
     way: Way,
+    attacker: DomainId,
     functions: &[Bdf],
     victim: &Start,
-) -> Result<Vec<Attack>, NoMemory>
-    ensures { IfOk result (λ all. all.items ≡ attempts layout.now way functions.now victim.now) }
+) -> Result<Option<Witness>, NoMemory>
+    requires setting { IsSetting setting.now }
+    requires other { attacker ≢ victim.now.domain }
+    ensures { IfOk result (IsFound setting.now.layout.now (map (witness_by attacker victim.now.domain) (attempts setting.now.layout.now way functions.now victim.now))) }
 {
-    let mut all = Vec::new(alloc);
     for function in functions {
-        let more = tries(alloc, layout, way, *function, victim)?;
-        all.extend_from_slice(&more)?;
+        let attacks = tries(alloc, setting.layout, way, *function, victim)?;
+        let found = first_of(rt, alloc, setting, attacker, victim.domain(), &attacks)?;
+        if found.is_some() {
+            return Ok(found);
+        }
     }
-    Ok(all)
+    Ok(None)
 }
 
 /// The witness of the first of these attacks that lands.

@@ -8,6 +8,7 @@ pub mod Stated
 pub mod Fields
 pub mod Refusals
 pub mod Comments
+pub mod Reasons
 pub mod NameViews
 pub mod Names
 pub mod DraftViews

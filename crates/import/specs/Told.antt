@@ -11,6 +11,7 @@ use Rattle.import.specs.DeviceViews.{Imported}
 use Rattle.import.specs.DraftViews.{Written}
 use Rattle.import.specs.Drafts.{noted}
 use Rattle.import.specs.Names.{name_of, remark_of}
+use Rattle.import.specs.Reasons.{AreWordsOf}
 use Rattle.import.specs.Trees.{space_of}
 
 -- ---- of a device that gave a line
@@ -32,7 +33,7 @@ left_out_words dump part reason = codes "left out: " ++ (name_of dump part.line 
 
 -- one line tells that a part is left out
 abbrev pub IsToldOf : List ℕ → LeftOut → Written → Written → Type 0
-IsToldOf dump part old new = (reason : List ℕ) × IsPrintable reason × (new ≡ noted (left_out_words dump part reason) old)
+IsToldOf dump part old new = (reason : List ℕ) × AreWordsOf part.reason reason × IsPrintable reason × (new ≡ noted (left_out_words dump part reason) old)
 
 -- each part is told in a line of its own
 abbrev pub TellEach : List ℕ → List LeftOut → Written → Written → Type 0

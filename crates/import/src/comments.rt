@@ -3,6 +3,7 @@
 ghost use Rattle.std.specs.Prelude.{◌≡◌, IfOk, string_bytes};
 ghost use Rattle.std.specs.List.{list_all};
 ghost use Rattle.import.specs.Comments.{IsPrintable, is_printable};
+ghost use Rattle.import.specs.Reasons.{AreWordsOf};
 
 use crate::fault::Reason;
 use std::alloc::{AllocError, Global};
@@ -14,9 +15,10 @@ pub fn is_printable(words: &[u8]) -> bool
     words.iter().all(|byte| 32 <= *byte && *byte < 127)
 }
 
-/// The words of a reason, or none if they couldn't stand in a comment.
+/// The words of a reason. Those of a rule are left out if they couldn't stand in a comment.
 pub fn words_of(alloc: Global, reason: &Reason) -> Result<String, AllocError>
-    ensures { IfOk result (λ words. IsPrintable (string_bytes words)) }
+    ensures words { IfOk result (λ words. AreWordsOf reason.now (string_bytes words)) }
+    ensures printable { IfOk result (λ words. IsPrintable (string_bytes words)) }
 {
     let words = format!(in alloc; "{reason}")?;
     if is_printable(words.as_bytes()) {

@@ -1,7 +1,11 @@
 //! Why there is no layout of a dump, and why a layout hasn't all of it.
 
+ghost use Rattle.std.specs.Prelude.{◌≡◌, option_map};
+ghost use Rattle.import.specs.Reasons.{reason_words};
+
 use fab_types::{Bdf, LayoutCause};
 use lspci::Location;
+use std::fmt;
 use thiserror::Error;
 
 /// Why there is no layout of a dump.
@@ -25,41 +29,68 @@ pub enum ImportFault {
 }
 
 /// Why a layout hasn't a device, or something of it.
-#[derive(Clone, Copy, Debug, PartialEq, Eq, Error)]
+#[derive(Clone, Copy, Debug, PartialEq, Eq)]
 pub enum Reason {
     /// The device is of another PCI segment than 0000.
-    #[error("it is of another PCI segment")]
     Segment,
     /// It is none that a layout has.
-    #[error("it is no port of PCI Express and no endpoint, but, say, a bridge to conventional PCI")]
     Kind,
     /// It isn't below the ports of the top switch, and is none of these.
-    #[error("it is outside of the tree that was asked for")]
     Outside,
     /// No port of the layout leads to it.
-    #[error("no port of the layout leads to it")]
     Unreached,
     /// It isn't function 0; or an endpoint or upstream port isn't of device 0.
-    #[error("a layout has function 0 alone")]
     Function,
     /// Its buses have no room in a layout.
-    #[error("its buses have no room in a layout")]
     Buses,
     /// The port has no window below 4 GB.
-    #[error("it has no window for memory below 4 GB")]
     Window,
     /// The function has no page inside the port's window.
-    #[error("none of its base address registers begins a page in the window of the port above")]
     Page,
     /// A rule of layouts is against it.
-    #[error("{0}")]
     Rule(LayoutCause),
     /// The port has a prefetchable window besides that for memory, which alone the layout has.
-    #[error("its prefetchable window: a layout has one window of a port")]
     FurtherWindow,
     /// The port has other controls than V, B, R, C and U.
-    #[error("its controls besides V, B, R, C and U")]
     FurtherControls,
+}
+
+impl Reason {
+    /// The words of all but a rule of layouts, which has its own.
+    fn words(&self) -> Option<&'static str>
+        ensures { option_map (λ words. words.now) result ≡ reason_words self.now }
+    {
+        let words = match self {
+            Reason::Segment => "it is of another PCI segment",
+            Reason::Kind => {
+                "it is no port of PCI Express and no endpoint, but, say, a bridge to conventional PCI"
+            }
+            Reason::Outside => "it is outside of the tree that was asked for",
+            Reason::Unreached => "no port of the layout leads to it",
+            Reason::Function => "a layout has function 0 alone",
+            Reason::Buses => "its buses have no room in a layout",
+            Reason::Window => "it has no window for memory below 4 GB",
+            Reason::Page => {
+                "none of its base address registers begins a page in the window of the port above"
+            }
+            Reason::Rule(_) => return None,
+            Reason::FurtherWindow => "its prefetchable window: a layout has one window of a port",
+            Reason::FurtherControls => "its controls besides V, B, R, C and U",
+        };
+        Some(words)
+    }
+}
+
+impl fmt::Display for Reason {
+    ghost output = { reason_words };
+
+    fn fmt<W: fmt::Write>(&self, f: &mut fmt::Formatter<W>) -> fmt::Result {
+        match (self.words(), self) {
+            (Some(words), _) => write!(f, "{words}"),
+            (None, Reason::Rule(cause)) => write!(f, "{cause}"),
+            (None, _) => unreachable!(),
+        }
+    }
 }
 
 /// Something that a layout hasn't.
