@@ -8,11 +8,12 @@ attacker's line. `attacks.py PROGRAM cleared LAYOUT [PAIRS]` clears each of the 
 and then PAIRS random pairs of them at two ports, and runs all candidates in each: writes, reads and FetchAdds of each function
 in each name, for each page that is a frame's number, mapped, a register page or none of these, with AT 00 and 10; and reads in
 the name of a function, ahead of one of its own for each page that it may read, by each number of sweeps from 1 to 20. Where one
-is seen to land in some way of harm, `explain` has to tell a witness of that way for these two domains. It prints what differs,
-and its last line counts.
+is seen to land in some way of harm, `explain` has to tell a witness of that way for these two domains. As many layouts are tried
+side by side as there are processors. It prints what differs, and its last line counts.
 """
 
 import itertools, random, re, subprocess, sys, tempfile
+from concurrent.futures import ProcessPoolExecutor
 
 from deal import Deal
 
@@ -232,19 +233,34 @@ def of_random(count):
     return wrong
 
 
+def begin():
+    """A process of its own has a folder of its own."""
+    global work
+    work = tempfile.TemporaryDirectory()
+
+
+def checked(base, places):
+    """The witnesses told where these controls are cleared, how many of them are wrong, and what is found and not told."""
+    path = put('layout', cleared(base, places))
+    layout = Lines(open(path).read())
+    witnesses, faults = told_right(layout, path)
+    lost = searched(layout, path) - {witness[:3] for witness in witnesses}
+    return places, len(witnesses), faults, sorted(lost)
+
+
 def of_cleared(base, pairs):
     dice, wrong, missed, shown = random.Random(1), 0, 0, 0
     ports = [each[1] for each in Lines(base).ports]
     singles = [[place] for place in itertools.product(ports, CONTROLS)]
     doubles = [list(zip(two, controls)) for two in itertools.combinations(ports, 2) for controls in itertools.product(CONTROLS, repeat=2)]
-    for places in singles + dice.sample(doubles, min(pairs, len(doubles))):
-        path = put('layout', cleared(base, places))
-        layout = Lines(open(path).read())
-        witnesses, faults = told_right(layout, path)
-        lost = searched(layout, path) - {witness[:3] for witness in witnesses}
-        wrong, missed, shown = wrong + faults, missed + len(lost), shown + len(witnesses)
-        if faults or lost:
-            print(places, f'{faults} wrong, not told:', sorted(lost))
+    cases = singles + dice.sample(doubles, min(pairs, len(doubles)))
+    with ProcessPoolExecutor(initializer=begin) as pool:
+        for done, (places, witnesses, faults, lost) in enumerate(pool.map(checked, itertools.repeat(base), cases), 1):
+            wrong, missed, shown = wrong + faults, missed + len(lost), shown + witnesses
+            if faults or lost:
+                print(places, f'{faults} wrong, not told:', lost)
+            if done % 25 == 0:
+                print(f'{done} of {len(cases)}', flush=True)
     print(f'{len(singles)} controls and {min(pairs, len(doubles))} pairs, {shown} witnesses, {wrong} wrong, {missed} not told')
     return wrong + missed
 
