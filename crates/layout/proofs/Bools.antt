@@ -1,5 +1,5 @@
 -- Tests over lists.
-use Rattle.std.proofs.Common.{◌≡◌, ℕ, zero, suc, get_or, ◌+◌, ◌≤◌, ◌<◌, Bool, true, false, cond, List, [], ◌∷◌, ◌++◌, length, Option, Some, refl, ap, ◌∙◌, arith, zero-add}
+use Rattle.std.proofs.Common.{◌≡◌, ℕ, zero, suc, get_or, ◌+◌, ◌≤◌, ◌<◌, Bool, true, false, cond, List, [], ◌∷◌, ◌++◌, length, Option, Some, refl, sym, ap, ◌∙◌, arith, zero-add}
 use Rattle.std.specs.Prelude.{◌&&◌, ◌||◌, not, count_by, is_some}
 use Rattle.std.specs.List.{list_all, list_any, find}
 use Rattle.std.proofs.lemmas.List.Sums.{sum_by-append}
@@ -48,6 +48,14 @@ found-here false c rest x y q further e is h later = later e
 pub all-found : {X : Type 0} (p q : X → Bool) (xs : List X) (x : X) → find p xs ≡ Some x → list_all q xs ≡ true → q x ≡ true
 all-found p q [] x e h = absurd cc
 all-found p q (y ∷ ys) x e h = found-here (p y) (q y) (list_all q ys) x y q (find p ys) e refl (and-first (q y) (list_all q ys) h) (λ e. all-found p q ys x e (and-second (q y) (list_all q ys) h))
+
+passes-here : {X : Type 0} (b : Bool) (p : X → Bool) (x y : X) (further : Option X) → cond b (Some y) further ≡ Some x → p y ≡ b → (further ≡ Some x → p x ≡ true) → p x ≡ true
+passes-here true p x y further e here later = let same : y ≡ x = cc in ap p (sym same) ∙ here
+passes-here false p x y further e here later = later e
+
+pub found-passes : {X : Type 0} (p : X → Bool) (xs : List X) (x : X) → find p xs ≡ Some x → p x ≡ true
+found-passes p [] x e = absurd cc
+found-passes p (y ∷ ys) x e = passes-here (p y) p x y (find p ys) e refl (found-passes p ys x)
 
 pub count-more : {X : Type 0} (p : X → Bool) (xs : List X) (y : X) → count_by p (xs ++ y ∷ []) ≡ count_by p xs + cond (p y) 1 0
 count-more p xs y = sum_by-append (λ x. cond (p x) 1 0) xs (y ∷ []) ∙ ap (λ (n : ℕ). count_by p xs + n) (zero-add (cond (p y) 1 0))

@@ -12,6 +12,7 @@ pub mod Alone
 pub mod Free
 pub mod MapsOnce
 pub mod Keeping
+pub mod Noted
 pub mod Places
 pub mod Ranges
 pub mod Reached

@@ -1,5 +1,5 @@
 -- Which function or host an ID leads to.
-use Rattle.std.specs.Prelude.{ℕ, ◌==◌, Bool, false, List, Option, Some, None, option_map, if◌then◌else◌}
+use Rattle.std.specs.Prelude.{ℕ, ◌==◌, ◌||◌, not, Bool, false, List, Option, Some, None, option_map, slice_index_or, if◌then◌else◌}
 use Rattle.std.specs.List.{find}
 use Rattle.fab_types.specs.Id.{bus_of, host_of}
 use Rattle.fab_types.specs.declared.origin.Origin.{Origin}
@@ -16,6 +16,10 @@ holds_bus_if_any (Some port) bus = holds_bus port bus
 -- the function whose first port has the bus below it
 abbrev pub function_at : List DownstreamPort → List EndpointFunction → ℕ → Option ℕ
 function_at ports functions bus = option_map (λ line. line.id) (find (λ line. holds_bus_if_any (first_port ports line.id) bus) functions)
+
+-- unless the port hasn't the bus below it, the bus directly below it is noted
+abbrev pub is_noted : List Bool → ℕ → DownstreamPort → Bool
+is_noted buses bus port = not (holds_bus port bus) || slice_index_or buses port.secondary false
 
 -- an ID leads to the domain's host, if it is that host's, or by its bus to a function
 abbrev pub reach : Share → ℕ → Option Origin

@@ -25,6 +25,10 @@ use std::marker::Model;
 /// No memory holds more entries of a class than this.
 const MOST: usize = 1 << 62;
 
+/// Room of a class beyond the places that are there at first. The memory of places that were never taken costs nothing till
+/// it has to move, so that places are added without a move as long as there is such room.
+const SPARE: usize = 64;
+
 /// A queue that takes a counted number of items of each class in all.
 /// It reserves room for them when it is made, so that no put takes memory.
 #[derive(Drop)]
@@ -66,9 +70,9 @@ impl<T: Drop> Outbox<T> {
         }
         Ok(Outbox {
             queues: PerClass {
-                posted: VecDeque::with_capacity(alloc, places)?,
-                non_posted: VecDeque::with_capacity(alloc, places)?,
-                completion: VecDeque::with_capacity(alloc, places)?,
+                posted: VecDeque::with_capacity(alloc, places + SPARE)?,
+                non_posted: VecDeque::with_capacity(alloc, places + SPARE)?,
+                completion: VecDeque::with_capacity(alloc, places + SPARE)?,
             },
             puts: PerClass {
                 posted: 0,
@@ -206,13 +210,13 @@ impl<T: Drop> Outbox<T> {
         let places = self.places + n;
         self.queues
             .posted
-            .reserve_exact(places - self.queues.posted.len())?;
+            .reserve(places - self.queues.posted.len())?;
         self.queues
             .non_posted
-            .reserve_exact(places - self.queues.non_posted.len())?;
+            .reserve(places - self.queues.non_posted.len())?;
         self.queues
             .completion
-            .reserve_exact(places - self.queues.completion.len())?;
+            .reserve(places - self.queues.completion.len())?;
         self.places = places;
         Ok(())
     }
