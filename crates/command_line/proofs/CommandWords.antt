@@ -12,7 +12,7 @@ use Rattle.clap.specs.declared.parser.matches.ArgMatches.TheViews.{out-ArgMatche
 use Rattle.clap.specs.declared.parser.matches.SubCommand.{SubCommand}
 use Rattle.clap.specs.declared.parser.matches.Found.{Found}
 use Rattle.clap.proofs.WalkLemmas.{first_value-rows}
-use Rattle.command_line.specs.CommandLine.{Asked, asked_in, asked_of, commands, errors_of}
+use Rattle.command_line.specs.CommandLine.{Asked, asked_in, asked_of, commands, errors_of, journal_commands, run_commands}
 
 -- the first value of this name is the first word of its row
 pub first_word : (found : Found) (name : Text) → first_value found name ≡ first_of name (rows_of found)
@@ -36,11 +36,11 @@ asked_by_words m entered found e f =
     ap (option_and_then asked_of) (pair_of (subcommand_rows_of m) entered (rows_of found) (e ∙ name_of (out-ArgMatches m).subcommand) f)
 
 is_simple_commands : is_simple commands ≡ true
-unfolding clap_on_literals
+unfolding clap_on_literals commands journal_commands run_commands
 is_simple_commands = refl
 
 is_free_commands : is_simple_and_free commands ≡ true
-unfolding clap_on_literals
+unfolding clap_on_literals commands journal_commands run_commands
 is_free_commands = refl
 
 -- words that ask for nothing ask for no command

@@ -67,15 +67,18 @@ abbrev pub program : App
 program = let plain = new_app (codes "pciefab") in record plain { top = record plain.top { no_binary_name = true; subcommand_required = true } }
 
 -- the commands of a run
-abbrev pub run_commands : App
+unfoldable pub run_commands : App
 run_commands = with_subcommand (with_subcommand (with_subcommand program first_command.top) run_command.top) alone_command.top
+
+-- and those of journals and of threads
+unfoldable pub journal_commands : App
+journal_commands = with_subcommand (with_subcommand (with_subcommand run_commands journal_command.top) replay_command.top) threads_command.top
 
 -- `first HEX`, `run LAYOUT SCRIPT`, `alone LAYOUT SCRIPT DOMAIN`, `journal LAYOUT SCRIPT DOMAIN`,
 -- `replay LAYOUT JOURNAL DOMAIN`, `threads LAYOUT SCRIPT TURNS`, `draw LAYOUT`, `explain LAYOUT [--scripts FOLDER] [--linux]`
 -- and `import DUMP [--owners FILE] [--root ID]`; help is the library's own
-abbrev pub commands : App
-commands =
-    with_subcommand (with_subcommand (with_subcommand (with_subcommand (with_subcommand (with_subcommand run_commands journal_command.top) replay_command.top) threads_command.top) draw_command.top) explain_command.top) import_command.top
+unfoldable pub commands : App
+commands = with_subcommand (with_subcommand (with_subcommand journal_commands draw_command.top) explain_command.top) import_command.top
 
 -- a command is this, and no argument of it is one of its subcommands too
 abbrev pub IsDefined : Command → App → Type 0

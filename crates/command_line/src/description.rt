@@ -2,7 +2,7 @@
 
 ghost use Rattle.std.specs.Prelude.{◌≡◌, IfOk};
 ghost use Rattle.clap.specs.Words.{App, app_of, new_app, with_rule};
-ghost use Rattle.command_line.specs.CommandLine.{IsDefined, commands, domain_command, draw_command, explain_command, files_command, first_command, flag_rule, import_command, option_rule, run_commands, third_command, threads_command, word_rule};
+ghost use Rattle.command_line.specs.CommandLine.{IsDefined, commands, domain_command, draw_command, explain_command, files_command, first_command, flag_rule, import_command, journal_commands, option_rule, run_commands, third_command, threads_command, word_rule};
 
 use clap::{Arg, ArgAction, Command};
 use std::alloc::{AllocError, Global};
@@ -230,27 +230,35 @@ fn with_runs<'a>(alloc: Global) -> Result<Command<'a>, AllocError>
         .after_help(EXAMPLE)
         .subcommand_required(true);
     let first = first_definition(alloc)?;
-    let run = with_files(alloc, "run", RUN_ABOUT, "SCRIPT", SCRIPT_HELP)?;
-    let alone = with_domain(alloc, "alone", ALONE_ABOUT, "SCRIPT", SCRIPT_HELP)?;
     let with_first = program.subcommand(first)?;
+    let run = with_files(alloc, "run", RUN_ABOUT, "SCRIPT", SCRIPT_HELP)?;
     let with_run = with_first.subcommand(run)?;
+    let alone = with_domain(alloc, "alone", ALONE_ABOUT, "SCRIPT", SCRIPT_HELP)?;
     with_run.subcommand(alone)
+}
+
+/// The same, and the commands of journals and of threads.
+fn with_journals<'a>(alloc: Global) -> Result<Command<'a>, AllocError>
+    ensures { IfOk result (λ command. app_of command ≡ journal_commands) }
+{
+    let with_runs = with_runs(alloc)?;
+    let journal = with_domain(alloc, "journal", JOURNAL_ABOUT, "SCRIPT", SCRIPT_HELP)?;
+    let with_journal = with_runs.subcommand(journal)?;
+    let replay = with_domain(alloc, "replay", REPLAY_ABOUT, "JOURNAL", JOURNAL_HELP)?;
+    let with_replay = with_journal.subcommand(replay)?;
+    let threads = threads_definition(alloc)?;
+    with_replay.subcommand(threads)
 }
 
 /// The program with its commands.
 pub fn definition<'a>(alloc: Global) -> Result<Command<'a>, AllocError>
     ensures { IfOk result (λ command. app_of command ≡ commands) }
 {
-    let journal = with_domain(alloc, "journal", JOURNAL_ABOUT, "SCRIPT", SCRIPT_HELP)?;
-    let replay = with_domain(alloc, "replay", REPLAY_ABOUT, "JOURNAL", JOURNAL_HELP)?;
-    let threads = threads_definition(alloc)?;
+    let with_journals = with_journals(alloc)?;
     let draw = draw_definition(alloc)?;
+    let with_draw = with_journals.subcommand(draw)?;
     let explain = explain_definition(alloc)?;
-    let import = import_definition(alloc)?;
-    let with_journal = with_runs(alloc)?.subcommand(journal)?;
-    let with_replay = with_journal.subcommand(replay)?;
-    let with_threads = with_replay.subcommand(threads)?;
-    let with_draw = with_threads.subcommand(draw)?;
     let with_explain = with_draw.subcommand(explain)?;
+    let import = import_definition(alloc)?;
     with_explain.subcommand(import)
 }

@@ -37,9 +37,7 @@ fn complete_line(functions: &mut [Function], tags: &[OpenTag], delivery: &Record
     ensures { functions.new ≡ completed functions.old (use_of tags.now delivery.now.owner delivery.now.tag) delivery.now.owner delivery.now.status (packet_of delivery.now.bytes).payload }
 {
     let usage = use_of(tags, delivery.owner(), delivery.tag());
-    let Ok(view) = TlpView::read(delivery.bytes()) else {
-        unreachable!();
-    };
+    let view = TlpView::again(delivery.bytes());
     complete(
         functions,
         delivery.owner(),

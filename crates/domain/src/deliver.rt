@@ -146,9 +146,7 @@ pub(crate) fn arrival_for(
     ensures { result ≡ arrival_for tags.now bytes.now answerer addressee }
 {
     let owner = addressee?;
-    let Ok(view) = TlpView::read(bytes) else {
-        unreachable!();
-    };
+    let view = TlpView::again(bytes);
     let status = view.status()?;
     Some(arrival_at(tags, &view, bytes, answerer, owner, status))
 }

@@ -45,19 +45,16 @@ impl Contents {
             Effect::Leave => {}
             Effect::Block => self.counts.blocked += 1,
             Effect::Store(frame, first) => {
-                if let Ok(view) = TlpView::read(bytes) {
-                    write_runs(&mut self.memory, frame, first, &view);
-                }
+                let view = TlpView::again(bytes);
+                write_runs(&mut self.memory, frame, first, &view);
             }
             Effect::Access(function) => {
-                if let Ok(view) = TlpView::read(bytes) {
-                    access(&mut self.registers, function, &view);
-                }
+                let view = TlpView::again(bytes);
+                access(&mut self.registers, function, &view);
             }
             Effect::Add(frame, first) => {
-                if let Ok(view) = TlpView::read(bytes) {
-                    self.memory.fetch_add(frame, first, view.payload());
-                }
+                let view = TlpView::again(bytes);
+                self.memory.fetch_add(frame, first, view.payload());
             }
         }
     }

@@ -6,6 +6,7 @@ pub mod Laws
 pub mod Places
 pub mod Layouts
 pub mod Reach
+pub mod Buses
 pub mod Tables
 pub mod Starts
 pub mod First

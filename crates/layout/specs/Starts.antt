@@ -1,5 +1,6 @@
 -- What a clause sees of a `Start`.
 use Rattle.platform.specs.Share.{Share, IsShare}
+use Rattle.layout.specs.Buses.{IsBusTable}
 use Rattle.layout.specs.Tables.{MapsOnce}
 use Rattle.layout.specs.declared.start.Start.TheInside.{Inside}
 
@@ -17,3 +18,4 @@ share_of s = record {
 pub record IsStart (s : Inside) : Type 0 where
   pub share : IsShare (share_of s)
   pub once : MapsOnce s.maps.items
+  pub buses : IsBusTable s.ports.items s.functions.items s.domain s.buses.items

@@ -2,6 +2,7 @@
 #![tactic(auto)]
 
 mod additions;
+mod buses;
 mod layout;
 mod owners;
 mod reach;

@@ -53,7 +53,12 @@ fn is_reached(
     first_buses[usize::from(line.id.bus())] && is_below(ports, line, bus)
 }
 
-fn function_at(ports: &[DownstreamPort], functions: &[EndpointFunction], bus: u8) -> Option<Bdf>
+/// The function whose first port has the bus below it.
+pub(crate) fn function_at(
+    ports: &[DownstreamPort],
+    functions: &[EndpointFunction],
+    bus: u8,
+) -> Option<Bdf>
     ensures { result ≡ function_at ports.now functions.now bus }
 {
     let first_buses = first_buses(ports, bus);
@@ -73,6 +78,6 @@ impl Start {
         if id == self.domain().host() {
             return Some(Origin::Host(self.domain()));
         }
-        function_at(self.ports(), self.functions(), id.bus()).map(Origin::Function)
+        self.bus(id.bus()).function.map(Origin::Function)
     }
 }

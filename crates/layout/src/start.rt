@@ -4,8 +4,10 @@ ghost use Rattle.std.specs.Prelude.{◌≡◌, ◌≤◌, IfOk, [], ◌∷◌};
 ghost use Rattle.std.specs.List.Sorted.{IsStrictlyIncreasing};
 ghost use Rattle.platform.specs.Share.{Share, IsShare, is_guarded};
 ghost use Rattle.layout.specs.First.{first_share};
+ghost use Rattle.layout.specs.Buses.{bus_entry};
 ghost use Rattle.layout.specs.Tables.{MapsOnce};
 
+use crate::buses::{BusEntry, bus_table};
 use crate::layout::Layout;
 use crate::views::are_guarded;
 use fab_types::{AcsControl, Bdf, DomainId, NoMemory, PortId};
@@ -24,6 +26,8 @@ pub struct Start {
     switches: Vec<Switch>,
     ports: Vec<DownstreamPort>,
     functions: Vec<EndpointFunction>,
+    // by bus number: what that leads to
+    buses: Vec<BusEntry>,
 }
 
 impl Model for Start {
@@ -73,14 +77,18 @@ impl Start {
             id: Bdf::from_bits(0x0100),
             above: None,
         };
+        let ports = vec![in alloc; port]?;
+        let functions = vec![in alloc; function]?;
+        let buses = bus_table(alloc, &ports, &functions, port.owner)?;
         Ok(Start {
             domain: port.owner,
             budget: 256,
             frames: vec![in alloc; 0]?,
             maps: vec![in alloc; map]?,
             switches: vec![in alloc; switch]?,
-            ports: vec![in alloc; port]?,
-            functions: vec![in alloc; function]?,
+            ports,
+            functions,
+            buses,
         })
     }
 
@@ -108,6 +116,7 @@ impl Start {
             switches: Vec::from_slice(alloc, layout.switches())?,
             ports: Vec::from_slice(alloc, layout.ports())?,
             functions: Vec::from_slice(alloc, layout.functions())?,
+            buses: bus_table(alloc, layout.ports(), layout.functions(), domain)?,
         })
     }
 
@@ -123,6 +132,7 @@ impl Start {
             switches: Vec::from_slice(alloc, &self.switches)?,
             ports: Vec::from_slice(alloc, &self.ports)?,
             functions: Vec::from_slice(alloc, &self.functions)?,
+            buses: Vec::from_slice(alloc, &self.buses)?,
         })
     }
 
@@ -176,6 +186,13 @@ impl Start {
         ensures { result.now ≡ self.now.ports }
     {
         &self.ports
+    }
+
+    /// What a bus number leads to.
+    pub(crate) fn bus(&self, bus: u8) -> &BusEntry
+        ensures { result.now ≡ bus_entry self.now.ports self.now.functions self.now.domain bus }
+    {
+        &self.buses[usize::from(bus)]
     }
 
     /// All functions of the layout.

@@ -49,10 +49,11 @@ fn let_to(port: &DownstreamPort, other: Option<DownstreamPort>) -> Option<Bdf>
     }
 }
 
+// (a port whose ACS P2P Egress Control is clear lets nothing through, so no other is looked for)
 fn direct_at(ports: &[DownstreamPort], address: u64, port: &DownstreamPort) -> Option<Bdf>
     ensures { result ≡ direct_at ports.now address port.now }
 {
-    if port.holds_address(address) {
+    if !port.controls.controls_egress() || port.holds_address(address) {
         None
     } else {
         let_to(port, holder_beside(ports, port, address))

@@ -8,7 +8,7 @@ mod parts;
 mod tree;
 
 pub use egress::{direct_to, goes_directly, holder_beside};
-pub use owners::{is_function, owner_of, owns_port, port_with_secondary};
+pub use owners::{is_function, owner_of, owner_of_bus, owns_port, port_with_secondary};
 pub use parts::{
     Access, BudgetLine, CreditLimits, CreditLine, DownstreamPort, EndpointFunction, LayoutVersion,
     MapTarget, Mapping, Rights, Switch,

@@ -310,8 +310,5 @@ pub fn carriage_to_function(
     requires { IsWellMade (Downward id) bytes.now }
     ensures { result ≡ access_of start.now functions.now id (packet_of bytes.now) }
 {
-    let Ok(view) = TlpView::read(bytes) else {
-        unreachable!();
-    };
-    access_of(start, functions, id, &view)
+    access_of(start, functions, id, &TlpView::again(bytes))
 }

@@ -1,5 +1,5 @@
 -- What well-formed bytes are known to be.
-use Rattle.std.proofs.Common.{◌≡◌, ℕ, ◌+◌, ◌≤◌, Bool, true, false, ◌&&◌, cond, ltb, inl, inr, List, length, Option, Some, None, refl, ◌∙◌}
+use Rattle.std.proofs.Common.{◌≡◌, ℕ, ◌+◌, ◌≤◌, Bool, true, false, ◌&&◌, cond, ltb, inl, inr, List, length, Option, Some, None, refl, sym, ◌∙◌}
 use Rattle.std.proofs.lemmas.Bool.{or_parts, and_cases, both_ways, not-false, eqb-true, ltb-false}
 use Rattle.fab_types.specs.declared.faults.malformed.Malformed.TheVariants.{Short, Kind as NoKind}
 use Rattle.tlp_view.specs.declared.kind.Kind.{Kind}
@@ -39,6 +39,13 @@ pub malformed-short : (bytes : List ℕ) → is_short bytes ≡ true → malform
 unfolding malformed
 malformed-short bytes e = rw e refl
 
+pub not_short : (bytes : List ℕ) → malformed bytes ≡ None → is_short bytes ≡ false
+not_short bytes e = by (is_short bytes) refl
+  where
+    by : (b : Bool) → is_short bytes ≡ b → b ≡ false
+    by false f = refl
+    by true f = let no : Some Short ≡ None = sym (malformed-short bytes f) ∙ e in absurd cc
+
 pub malformed-no_kind : (bytes : List ℕ) → is_short bytes ≡ false → kind_at (fmt_at bytes) (type_at bytes) ≡ None → malformed bytes ≡ Some NoKind
 unfolding malformed
 malformed-no_kind bytes e f = rw (e, f) refl
@@ -46,6 +53,9 @@ malformed-no_kind bytes e f = rw (e, f) refl
 pub malformed-kind : (bytes : List ℕ) (kind : Kind) → is_short bytes ≡ false → kind_at (fmt_at bytes) (type_at bytes) ≡ Some kind → malformed bytes ≡ malformed_of_kind kind bytes
 unfolding malformed
 malformed-kind bytes kind e f = rw (e, f) refl
+
+pub has_kind : (bytes : List ℕ) → malformed bytes ≡ None → kind_at (fmt_at bytes) (type_at bytes) ≡ None → ⊥
+has_kind bytes e f = let no : Some NoKind ≡ None = sym (malformed-no_kind bytes (not_short bytes e) f) ∙ e in absurd cc
 
 pub view_from : (bytes : List ℕ) (kind : Kind) → is_short bytes ≡ false → kind_at (fmt_at bytes) (type_at bytes) ≡ Some kind → malformed_of_kind kind bytes ≡ None → IsView kind bytes
 view_from bytes kind long is_kind fine =

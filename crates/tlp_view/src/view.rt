@@ -1,6 +1,6 @@
 //! A packet, read in place.
 
-ghost use Rattle.std.specs.Prelude.{true, ◌≡◌, ◌^◌, ◌<◌, ◌≤◌, ◌*◌, length, ◌↔◌, take, drop, IsSome, IfSome, IfOk, IfErr};
+ghost use Rattle.std.specs.Prelude.{true, ◌≡◌, ◌^◌, ◌<◌, ◌≤◌, ◌*◌, length, ◌↔◌, take, drop, None, IsSome, IfSome, IfOk, IfErr};
 ghost use Rattle.tlp_view.specs.Packet.{Packet, dw_count, address_in, enables_in, status_in, byte_count_in, lower_address_in};
 ghost use Rattle.tlp_view.specs.Kinds.{class_of_kind, has_address, is_completion, is_memory};
 ghost use Rattle.tlp_view.specs.Bytes.{packet_of};
@@ -74,6 +74,19 @@ impl<'a> TlpView<'a> {
         match fault_of(kind, bytes) {
             Some(cause) => Err(cause),
             None => Ok(TlpView { bytes, kind }),
+        }
+    }
+
+    /// The packet that well-formed bytes are.
+    /// Whether they are is not tested.
+    #[inline]
+    pub fn again(bytes: &'a [u8]) -> TlpView<'a>
+        requires { malformed bytes.now ≡ None }
+        ensures { result ≡ packet_of bytes.now }
+    {
+        match Kind::of(bytes[0] / 32, bytes[0] % 32) {
+            Some(kind) => TlpView { bytes, kind },
+            None => unreachable!(),
         }
     }
 

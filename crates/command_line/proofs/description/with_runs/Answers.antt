@@ -2,7 +2,7 @@ use Rattle.std.proofs.Common.{◌≡◌, ◌∙◌, ap, ap₂, true}
 use Rattle.std.proofs.lemmas.Result.{IfOk-weaker}
 use Rattle.clap.specs.Words.{App, app_of, new_app, with_subcommand}
 use Rattle.clap.specs.Simple.{app_of_fields}
-use Rattle.command_line.specs.CommandLine.{program}
+use Rattle.command_line.specs.CommandLine.{program, run_commands}
 use Rattle.command_line.proofs.description.with_runs.Goals as goal
 
 abbrev required : App → App
@@ -12,6 +12,7 @@ abbrev unnamed : App → App
 unnamed a = record a { top = record a.top { no_binary_name = true } }
 
 pub returns : goal.returns
+unfolding run_commands
 returns c =
     let named_is : app_of c.in_ok-bin_name.field-0 ≡ unnamed (new_app _) =
     ap app_of_fields c.in_ok-bin_name.ensures.0 ∙ (ap app_of_fields c.no_binary_name.ensures ∙ ap unnamed c.new.ensures.app) in

@@ -1,0 +1,25 @@
+-- What a bus number leads to (PCIe 4.0, 7.5.1.3).
+use Rattle.std.specs.Prelude.{◌≡◌, ◌<◌, ℕ, ◌==◌, Bool, ◌&&◌, List, length, slice_index_or}
+use Rattle.std.specs.List.{find, list_any}
+use Rattle.platform.specs.declared.parts.DownstreamPort.{DownstreamPort}
+use Rattle.platform.specs.declared.parts.EndpointFunction.{EndpointFunction}
+use Rattle.platform.specs.Owners.{owner_of_bus}
+use Rattle.layout.specs.Reach.{function_at}
+use Rattle.layout.specs.declared.buses.BusEntry.{BusEntry}
+
+-- is it directly below a port of the domain?
+abbrev pub is_below : List DownstreamPort → ℕ → ℕ → Bool
+is_below ports domain bus = list_any (λ port. (port.owner == domain) && (port.secondary == bus)) ports
+
+abbrev pub bus_entry : List DownstreamPort → List EndpointFunction → ℕ → ℕ → BusEntry
+bus_entry ports functions domain bus = record {
+  first_port = find (λ port. port.secondary == bus) ports;
+  owner = owner_of_bus ports bus;
+  function = function_at ports functions bus;
+  is_own = is_below ports domain bus;
+}
+
+-- for a domain, the entry of each bus number
+pub record IsBusTable (ports : List DownstreamPort) (functions : List EndpointFunction) (domain : ℕ) (table : List BusEntry) : Type 0 where
+  pub long : length table ≡ 256
+  pub filled : (bus : ℕ) (other : BusEntry) → bus < 256 → slice_index_or table bus other ≡ bus_entry ports functions domain bus
