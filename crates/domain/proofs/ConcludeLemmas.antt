@@ -1,6 +1,6 @@
 -- A packet that is answered and ends, and Tags that are closed.
 use Rattle.std.proofs.Common.{◌≡◌, ℕ, ◌+◌, ◌≤◌, Bool, true, false, cond, ◌||◌, ◌&&◌, not, ◌==◌, List, [], ◌∷◌, ◌++◌, length, Option, Some, None, refl, sym, ap, ◌∙◌, arith, length-append}
-use Rattle.std.specs.Prelude.{filter}
+use Rattle.std.specs.Prelude.{filter, Result, IfOk, Ok, Err}
 use Rattle.std.specs.List.{list_any}
 use Rattle.std.specs.Option.{IsSome}
 use Rattle.fab_types.specs.declared.origin.Origin.{Origin}
@@ -9,6 +9,10 @@ use Rattle.tlp_view.specs.Runs.{runs}
 use Rattle.domain_parts.proofs.FlightLemmas.{clear_push, item_push}
 use Rattle.request_handling.specs.declared.handling.Effect.{Effect}
 use Rattle.request_handling.specs.declared.handling.Effect.TheVariants.{Leave, Block, Store, Add, Access}
+use Rattle.platform.specs.Share.{Share}
+use Rattle.request_handling.specs.declared.disposition.Disposition.{Disposition}
+use Rattle.request_handling.specs.Dispositions.{reply_of}
+use Rattle.domain.specs.Domains.{disposed}
 use Rattle.function.specs.declared.tags.OpenTag.{OpenTag}
 use Rattle.domain_parts.specs.Closings.{closed}
 use Rattle.domain_parts.specs.Ends.{EffectFits, blocked, done, replied, with_access, with_added, with_stored}
@@ -22,6 +26,20 @@ with_flight s flight = record { frames = s.frames; registers = s.registers; open
 -- one packet is in flight under a number
 pub one_item : (o : Option Emission) (x y : Emission) → o ≡ Some x → o ≡ Some y → x ≡ y
 one_item o x y e f = cc
+
+pub if_ok : {A E : Type 0} (r : Result A E) (P Q : A → Type 0) → ((a : A) → P a → Q a) → IfOk r P → IfOk r Q
+if_ok (Ok a) P Q h p = h a p
+if_ok (Err e) P Q h p = tt
+
+-- what answers a packet that stands under a number, by the fields of the state
+pub answer_is : (share : Share) (inside seen : Alone) (n : ℕ) (x e : Emission) (d : Disposition) (memory pages : List (ℕ × List ℕ)) (reply : Option Emission) → inside ≡ seen → item_at inside.flight n ≡ Some x → item_at seen.flight n ≡ Some e
+    → memory ≡ inside.frames → pages ≡ inside.registers → reply ≡ reply_of share memory pages (packet_of x.bytes) d → reply ≡ (disposed share seen e d).reply
+answer_is share inside seen n x e d memory pages reply same there is frames registers made =
+    made
+    ∙ ap (λ (m : List (ℕ × List ℕ)). reply_of share m pages (packet_of x.bytes) d) frames
+    ∙ ap (λ (r : List (ℕ × List ℕ)). reply_of share inside.frames r (packet_of x.bytes) d) registers
+    ∙ ap (λ (s : Alone). reply_of share s.frames s.registers (packet_of x.bytes) d) same
+    ∙ ap (λ (y : Emission). reply_of share seen.frames seen.registers (packet_of y.bytes) d) (one_item (item_at seen.flight n) x e (ap (λ (s : Alone). item_at s.flight n) (sym same) ∙ there) is)
 
 -- ---- the reply is put into flight before the packet leaves it
 
@@ -55,13 +73,26 @@ concludes s t u o n e d h is sent does =
     let there : item_at t.flight n ≡ Some e = ap (λ (v : Alone). item_at v.flight n) sent ∙ (item_replied s o n h ∙ is) in
     ap (λ (v : Alone). without v n) (does e there ∙ ap (λ (v : Alone). done v e.bytes d) sent) ∙ ended_answered s o n e.bytes d h
 
-pub fits_after : (s t : Alone) (o : Option Emission) (n : ℕ) (d : Effect) (e : Emission) → IsSome (item_at s.flight n) → t ≡ replied s o → ((x : Emission) → item_at s.flight n ≡ Some x → EffectFits x d)
+fits_replied : (s t : Alone) (o : Option Emission) (n : ℕ) (d : Effect) (e : Emission) → IsSome (item_at s.flight n) → t ≡ replied s o → ((x : Emission) → item_at s.flight n ≡ Some x → EffectFits x d)
     → item_at t.flight n ≡ Some e → EffectFits e d
-fits_after s t o n d e h sent fits is = fits e (sym (item_replied s o n h) ∙ (ap (λ (v : Alone). item_at v.flight n) (sym sent) ∙ is))
+fits_replied s t o n d e h sent fits is = fits e (sym (item_replied s o n h) ∙ (ap (λ (v : Alone). item_at v.flight n) (sym sent) ∙ is))
 
-pub unblocked : (s t : Alone) (o : Option Emission) → t ≡ replied s o → t.counts ≡ s.counts
-unblocked s t None sent = ap (λ (v : Alone). v.counts) sent
-unblocked s t (Some x) sent = ap (λ (v : Alone). v.counts) sent
+pub fits_after : (s t : Alone) (reply : Emission → Option Emission) (n : ℕ) (d : Effect) (e : Emission) → IsSome (item_at s.flight n) → ((x : Emission) → item_at s.flight n ≡ Some x → t ≡ replied s (reply x))
+    → ((x : Emission) → item_at s.flight n ≡ Some x → EffectFits x d) → item_at t.flight n ≡ Some e → EffectFits e d
+fits_after s t reply n d e h sent fits is = by (item_at s.flight n) refl h where
+  by : (o : Option Emission) → item_at s.flight n ≡ o → IsSome o → EffectFits e d
+  by None there some = absurd cc
+  by (Some x) there some = fits_replied s t (reply x) n d e h (sent x there) fits is
+
+pub unblocked : (s t : Alone) (reply : Emission → Option Emission) (n : ℕ) → IsSome (item_at s.flight n) → ((x : Emission) → item_at s.flight n ≡ Some x → t ≡ replied s (reply x)) → t.counts ≡ s.counts
+unblocked s t reply n h sent = by (item_at s.flight n) refl h where
+  kept : (o : Option Emission) → t ≡ replied s o → t.counts ≡ s.counts
+  kept None is = ap (λ (v : Alone). v.counts) is
+  kept (Some x) is = ap (λ (v : Alone). v.counts) is
+
+  by : (o : Option Emission) → item_at s.flight n ≡ o → IsSome o → t.counts ≡ s.counts
+  by None there some = absurd cc
+  by (Some x) there some = kept (reply x) (sent x there)
 
 -- ---- an open Tag that is closed gives its room to a record
 

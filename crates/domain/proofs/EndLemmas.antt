@@ -1,6 +1,6 @@
 -- How a packet in flight ends is what the machine says of its entry.
-use Rattle.std.proofs.Common.{◌≡◌, ℕ, ◌/◌, Bool, true, false, cond, List, Option, Some, None, refl, sym, ap, ◌∙◌, subst, inl}
-use Rattle.std.specs.Prelude.{nat_lt, option_map}
+use Rattle.std.proofs.Common.{◌≡◌, ℕ, ◌/◌, ◌≤◌, Bool, true, false, ◌&&◌, ◌||◌, ◌==◌, cond, List, length, Option, Some, None, refl, sym, ap, ◌∙◌, subst, inl}
+use Rattle.std.specs.Prelude.{IfSome, MatchOption, nat_lt, option_map}
 use Rattle.fab_types.specs.declared.faults.malformed.Malformed.{Malformed}
 use Rattle.fab_types.specs.declared.head.Parties.{Parties}
 use Rattle.fab_types.specs.declared.head.Parties.TheVariants.{Upward, Downward, Answer}
@@ -14,11 +14,13 @@ use Rattle.platform.specs.Share.{Share}
 use Rattle.layout.specs.Tables.{target_of}
 use Rattle.tlp_view.specs.Bytes.{packet_of}
 use Rattle.tlp_view.specs.Malformed.{malformed}
-use Rattle.tlp_view.specs.Packet.{Packet, dw_count}
+use Rattle.tlp_view.specs.Packet.{Packet, dw_count, status_in}
 use Rattle.tlp_view.specs.Runs.{is_write}
 use Rattle.domain_parts.proofs.PageFits.{operand_in_page, write_in_page}
 use Rattle.request_handling.specs.declared.handling.Effect.TheVariants.{Leave, Access}
+use Rattle.request_handling.specs.declared.disposition.Disposition.{Disposition}
 use Rattle.request_handling.specs.declared.handling.Handling.{Handling}
+use Rattle.request_handling.specs.Dispositions.{Suits}
 use Rattle.domain.specs.declared.entry.Entry.TheVariants.{Carry, Deliver, Refuse}
 use Rattle.request_handling.specs.declared.fate.Fate.{Fate}
 use Rattle.request_handling.specs.declared.fate.Fate.TheVariants.{Vanish, Refused, ToHost, Direct}
@@ -27,7 +29,7 @@ use Rattle.request_handling.specs.Answers.{address_of, bar_of, function_answer, 
 use Rattle.request_handling.specs.AtFunctions.{access_of, request_at_function}
 use Rattle.domain.proofs.FunctionFits.{at_function_fits, effect_fits}
 use Rattle.request_handling.specs.Carries.{add_if, carriage_by, carriage_end, carriage_of, forward, frame_for, is_carried, port_id, read_from, refusal_by, refusal_end, refusal_of, serve, serve_add, serve_read, write_to}
-use Rattle.domain.specs.Domains.{DomainView, EndsBy}
+use Rattle.domain.specs.Domains.{Arrives, Disposes, DomainView, EndsBy, disposed}
 use Rattle.domain_parts.specs.Ends.{EffectFits, conclude}
 use Rattle.request_handling.specs.Fates.{fate, fate_below, fate_unless}
 use Rattle.domain.specs.Machine.{carry, change, ended, refuse}
@@ -35,14 +37,23 @@ use Rattle.request_handling.specs.Emissions.{Emission}
 use Rattle.request_handling.proofs.Discarding.{answer_discarded}
 use Rattle.domain_parts.specs.State.{Alone, Change, emits_nothing, item_at, without}
 use Rattle.domain.specs.declared.deliver.Arrival.{Arrival}
+use Rattle.domain.specs.declared.deliver.Arriving.{Arriving}
+use Rattle.domain_parts.specs.Tags.{is_open}
+use Rattle.fab_types.specs.Origins.{origin_id}
+use Rattle.fab_types.specs.declared.head.Answerer.{Answerer}
+use Rattle.fab_types.specs.declared.origin.Origin.{Origin}
+use Rattle.fab_types.specs.declared.status.Status.{Status}
 use Rattle.function.specs.declared.tags.OpenTag.{OpenTag}
-use Rattle.domain.specs.Deliveries.{arrival, arrived}
+use Rattle.domain.specs.Deliveries.{Arrivable, arrival, arrival_at, arrival_by, arrival_for, arrival_of, arrived, is_port}
 
 abbrev some : {A : Type 0} → A → Option A
 some x = Some x
 
 some_is : {A : Type 0} (x y : A) → some x ≡ some y → x ≡ y
 some_is x y e = cc
+
+arrival_is : (x y : Arrival) → some x ≡ some y → x ≡ y
+arrival_is x y e = cc
 
 -- ---- what goes on to the host is well formed
 
@@ -136,40 +147,34 @@ carriage_fits share frames registers x (Answer by y) a of e = absurd cc
 
 -- ---- a packet in flight
 
-record Ends (s : Alone) (n : ℕ) (o : Option Emission) (a : Handling) (made : Option Change) : Type 0 where
-  emission : Emission
-  waits : o ≡ Some emission
-  fits : EffectFits emission a.effect
-  made_is : made ≡ Some (conclude s n emission.bytes a)
+ended_with : (s : Alone) (n : ℕ) (o : Option Emission) (e : Emission) (a : Handling) (r : Option Handling) → o ≡ Some e → r ≡ Some a → ended s n o r ≡ Some (conclude s n e.bytes a)
+ended_with s n o e a r there is = ap (λ (x : Option Emission). ended s n x r) there ∙ ap (ended s n (Some e)) is
 
-ended_with : (s : Alone) (n : ℕ) (e : Emission) (a : Handling) (r : Option Handling) → r ≡ Some a → ended s n (Some e) r ≡ Some (conclude s n e.bytes a)
-ended_with s n e a r is = ap (ended s n (Some e)) is
+pub refused_ends : (v : DomainView) (n : ℕ) (d : Disposition) → Disposes v.share v.state (item_at v.state.flight n) d (refusal_end v.share (item_at v.state.flight n)) → EndsBy v (Refuse n) n d
+refused_ends v n d h =
+    let a = disposed v.share v.state h.emission d in
+    let on : refusal_end v.share (Some h.emission) ≡ Some a = ap (refusal_end v.share) (sym h.waits) ∙ h.is in
+    record {
+      emission = h.emission;
+      waits = h.waits;
+      suits = h.suits;
+      fits = refusal_fits v.share h.emission h.emission.parties a on;
+      step = ended_with v.state n (item_at v.state.flight n) h.emission a (refusal_end v.share (item_at v.state.flight n)) h.waits h.is;
+      own = λ _. refl;
+    }
 
-refuses : (share : Share) (s : Alone) (n : ℕ) (o : Option Emission) (a : Handling) → refusal_end share o ≡ Some a → Ends s n o a (refuse share s n o)
-refuses share s n None a is = absurd cc
-refuses share s n (Some e) a is = record {
-  emission = e;
-  waits = refl;
-  fits = refusal_fits share e e.parties a is;
-  made_is = ended_with s n e a (refusal_end share (Some e)) is;
-}
-
-carries : (share : Share) (s : Alone) (n : ℕ) (o : Option Emission) (a : Handling) → carriage_end share s.frames s.registers o ≡ Some a → Ends s n o a (carry share s n o)
-carries share s n None a is = absurd cc
-carries share s n (Some e) a is = record {
-  emission = e;
-  waits = refl;
-  fits = carriage_fits share s.frames s.registers e e.parties a refl is;
-  made_is = ended_with s n e a (carriage_end share s.frames s.registers (Some e)) is;
-}
-
-pub refused_ends : (v : DomainView) (n : ℕ) (r : Option Handling) (a : Handling) → r ≡ Some a → r ≡ refusal_end v.share (item_at v.state.flight n) → EndsBy v (Refuse n) n a
-refused_ends v n r a some is =
-    let h = refuses v.share v.state n (item_at v.state.flight n) a (sym is ∙ some) in record { emission = h.emission; waits = h.waits; fits = h.fits; step = h.made_is; own = λ _. refl }
-
-pub carried_ends : (v : DomainView) (n : ℕ) (r : Option Handling) (a : Handling) → r ≡ Some a → r ≡ carriage_end v.share v.state.frames v.state.registers (item_at v.state.flight n) → EndsBy v (Carry n) n a
-carried_ends v n r a some is =
-    let h = carries v.share v.state n (item_at v.state.flight n) a (sym is ∙ some) in record { emission = h.emission; waits = h.waits; fits = h.fits; step = h.made_is; own = λ _. refl }
+pub carried_ends : (v : DomainView) (n : ℕ) (d : Disposition) → Disposes v.share v.state (item_at v.state.flight n) d (carriage_end v.share v.state.frames v.state.registers (item_at v.state.flight n)) → EndsBy v (Carry n) n d
+carried_ends v n d h =
+    let a = disposed v.share v.state h.emission d in
+    let on : carriage_end v.share v.state.frames v.state.registers (Some h.emission) ≡ Some a = ap (carriage_end v.share v.state.frames v.state.registers) (sym h.waits) ∙ h.is in
+    record {
+      emission = h.emission;
+      waits = h.waits;
+      suits = h.suits;
+      fits = carriage_fits v.share v.state.frames v.state.registers h.emission h.emission.parties a refl on;
+      step = ended_with v.state n (item_at v.state.flight n) h.emission a (carriage_end v.share v.state.frames v.state.registers (item_at v.state.flight n)) h.waits h.is;
+      own = λ _. refl;
+    }
 
 -- ---- where it doesn't end so, the entry is illegal
 
@@ -177,36 +182,82 @@ none_ended : (s : Alone) (n : ℕ) (o : Option Emission) (r : Option Handling) �
 none_ended s n None r is = refl
 none_ended s n (Some e) r is = ap (ended s n (Some e)) is
 
-pub not_refused_here : (v : DomainView) (n : ℕ) (r : Option Handling) → r ≡ None → r ≡ refusal_end v.share (item_at v.state.flight n) → change v.share v.state (Refuse n) ≡ None
-not_refused_here v n r none is = none_ended v.state n (item_at v.state.flight n) (refusal_end v.share (item_at v.state.flight n)) (sym is ∙ none)
+pub not_refused_here : (v : DomainView) (n : ℕ) → refusal_end v.share (item_at v.state.flight n) ≡ None → change v.share v.state (Refuse n) ≡ None
+not_refused_here v n none = none_ended v.state n (item_at v.state.flight n) (refusal_end v.share (item_at v.state.flight n)) none
 
-pub not_carried : (v : DomainView) (n : ℕ) (r : Option Handling) → r ≡ None → r ≡ carriage_end v.share v.state.frames v.state.registers (item_at v.state.flight n) → change v.share v.state (Carry n) ≡ None
-not_carried v n r none is = none_ended v.state n (item_at v.state.flight n) (carriage_end v.share v.state.frames v.state.registers (item_at v.state.flight n)) (sym is ∙ none)
+pub not_carried : (v : DomainView) (n : ℕ) → carriage_end v.share v.state.frames v.state.registers (item_at v.state.flight n) ≡ None → change v.share v.state (Carry n) ≡ None
+not_carried v n none = none_ended v.state n (item_at v.state.flight n) (carriage_end v.share v.state.frames v.state.registers (item_at v.state.flight n)) none
 
 -- ---- a completion that is delivered
 
-pub record Waits (o : Option Emission) : Type 0 where
-  pub emission : Emission
-  pub is : o ≡ Some emission
-
-waits_if : (tags : List OpenTag) (o : Option Emission) (a : Arrival) → arrival tags o ≡ Some a → Waits o
-waits_if tags None a e = absurd cc
-waits_if tags (Some e) a is = record { emission = e; is = refl }
-
--- what is delivered was in flight
-pub delivered_waits : (s : Alone) (n : ℕ) (r : Option Arrival) (a : Arrival) → r ≡ Some a → r ≡ arrival s.open_tags (item_at s.flight n) → Waits (item_at s.flight n)
-delivered_waits s n r a some is = waits_if s.open_tags (item_at s.flight n) a (sym is ∙ some)
-
-pub delivered_so : (share : Share) (s t : Alone) (n : ℕ) (r : Option Arrival) (a : Arrival) → r ≡ Some a → r ≡ arrival s.open_tags (item_at s.flight n) → t ≡ arrived (without s n) a
+pub delivered_so : (share : Share) (s t : Alone) (n : ℕ) (a : Arriving) (h : Arrivable s.open_tags (item_at s.flight n) a)
+    → ((e : Emission) → item_at s.flight n ≡ Some e → t ≡ arrived (without s n) (arrival_by a e.bytes))
     → change share s (Deliver n) ≡ Some (record { state = t; emission = None })
-delivered_so share s t n r a some is left =
-    ap (option_map (λ (b : Arrival). emits_nothing (arrived (without s n) b))) (sym is ∙ some) ∙ ap (λ (u : Alone). Some (emits_nothing u)) (sym left)
+delivered_so share s t n a h left =
+    ap (option_map (λ (b : Arrival). emits_nothing (arrived (without s n) b))) h.is ∙ ap (λ (u : Alone). Some (emits_nothing u)) (sym (left h.emission h.waits))
 
--- ---- a request that is in flight to a function
+pub arrives_so : (v w : DomainView) (n : ℕ) (a : Arriving) (new : DomainView) (is_recorded : Bool) → v ≡ w → Arrivable v.state.open_tags (item_at v.state.flight n) a
+    → ((e : Emission) → item_at v.state.flight n ≡ Some e → new.state ≡ arrived (without v.state n) (arrival_by a e.bytes)) → is_recorded ≡ a.is_awaited → Arrives w n new is_recorded
+arrives_so v w n a new is_recorded same h left recorded =
+    subst (λ (u : DomainView). Arrives u n new is_recorded) same
+    (record { arrived = arrival_by a h.emission.bytes; arrival_is = h.is; state_is = left h.emission h.waits; recorded_is = recorded })
 
-pub carried_to_function : (v w : DomainView) (n g : ℕ) (p : Parties) (bytes : List ℕ) (registers : List (ℕ × List ℕ)) (r : Option Handling) → v ≡ w → item_at v.state.flight n ≡ Some (record { parties = p; bytes = bytes }) → p ≡ Downward g
-    → registers ≡ v.state.registers → r ≡ access_of v.share registers g (packet_of bytes) → r ≡ carriage_end w.share w.state.frames w.state.registers (item_at w.state.flight n)
-carried_to_function v w n g p bytes registers r same item to pages is =
-    subst (λ (u : DomainView). r ≡ carriage_end u.share u.state.frames u.state.registers (item_at u.state.flight n)) same
-    (is ∙ ap (λ (pages : List (ℕ × List ℕ)). access_of v.share pages g (packet_of bytes)) pages
-    ∙ sym (ap (carriage_end v.share v.state.frames v.state.registers) item ∙ ap (carriage_of v.share v.state.frames v.state.registers bytes) to))
+-- what is awaited has its Tag open
+awaited_first : (a b : Bool) → (a && b) ≡ true → a ≡ true
+awaited_first true b e = refl
+awaited_first false b e = absurd cc
+
+open_at : (tags : List OpenTag) (t : Packet) (by : Answerer) (owner : Origin) (bytes : List ℕ) (status : Option Status) (a : Arriving) → option_map (arrival_at tags t bytes by owner) status ≡ Some (arrival_by a bytes) → a.is_awaited ≡ true
+    → is_open tags a.owner a.tag ≡ true
+open_at tags t by owner bytes None a e awaited = absurd cc
+open_at tags t by owner bytes (Some status) a e awaited =
+    let is : arrival_at tags t bytes by owner status ≡ arrival_by a bytes = arrival_is _ _ e in
+    let owner_is : owner ≡ a.owner = ap (λ (x : Arrival). x.delivery.owner) is in
+    let tag_is : t.tag ≡ a.tag = ap (λ (x : Arrival). x.delivery.tag) is in
+    let first : is_open tags owner t.tag ≡ true = awaited_first (is_open tags owner t.tag) (is_port by || (t.requester == origin_id owner)) (ap (λ (x : Arrival). x.is_awaited) is ∙ awaited) in
+    sym (ap (λ (o : Origin). is_open tags o t.tag) owner_is ∙ ap (is_open tags a.owner) tag_is) ∙ first
+
+open_for : (tags : List OpenTag) (bytes : List ℕ) (p : Parties) (a : Arriving) → arrival_of tags bytes p ≡ Some (arrival_by a bytes) → a.is_awaited ≡ true → is_open tags a.owner a.tag ≡ true
+open_for tags bytes (Upward f) a e awaited = absurd cc
+open_for tags bytes (Downward f) a e awaited = absurd cc
+open_for tags bytes (Answer by None) a e awaited = absurd cc
+open_for tags bytes (Answer by (Some owner)) a e awaited = open_at tags (packet_of bytes) by owner bytes (status_in (packet_of bytes).body) a e awaited
+
+pub arrivable_open : (tags : List OpenTag) (item : Option Emission) (a : Arriving) → Arrivable tags item a → a.is_awaited ≡ true → is_open tags a.owner a.tag ≡ true
+arrivable_open tags item a h awaited = open_for tags h.emission.bytes h.emission.parties a (ap (arrival tags) (sym h.waits) ∙ h.is) awaited
+
+-- what a packet in flight is to its addressee
+pub arrivable : (tags : List OpenTag) (item : Option Emission) (e : Emission) (o : Option Arriving) → item ≡ Some e → malformed e.bytes ≡ None → length e.bytes ≤ 272 → option_map (λ (a : Arriving). arrival_by a e.bytes) o ≡ arrival tags item
+    → MatchOption o (arrival tags item ≡ None) (λ a. Arrivable tags item a)
+arrivable tags item e None there good short is = sym is
+arrivable tags item e (Some a) there good short is = record { emission = e; waits = there; well_formed = good; short = short; is = sym is }
+
+-- ---- what is done about a packet in flight
+
+-- a packet that is in flight ends as its taker decided, if it ends there
+pub disposes : (share : Share) (s : Alone) (item : Option Emission) (e : Emission) (end : Option Handling) (o : Option Disposition) → item ≡ Some e → option_map (disposed share s e) o ≡ end → IfSome o (λ d. Suits e.bytes d)
+    → MatchOption o (end ≡ None) (λ d. Disposes share s item d end)
+disposes share s item e end None there is suits = sym is
+disposes share s item e end (Some d) there is suits = record { emission = e; waits = there; suits = suits; is = sym is }
+
+pub refused_here : (v w : DomainView) (n : ℕ) (e : Emission) (o : Option Disposition) → v ≡ w → item_at v.state.flight n ≡ Some e → option_map (disposed v.share v.state e) o ≡ refusal_of v.share e.bytes e.parties → IfSome o (λ d. Suits e.bytes d)
+    → MatchOption o (refusal_end w.share (item_at w.state.flight n) ≡ None) (λ d. Disposes w.share w.state (item_at w.state.flight n) d (refusal_end w.share (item_at w.state.flight n)))
+refused_here v w n e o same there is suits =
+    subst (λ (u : DomainView). MatchOption o (refusal_end u.share (item_at u.state.flight n) ≡ None) (λ d. Disposes u.share u.state (item_at u.state.flight n) d (refusal_end u.share (item_at u.state.flight n)))) same
+    (disposes v.share v.state (item_at v.state.flight n) e (refusal_end v.share (item_at v.state.flight n)) o there (is ∙ ap (refusal_end v.share) (sym there)) suits)
+
+pub carried_here : (v w : DomainView) (n : ℕ) (e : Emission) (o : Option Disposition) → v ≡ w → item_at v.state.flight n ≡ Some e → option_map (disposed v.share v.state e) o ≡ carriage_of v.share v.state.frames v.state.registers e.bytes e.parties
+    → IfSome o (λ d. Suits e.bytes d)
+    → MatchOption o (carriage_end w.share w.state.frames w.state.registers (item_at w.state.flight n) ≡ None)
+    (λ d. Disposes w.share w.state (item_at w.state.flight n) d (carriage_end w.share w.state.frames w.state.registers (item_at w.state.flight n)))
+carried_here v w n e o same there is suits =
+    subst (λ (u : DomainView). MatchOption o (carriage_end u.share u.state.frames u.state.registers (item_at u.state.flight n) ≡ None)
+    (λ d. Disposes u.share u.state (item_at u.state.flight n) d (carriage_end u.share u.state.frames u.state.registers (item_at u.state.flight n)))) same
+    (disposes v.share v.state (item_at v.state.flight n) e (carriage_end v.share v.state.frames v.state.registers (item_at v.state.flight n)) o there (is ∙ ap (carriage_end v.share v.state.frames v.state.registers) (sym there)) suits)
+
+pub arrives_for : (tags : List OpenTag) (bytes : List ℕ) (by : Answerer) (addressee : Option Origin) (owner : Origin) (status : Status) (t : Packet) (a : Arrival) → addressee ≡ Some owner → t ≡ packet_of bytes → status_in t.body ≡ Some status
+    → a ≡ arrival_at tags t bytes by owner status → some a ≡ arrival_for tags bytes by addressee
+arrives_for tags bytes by addressee owner status t a to same has is =
+    ap some (is ∙ ap (λ (u : Packet). arrival_at tags u bytes by owner status) same)
+    ∙ ap (option_map (arrival_at tags (packet_of bytes) bytes by owner)) (sym (ap (λ (u : Packet). status_in u.body) (sym same) ∙ has))
+    ∙ ap (arrival_for tags bytes by) (sym to)

@@ -8,8 +8,8 @@ use Rattle.platform.specs.Share.{Share}
 use Rattle.domain.specs.declared.entry.Entry.{Entry}
 use Rattle.domain.specs.declared.entry.Entry.TheVariants.{Submit}
 use Rattle.request_handling.specs.declared.handling.Effect.{Effect}
-use Rattle.request_handling.specs.declared.handling.Handling.{Handling}
-use Rattle.domain.specs.Domains.{DomainView, EndsBy, Makes}
+use Rattle.domain.specs.Domains.{DomainView, EndsBy, Makes, disposed}
+use Rattle.request_handling.specs.declared.disposition.Disposition.{Disposition}
 use Rattle.domain_parts.specs.Ends.{EffectFits, conclude}
 use Rattle.request_handling.specs.Heads.{descriptor_of}
 use Rattle.domain.specs.Machine.{aliens_in, change, step_from, replay_from, replay, with_alien}
@@ -82,8 +82,8 @@ pub room_stays : (entries budget : ℕ) (js js' : List Entry) (x : Entry) → js
 room_stays entries budget js js' x grown own is = is ∙ ap (λ (k : ℕ). 4 * budget + 3 * k) (sym (aliens_more js js' x grown ∙ own))
 
 -- a domain seen by its fields
-pub ends_seen : (v w : DomainView) (e : Entry) (n : ℕ) (a : Handling) → v ≡ w → EndsBy w e n a → EndsBy v e n a
-ends_seen v w e n a same h = subst (λ (u : DomainView). EndsBy u e n a) (sym same) h
+pub ends_seen : (v w : DomainView) (e : Entry) (n : ℕ) (d : Disposition) → v ≡ w → EndsBy w e n d → EndsBy v e n d
+ends_seen v w e n d same h = subst (λ (u : DomainView). EndsBy u e n d) (sym same) h
 
 abbrev some : {A : Type 0} → A → Option A
 some x = Some x
@@ -96,9 +96,9 @@ pub fits_each : (o : Option Emission) (e x : Emission) (d : Effect) → o ≡ So
 fits_each o e x d is fits other = subst (λ (y : Emission). EffectFits y d) (some_is x e (sym is ∙ other)) fits
 
 -- the change that an end makes, by the state that it leaves
-pub ended_so : (v : DomainView) (e : Entry) (n : ℕ) (a : Handling) (t : Alone) (h : EndsBy v e n a) → ((x : Emission) → item_at v.state.flight n ≡ Some x → t ≡ (conclude v.state n x.bytes a).state)
-    → change v.share v.state e ≡ Some (record { state = t; emission = a.reply })
-ended_so v e n a t h is = h.step ∙ ap (λ (u : Alone). Some (record { state = u; emission = a.reply })) (sym (is h.emission h.waits))
+pub ended_so : (v : DomainView) (e : Entry) (n : ℕ) (d : Disposition) (t : Alone) (h : EndsBy v e n d) → ((x : Emission) → item_at v.state.flight n ≡ Some x → t ≡ (conclude v.state n x.bytes (disposed v.share v.state x d)).state)
+    → change v.share v.state e ≡ Some (record { state = t; emission = (disposed v.share v.state h.emission d).reply })
+ended_so v e n d t h is = h.step ∙ ap (λ (u : Alone). Some (record { state = u; emission = (disposed v.share v.state h.emission d).reply })) (sym (is h.emission h.waits))
 
 pub makes_end : (v new : DomainView) (e : Entry) (o : Option Emission) (sent : Option Descriptor) → new.share ≡ v.share → new.journal ≡ v.journal ++ e ∷ []
     → change v.share v.state e ≡ Some (record { state = new.state; emission = o }) → sent ≡ option_map (descriptor_of v.share.domain (length v.state.flight)) o → Makes v e new sent

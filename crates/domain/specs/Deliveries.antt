@@ -1,5 +1,5 @@
 -- What becomes of a completion at the function or host that it goes to (PCIe 4.0, 2.3.2).
-use Rattle.std.specs.Prelude.{ℕ, ◌+◌, ◌==◌, Bool, true, false, ◌&&◌, ◌||◌, List, [], ◌∷◌, ◌++◌, Option, Some, None, option_map, if◌then◌else◌}
+use Rattle.std.specs.Prelude.{◌≡◌, ◌≤◌, length, ℕ, ◌+◌, ◌==◌, Bool, true, false, ◌&&◌, ◌||◌, List, [], ◌∷◌, ◌++◌, Option, Some, None, option_map, if◌then◌else◌}
 use Rattle.fab_types.specs.declared.head.Answerer.{Answerer}
 use Rattle.fab_types.specs.declared.head.Answerer.TheVariants as by
 use Rattle.fab_types.specs.declared.head.Parties.{Parties}
@@ -7,8 +7,10 @@ use Rattle.fab_types.specs.declared.head.Parties.TheVariants.{Upward, Downward, 
 use Rattle.fab_types.specs.declared.origin.Origin.{Origin}
 use Rattle.fab_types.specs.declared.status.Status.{Status}
 use Rattle.tlp_view.specs.Bytes.{packet_of}
+use Rattle.tlp_view.specs.Malformed.{malformed}
 use Rattle.tlp_view.specs.Packet.{Packet, status_in}
 use Rattle.domain.specs.declared.deliver.Arrival.{Arrival}
+use Rattle.domain.specs.declared.deliver.Arriving.{Arriving}
 use Rattle.function.specs.declared.tags.OpenTag.{OpenTag}
 use Rattle.fab_types.specs.Origins.{origin_id}
 use Rattle.domain_parts.specs.Closings.{closed, completed, use_of}
@@ -33,6 +35,10 @@ abbrev pub arrival_at : List OpenTag → Packet → List ℕ → Answerer → Or
 arrival_at tags t bytes answerer owner status =
     record { delivery = delivery_of owner t status bytes; is_awaited = is_awaited tags answerer owner t }
 
+-- what is known of it without its bytes, and those
+abbrev pub arrival_by : Arriving → List ℕ → Arrival
+arrival_by a bytes = record { delivery = record { owner = a.owner; tag = a.tag; status = a.status; bytes = bytes }; is_awaited = a.is_awaited }
+
 -- a packet that has no status is no completion, and arrives at nobody
 abbrev pub arrival_for : List OpenTag → List ℕ → Answerer → Option Origin → Option Arrival
 arrival_for tags bytes answerer None = None
@@ -47,6 +53,14 @@ arrival_of tags bytes (Answer answerer addressee) = arrival_for tags bytes answe
 abbrev pub arrival : List OpenTag → Option Emission → Option Arrival
 arrival tags None = None
 arrival tags (Some e) = arrival_of tags e.bytes e.parties
+
+-- the packet in flight may arrive so, which is what it is to its addressee
+pub record Arrivable (tags : List OpenTag) (item : Option Emission) (a : Arriving) : Type 0 where
+  pub emission : Emission
+  pub waits : item ≡ Some emission
+  pub well_formed : malformed emission.bytes ≡ None
+  pub short : length emission.bytes ≤ 272
+  pub is : arrival tags item ≡ Some (arrival_by a emission.bytes)
 
 -- the Tag is closed, its data go where they were asked for, and the completion is recorded
 abbrev pub recorded : Alone → Delivery → Alone

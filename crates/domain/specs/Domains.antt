@@ -9,7 +9,10 @@ use Rattle.domain.specs.declared.consume.EntryFault.TheVariants.{Illegal}
 use Rattle.domain.specs.declared.consume.EntryFault.TheVariants as end
 use Rattle.domain.specs.declared.entry.Entry.{Entry}
 use Rattle.domain.specs.declared.deliver.Arrival.{Arrival}
+use Rattle.request_handling.specs.declared.disposition.Disposition.{Disposition}
 use Rattle.request_handling.specs.declared.handling.Handling.{Handling}
+use Rattle.request_handling.specs.Dispositions.{Suits, effect_of, handling}
+use Rattle.tlp_view.specs.Bytes.{packet_of}
 use Rattle.domain.specs.Deliveries.{arrival, record_of_arrival}
 use Rattle.domain.specs.Deliveries.{arrived as arrived_state}
 use Rattle.domain_parts.specs.Ends.{EffectFits, conclude}
@@ -17,6 +20,10 @@ use Rattle.request_handling.specs.Emissions.{Emission}
 use Rattle.domain_parts.specs.State.{Alone, Change, Delivery, item_at, without}
 use Rattle.request_handling.specs.Heads.{descriptor_of}
 use Rattle.domain.specs.Machine.{change, with_alien}
+
+-- what is done about a packet in flight that ends so
+abbrev pub disposed : Share → Alone → Emission → Disposition → Handling
+disposed share s e d = handling share s.frames s.registers (packet_of e.bytes) d
 
 -- what the layout gives the domain, its state, and its journal
 pub record DomainView : Type 0 where
@@ -60,12 +67,20 @@ abbrev pub IsStray : DomainView → Entry → Descriptor → FrameFault → Type
 IsStray old entry frame (Stray given) = (given ≡ frame) × (frame.domain ≡ old.share.domain → change old.share old.state entry ≡ None)
 IsStray old entry frame (NoMemory given) = ⊥
 
+-- the packet in flight may end so, which is what the machine says that it does
+pub record Disposes (share : Share) (s : Alone) (item : Option Emission) (d : Disposition) (end : Option Handling) : Type 0 where
+  pub emission : Emission
+  pub waits : item ≡ Some emission
+  pub suits : Suits emission.bytes d
+  pub is : end ≡ Some (disposed share s emission d)
+
 -- a packet in flight ends so, which is what the machine says of the entry
-pub record EndsBy (old : DomainView) (entry : Entry) (n : ℕ) (handling : Handling) : Type 0 where
+pub record EndsBy (old : DomainView) (entry : Entry) (n : ℕ) (d : Disposition) : Type 0 where
   pub emission : Emission
   pub waits : item_at old.state.flight n ≡ Some emission
-  pub fits : EffectFits emission handling.effect
-  pub step : change old.share old.state entry ≡ Some (conclude old.state n emission.bytes handling)
+  pub suits : Suits emission.bytes d
+  pub fits : EffectFits emission (effect_of d)
+  pub step : change old.share old.state entry ≡ Some (conclude old.state n emission.bytes (disposed old.share old.state emission d))
   pub own : (aliens : ℕ) → with_alien entry aliens ≡ aliens
 
 -- The completion of this number arrived at whom it is for, and a record was made of it exactly where that is said

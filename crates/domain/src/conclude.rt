@@ -2,21 +2,24 @@
 
 ghost use Rattle.std.specs.Prelude.{◌≡◌, ◌+◌, ◌<◌, ◌≤◌, ◌^◌, IfOk, IsSome, OnErr, length, option_map, vec_capacity, true, None, Some, ◌++◌, ◌∷◌, []};
 ghost use Rattle.tlp_view.specs.Bytes.{packet_of};
-ghost use Rattle.domain.specs.Deliveries.{arrived};
+ghost use Rattle.domain.specs.Deliveries.{Arrivable, arrival_by, arrived, recorded, unexpected};
 ghost use Rattle.domain_parts.specs.Closings.{closed, completed, use_of};
 ghost use Rattle.domain_parts.specs.Ends.{EffectFits, conclude, done, replied};
 ghost use Rattle.request_handling.specs.Heads.{descriptor_of};
+ghost use Rattle.request_handling.specs.Dispositions.{Suits, effect_of};
 ghost use Rattle.request_handling.specs.Emissions.{Emission};
+ghost use Rattle.domain.specs.Domains.{disposed};
 ghost use Rattle.domain_parts.specs.State.{item_at, without};
 ghost use Rattle.domain_parts.specs.Tags.{is_open};
 
-use crate::deliver::{Arrival, Record};
+use crate::deliver::{Arrival, Arriving, Record};
 use crate::state::State;
 use domain_parts::{close, complete, use_of};
 use fab_types::{DomainId, NoMemory};
 use frame_log::Frame;
 use function::{Function, OpenTag};
-use request_handling::{Effect, Handling, Reply};
+use layout::Start;
+use request_handling::{Disposition, Effect, Reply};
 use std::sync::Wait;
 use tlp_view::TlpView;
 
@@ -82,25 +85,47 @@ impl State {
         }
     }
 
+    /// Emits what answers the packet of this number, which ends so. Where memory was refused nothing changes.
+    fn answer<R: Wait>(
+        &mut self,
+        rt: &R,
+        start: &Start,
+        number: u64,
+        disposition: Disposition,
+    ) -> Result<Option<Frame>, NoMemory>
+        requires waits { IsSome (item_at self.old.flight number) }
+        requires suits { (e : Emission) → item_at self.old.flight number ≡ Some e → Suits e.bytes disposition }
+        ensures state { IfOk result (λ _. (e : Emission) → item_at self.old.flight number ≡ Some e → self.new ≡ replied self.old (disposed start.now self.old e disposition).reply) }
+        ensures sent { IfOk result (λ sent. (e : Emission) → item_at self.old.flight number ≡ Some e → sent ≡ option_map (descriptor_of start.now.domain (length self.old.flight)) (disposed start.now self.old e disposition).reply) }
+        ensures err { OnErr result ((self.new ≡ self.old) × ((e : Emission) → item_at self.old.flight number ≡ Some e → IsSome (disposed start.now self.old e disposition).reply)) }
+    {
+        let Some((_, bytes)) = self.flight.item(number) else {
+            unreachable!();
+        };
+        let (memory, registers) = (&self.contents.memory, &self.contents.registers);
+        let reply = disposition.reply(start, memory, registers, bytes);
+        self.send(rt, start.domain(), reply)
+    }
+
     /// Ends the packet of this number: emits what answers it, and does what its end does. Where memory
     /// was refused, which comes only where something answers it, nothing changes.
     pub(crate) fn conclude<R: Wait>(
         &mut self,
         rt: &R,
-        domain: DomainId,
+        start: &Start,
         number: u64,
-        handling: Handling,
+        disposition: Disposition,
     ) -> Result<Option<Frame>, NoMemory>
         requires waits { IsSome (item_at self.old.flight number) }
         requires blocks { self.old.counts.blocked + 1 < 2 ^ 64 }
-        requires fits { (e : Emission) → item_at self.old.flight number ≡ Some e → EffectFits e handling.effect }
-        ensures state { IfOk result (λ _. (e : Emission) → item_at self.old.flight number ≡ Some e → self.new ≡ (conclude self.old number e.bytes handling).state) }
-        ensures sent { IfOk result (λ sent. sent ≡ option_map (descriptor_of domain (length self.old.flight)) handling.reply) }
-        ensures err { OnErr result ((self.new ≡ self.old) × IsSome handling.reply) }
+        requires suits { (e : Emission) → item_at self.old.flight number ≡ Some e → Suits e.bytes disposition }
+        requires fits { (e : Emission) → item_at self.old.flight number ≡ Some e → EffectFits e (effect_of disposition) }
+        ensures state { IfOk result (λ _. (e : Emission) → item_at self.old.flight number ≡ Some e → self.new ≡ (conclude self.old number e.bytes (disposed start.now self.old e disposition)).state) }
+        ensures sent { IfOk result (λ sent. (e : Emission) → item_at self.old.flight number ≡ Some e → sent ≡ option_map (descriptor_of start.now.domain (length self.old.flight)) (disposed start.now self.old e disposition).reply) }
+        ensures err { OnErr result ((self.new ≡ self.old) × ((e : Emission) → item_at self.old.flight number ≡ Some e → IsSome (disposed start.now self.old e disposition).reply)) }
     {
-        let Handling { effect, reply } = handling;
-        let sent = self.send(rt, domain, reply)?;
-        self.perform(number, effect);
+        let sent = self.answer(rt, start, number, disposition)?;
+        self.perform(number, disposition.effect());
         self.flight.end(number);
         Ok(sent)
     }
@@ -116,24 +141,63 @@ impl State {
             is_awaited,
         } = arrival;
         if is_awaited {
-            complete_line(&mut self.contents.registers, &self.open_tags, &delivery);
-            record(&mut self.open_tags, &mut self.records, delivery);
+            self.keep(delivery);
         } else {
-            self.contents.counts.unexpected += 1;
+            self.count_unexpected();
+        }
+    }
+
+    /// Keeps the record of a completion that was awaited.
+    fn keep(&mut self, delivery: Record)
+        requires { is_open self.old.open_tags delivery.owner delivery.tag ≡ true }
+        ensures { self.new ≡ recorded self.old delivery }
+    {
+        complete_line(&mut self.contents.registers, &self.open_tags, &delivery);
+        record(&mut self.open_tags, &mut self.records, delivery);
+    }
+
+    /// Counts a completion that nobody waits for.
+    fn count_unexpected(&mut self)
+        requires { self.old.counts.unexpected + 1 < 2 ^ 64 }
+        ensures { self.new ≡ unexpected self.old }
+    {
+        self.contents.counts.unexpected += 1;
+    }
+
+    /// The packet of this number is in flight no more.
+    fn end(&mut self, number: u64)
+        ensures { self.new ≡ without self.old number }
+    {
+        self.flight.end(number);
+    }
+
+    /// The record of the packet of this number, which arrives so.
+    fn record_of(&self, number: u64, arriving: &Arriving) -> Record
+        requires { Arrivable self.now.open_tags (item_at self.now.flight number) arriving.now }
+        ensures { (e : Emission) → item_at self.now.flight number ≡ Some e → result ≡ (arrival_by arriving.now e.bytes).delivery }
+    {
+        match self.flight.item(number) {
+            Some((_, bytes)) => arriving.record(bytes),
+            None => unreachable!(),
         }
     }
 
     /// Ends the packet of this number, a completion that is delivered so. Was a record made of it, since its
     /// addressee waited for it?
-    pub(crate) fn deliver(&mut self, number: u64, arrival: Arrival) -> bool
+    pub(crate) fn deliver(&mut self, number: u64, arriving: Arriving) -> bool
         requires counts { self.old.counts.unexpected + 1 < 2 ^ 64 }
-        requires is_open { arrival.is_awaited ≡ true → is_open self.old.open_tags (arrival.delivery).owner (arrival.delivery).tag ≡ true }
-        ensures state { self.new ≡ arrived (without self.old number) arrival }
-        ensures record { result ≡ arrival.is_awaited }
+        requires arrives { Arrivable self.old.open_tags (item_at self.old.flight number) arriving }
+        ensures state { (e : Emission) → item_at self.old.flight number ≡ Some e → self.new ≡ arrived (without self.old number) (arrival_by arriving e.bytes) }
+        ensures record { result ≡ arriving.is_awaited }
     {
-        let is_recorded = arrival.is_awaited;
-        self.flight.end(number);
-        self.arrive(arrival);
-        is_recorded
+        if arriving.is_awaited {
+            let delivery = self.record_of(number, &arriving);
+            self.end(number);
+            self.keep(delivery);
+        } else {
+            self.end(number);
+            self.count_unexpected();
+        }
+        arriving.is_awaited
     }
 }

@@ -1,6 +1,6 @@
 //! The end of a packet: at its sender's first port, at its completer, or at the one that it answers.
 
-ghost use Rattle.std.specs.Prelude.{◌≡◌, Some, None, IfOk, IfErr, IfSome, OnErr, OnOk, option_map};
+ghost use Rattle.std.specs.Prelude.{◌≡◌, Some, None, IfOk, IfErr, IfSome, MatchOption, OnErr, OnOk, option_map};
 ghost use Rattle.frame_log.specs.Descriptor.{IsCompletion};
 ghost use Rattle.domain_parts.specs.Ends.{conclude};
 
@@ -9,9 +9,7 @@ use crate::domain::Domain;
 use crate::entry::Entry;
 use fab_types::{Parties, PortId};
 use frame_log::{Frame, FrameFault};
-use request_handling::{
-    Handling, carriage_to_function, carriage_up, refusal_of, refusal_of_completion,
-};
+use request_handling::{Disposition, access_of, carriage_up, refusal_of, refusal_of_completion};
 use std::sync::Wait;
 
 /// Why an entry was not done.
@@ -28,12 +26,13 @@ impl Domain {
     ghost use Rattle.domain.specs.declared.entry.Entry.TheVariants.{Carry, Deliver, Refuse};
     ghost use Rattle.request_handling.specs.Carries.{carriage_end, refusal_end};
     ghost use Rattle.domain.specs.Deliveries.{arrival};
-    ghost use Rattle.domain.specs.Domains.{Arrives, Delivers, EndsBy, IsEntryFault, IsRefused, IsStray, Makes};
+    ghost use Rattle.domain.specs.Domains.{Arrives, Delivers, Disposes, EndsBy, IsEntryFault, IsRefused, IsStray, Makes};
     ghost use Rattle.domain_parts.specs.State.{item_at};
 
     /// How a packet in flight ends at its sender's first port, if it ends there.
-    fn refusal_end(&self, number: u64) -> Option<Handling>
-        ensures { result ≡ refusal_end self.now.share (item_at self.now.state.flight number) }
+    fn refusal_end(&self, number: u64) -> Option<Disposition>
+        ensures { MatchOption result (refusal_end self.now.share (item_at self.now.state.flight number) ≡ None)
+            (λ d. Disposes self.now.share self.now.state (item_at self.now.state.flight number) d (refusal_end self.now.share (item_at self.now.state.flight number))) }
     {
         let Some((parties, bytes)) = self.state.item(number) else {
             return None;
@@ -46,20 +45,19 @@ impl Domain {
     }
 
     /// How a packet in flight ends at its completer, if it ends there.
-    fn carriage_end(&self, number: u64) -> Option<Handling>
-        ensures { result ≡ carriage_end self.now.share self.now.state.frames self.now.state.registers (item_at self.now.state.flight number) }
+    fn carriage_end(&self, number: u64) -> Option<Disposition>
+        ensures { MatchOption result (carriage_end self.now.share self.now.state.frames self.now.state.registers (item_at self.now.state.flight number) ≡ None)
+            (λ d. Disposes self.now.share self.now.state (item_at self.now.state.flight number) d (carriage_end self.now.share self.now.state.frames self.now.state.registers (item_at self.now.state.flight number))) }
     {
         let Some((parties, bytes)) = self.state.item(number) else {
             return None;
         };
         match parties {
             Parties::Upward(function) => {
-                let (memory, functions) = (self.state.memory(), self.state.functions());
-                carriage_up(&self.start, &self.table, memory, functions, function, bytes)
+                let functions = self.state.functions();
+                carriage_up(&self.start, &self.table, functions, function, bytes)
             }
-            Parties::Downward(function) => {
-                carriage_to_function(&self.start, self.state.functions(), function, bytes)
-            }
+            Parties::Downward(function) => access_of(self.state.functions(), function),
             Parties::Answer(..) => None,
         }
     }
@@ -70,15 +68,14 @@ impl Domain {
         rt: &R,
         entry: Entry,
         number: u64,
-        handling: Handling,
+        disposition: Disposition,
     ) -> Result<Option<Frame>, EntryFault>
-        requires { EndsBy self.old entry number handling }
+        requires { EndsBy self.old entry number disposition }
         ensures ok { IfOk result (λ sent. Makes self.old entry self.new sent) }
         ensures fault { IfErr result (λ fault. IsEntryFault self.old entry fault) }
         ensures err { OnErr result (self.new ≡ self.old) }
     {
-        let domain = self.start.domain();
-        let Ok(sent) = self.state.conclude(rt, domain, number, handling) else {
+        let Ok(sent) = self.state.conclude(rt, &self.start, number, disposition) else {
             return Err(EntryFault::NoMemory);
         };
         self.journal.push_reserved(entry);
@@ -96,10 +93,10 @@ impl Domain {
         ensures fault { IfErr result (λ fault. IsEntryFault self.old (Refuse number) fault) }
         ensures err { OnErr result (self.new ≡ self.old) }
     {
-        let Some(handling) = self.refusal_end(number) else {
+        let Some(disposition) = self.refusal_end(number) else {
             return Err(EntryFault::Illegal);
         };
-        self.end_by(rt, Entry::Refuse(number), number, handling)
+        self.end_by(rt, Entry::Refuse(number), number, disposition)
     }
 
     /// The packet reached its completer. It answers `Illegal` where the machine has no such entry.
@@ -112,10 +109,10 @@ impl Domain {
         ensures fault { IfErr result (λ fault. IsEntryFault self.old (Carry number) fault) }
         ensures err { OnErr result (self.new ≡ self.old) }
     {
-        let Some(handling) = self.carriage_end(number) else {
+        let Some(disposition) = self.carriage_end(number) else {
             return Err(EntryFault::Illegal);
         };
-        self.end_by(rt, Entry::Carry(number), number, handling)
+        self.end_by(rt, Entry::Carry(number), number, disposition)
     }
 
     /// The completion reached whom it answers. Did it close a Tag, so that a record was made? It answers
@@ -125,10 +122,10 @@ impl Domain {
         ensures fault { IfErr result (λ fault. (fault ≡ EntryFault.Illegal) × IsEntryFault self.old (Deliver number) fault) }
         ensures err { OnErr result (self.new ≡ self.old) }
     {
-        let Some(arrival) = self.state.arrival(number) else {
+        let Some(arriving) = self.state.arriving(number) else {
             return Err(EntryFault::Illegal);
         };
-        let is_recorded = self.state.deliver(number, arrival);
+        let is_recorded = self.state.deliver(number, arriving);
         self.journal.push_reserved(Entry::Deliver(number));
         Ok(is_recorded)
     }

@@ -1,8 +1,8 @@
 //! The delivery of a completion to the function or host that it goes to.
 
-ghost use Rattle.std.specs.Prelude.{◌≡◌, ◌≤◌, length, None};
+ghost use Rattle.std.specs.Prelude.{◌≡◌, ◌≤◌, ℕ, List, length, None, option_map};
 ghost use Rattle.tlp_view.specs.Malformed.{malformed};
-ghost use Rattle.domain.specs.Deliveries.{arrival_at, arrival_for, delivery_of, is_awaited, is_port};
+ghost use Rattle.domain.specs.Deliveries.{arrival_at, arrival_by, arrival_for, is_awaited, is_port};
 
 use crate::copies::copied;
 use arrayvec::ArrayVec;
@@ -79,6 +79,31 @@ impl Record {
     }
 }
 
+/// What a completion in flight is to its addressee. Its record is made where it is kept.
+#[derive(Clone, Copy)]
+pub(crate) struct Arriving {
+    pub(crate) owner: Origin,
+    pub(crate) tag: u8,
+    pub(crate) status: Status,
+    pub(crate) is_awaited: bool,
+}
+
+impl Arriving {
+    /// The record of a completion of these bytes.
+    pub(crate) fn record(&self, bytes: &[u8]) -> Record
+        requires short { length bytes.now ≤ 272 }
+        requires well_formed { malformed bytes.now ≡ None }
+        ensures { result ≡ (arrival_by self.now bytes.now).delivery }
+    {
+        Record {
+            owner: self.owner,
+            tag: self.tag,
+            status: self.status,
+            bytes: copied(bytes),
+        }
+    }
+}
+
 /// A completion that is to be delivered, and whether its addressee waits for it.
 #[derive(Drop)]
 pub(crate) struct Arrival {
@@ -100,20 +125,27 @@ fn is_awaited(tags: &[OpenTag], answerer: Answerer, owner: Origin, view: &TlpVie
     is_open(tags, owner, view.tag()) && (is_port(answerer) || view.requester() == addressee)
 }
 
-fn record_of(owner: Origin, view: &TlpView, status: Status, bytes: &[u8]) -> Record
-    requires short { length bytes.now ≤ 272 }
-    requires well_formed { malformed bytes.now ≡ None }
-    ensures { result ≡ delivery_of owner view.now status bytes.now }
+/// A well-formed completion of this status at this function or host.
+fn arriving_at(
+    tags: &[OpenTag],
+    view: &TlpView,
+    answerer: Answerer,
+    owner: Origin,
+    status: Status,
+) -> Arriving
+    ensures { (bytes : List ℕ) → arrival_by result bytes ≡ arrival_at tags.now view.now bytes answerer owner status }
 {
-    Record {
+    let same = owner;
+    let is_awaited = is_awaited(tags, answerer, same, view);
+    Arriving {
         owner,
         tag: view.tag(),
         status,
-        bytes: copied(bytes),
+        is_awaited,
     }
 }
 
-/// A well-formed completion of this status at this function or host.
+/// The same with its record.
 pub(crate) fn arrival_at(
     tags: &[OpenTag],
     view: &TlpView,
@@ -126,27 +158,25 @@ pub(crate) fn arrival_at(
     requires short { length bytes.now ≤ 272 }
     ensures { result ≡ arrival_at tags.now view.now bytes.now answerer owner status }
 {
-    let same = owner;
-    let is_awaited = is_awaited(tags, answerer, same, view);
+    let arriving = arriving_at(tags, view, answerer, owner, status);
     Arrival {
-        delivery: record_of(owner, view, status, bytes),
-        is_awaited,
+        delivery: arriving.record(bytes),
+        is_awaited: arriving.is_awaited,
     }
 }
 
 /// What a well-formed packet is to its addressee: nothing if it is no completion, which alone has a status.
-pub(crate) fn arrival_for(
+pub(crate) fn arriving_for(
     tags: &[OpenTag],
     bytes: &[u8],
     answerer: Answerer,
     addressee: Option<Origin>,
-) -> Option<Arrival>
-    requires well_formed { malformed bytes.now ≡ None }
-    requires short { length bytes.now ≤ 272 }
-    ensures { result ≡ arrival_for tags.now bytes.now answerer addressee }
+) -> Option<Arriving>
+    requires { malformed bytes.now ≡ None }
+    ensures { option_map (λ a. arrival_by a bytes.now) result ≡ arrival_for tags.now bytes.now answerer addressee }
 {
     let owner = addressee?;
     let view = TlpView::again(bytes);
     let status = view.status()?;
-    Some(arrival_at(tags, &view, bytes, answerer, owner, status))
+    Some(arriving_at(tags, &view, answerer, owner, status))
 }

@@ -5,6 +5,7 @@ ghost use Rattle.std.specs.List.{find};
 ghost use Rattle.fab_types.specs.Id.{host_of};
 ghost use Rattle.tlp_view.specs.Bytes.{packet_of};
 ghost use Rattle.tlp_view.specs.Malformed.{malformed};
+ghost use Rattle.request_handling.specs.Dispositions.{Suits, handling};
 ghost use Rattle.request_handling.specs.Requests.{at_port};
 ghost use Rattle.domain.specs.Aliens.{answerer_of, at_function, at_host, completion_at_host, reception_at, reception_unless};
 
@@ -13,7 +14,8 @@ use crate::domain::Domain;
 use crate::receive::Reception;
 use fab_types::{Answerer, Bdf, Origin, Parties, Place, Status};
 use request_handling::{
-    Taker, at_port, discarded, request_at_function, request_at_host, taker_of, target_for,
+    Disposition, Handling, Taker, at_port, discarded, request_at_function, request_at_host,
+    taker_of, target_for,
 };
 use tlp_view::TlpView;
 
@@ -29,6 +31,15 @@ fn answerer_of(sender: Parties) -> Answerer
 
 impl Domain {
     ghost use Rattle.domain.specs.Aliens.{reception_of};
+
+    /// What is done about these bytes, which end so.
+    fn handling(&self, bytes: &[u8], disposition: Disposition) -> Handling
+        requires { Suits bytes.now disposition }
+        ensures { result ≡ handling self.now.share self.now.state.frames self.now.state.registers (packet_of bytes.now) disposition }
+    {
+        let (memory, functions) = (self.state.memory(), self.state.functions());
+        disposition.handling(&self.start, memory, functions, bytes)
+    }
 
     /// A completion of this status at the host.
     fn completion_at_host(
@@ -53,22 +64,26 @@ impl Domain {
         Reception::Arrives(arrival_at(tags, view, bytes, answerer, owner, status))
     }
 
+    #[tactic(auto, using(request_handling::proofs::Suiting::served_suits))]
     fn at_host(&self, bytes: &[u8], sender: Parties, view: &TlpView) -> Reception
         requires well_formed { malformed bytes.now ≡ None }
+        requires read { view.now ≡ packet_of bytes.now }
         requires short { length bytes.now ≤ 272 }
         ensures { result ≡ at_host self.now.share self.now.state bytes.now sender view.now }
     {
         match view.status() {
             Some(status) => self.completion_at_host(bytes, sender, view, status),
             None => {
-                let memory = self.state.memory();
-                Reception::Ends(request_at_host(&self.start, &self.table, memory, view))
+                let disposition = request_at_host(&self.start, &self.table, view);
+                Reception::Ends(self.handling(bytes, disposition))
             }
         }
     }
 
+    #[tactic(auto, using(request_handling::proofs::Suiting::served_suits))]
     fn at_function(&self, function: Bdf, bytes: &[u8], sender: Parties, view: &TlpView) -> Reception
         requires well_formed { malformed bytes.now ≡ None }
+        requires read { view.now ≡ packet_of bytes.now }
         requires short { length bytes.now ≤ 272 }
         ensures { result ≡ at_function self.now.share self.now.state function bytes.now sender view.now }
     {
@@ -81,20 +96,25 @@ impl Domain {
             }
             None => {
                 let functions = self.state.functions();
-                Reception::Ends(request_at_function(&self.start, functions, function, view))
+                let disposition = request_at_function(&self.start, functions, function, view);
+                Reception::Ends(self.handling(bytes, disposition))
             }
         }
     }
 
     fn reception_at(&self, bytes: &[u8], sender: Parties, view: &TlpView, taker: Taker) -> Reception
         requires well_formed { malformed bytes.now ≡ None }
+        requires read { view.now ≡ packet_of bytes.now }
         requires short { length bytes.now ≤ 272 }
         ensures { result ≡ reception_at self.now.share self.now.state bytes.now sender view.now taker }
     {
         match taker {
             Taker::Host => self.at_host(bytes, sender, view),
             Taker::Function(function) => self.at_function(function, bytes, sender, view),
-            Taker::Port(port) => Reception::Ends(at_port(self.start.ports(), &port, bytes, sender)),
+            Taker::Port(port) => {
+                let disposition = at_port(self.start.ports(), &port, bytes, sender);
+                Reception::Ends(self.handling(bytes, disposition))
+            }
             Taker::Upstream => Reception::Ends(discarded()),
         }
     }

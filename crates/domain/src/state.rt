@@ -4,11 +4,11 @@ ghost use Rattle.std.specs.Prelude.{◌≡◌, ◌≤◌, ◌-◌, ℕ, List, le
 ghost use Rattle.std.specs.Option.{option_copied};
 ghost use Rattle.function.specs.Plans.{PlanFits, plan_of};
 ghost use Rattle.host_memory.specs.Pages.{page_of};
-ghost use Rattle.domain.specs.Deliveries.{arrival};
+ghost use Rattle.domain.specs.Deliveries.{Arrivable, arrival};
 ghost use Rattle.domain_parts.specs.State.{item_at, start_state};
 ghost use Rattle.request_handling.specs.WellMade.{IsWellMade};
 
-use crate::deliver::{Arrival, Record, arrival_for};
+use crate::deliver::{Arriving, Record, arriving_for};
 use domain_parts::{Contents, Counts, Flight, first_registers, planned, register_page};
 use fab_types::{Bdf, NoMemory, Parties};
 use frame_log::Log;
@@ -101,15 +101,16 @@ impl State {
 
     /// What a packet in flight is to the one that it goes to.
     /// None where it is no completion for somebody.
-    pub(crate) fn arrival(&self, number: u64) -> Option<Arrival>
-        ensures { result ≡ arrival self.now.open_tags (item_at self.now.flight number) }
+    pub(crate) fn arriving(&self, number: u64) -> Option<Arriving>
+        ensures { MatchOption result (arrival self.now.open_tags (item_at self.now.flight number) ≡ None)
+            (λ a. Arrivable self.now.open_tags (item_at self.now.flight number) a) }
     {
         let Some((parties, bytes)) = self.flight.item(number) else {
             return None;
         };
         match parties {
             Parties::Answer(answerer, addressee) => {
-                arrival_for(&self.open_tags, bytes, answerer, addressee)
+                arriving_for(&self.open_tags, bytes, answerer, addressee)
             }
             Parties::Upward(_) => None,
             Parties::Downward(_) => None,

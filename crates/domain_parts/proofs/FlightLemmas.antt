@@ -1,6 +1,5 @@
 -- Slots of packets in flight, and what is seen of them.
 use Rattle.std.proofs.Common.{◌≡◌, ℕ, zero, suc, ◌<◌, ◌≤◌, List, length, [], ◌∷◌, ◌++◌, Option, Some, None, refl, sym, ap, ◌∙◌, subst, arith, slice_set, slice_index_or, option_map}
-use Rattle.std.specs.Global.{Box}
 use Rattle.std.specs.Option.{IsSome}
 use Rattle.std.specs.List.{All}
 use Rattle.std.proofs.lemmas.List.Elements.{All-append}
@@ -15,9 +14,9 @@ use Rattle.domain_parts.specs.State.{item_at}
 use Rattle.domain_parts.specs.Flights.{IsSlot, emission, emissions}
 
 -- a slot that was emptied is one packet less
-pub emissions-clear : (old now new : List (Option (Box InFlight))) (es : List (Option Emission)) (n : ℕ) → new ≡ slice_set now n None → now ≡ old → emissions old ≡ es → emissions new ≡ slice_set es n None
+pub emissions-clear : (old now new : List (Option InFlight)) (es : List (Option Emission)) (n : ℕ) → new ≡ slice_set now n None → now ≡ old → emissions old ≡ es → emissions new ≡ slice_set es n None
 emissions-clear old now new es n cleared is seen =
-    ap emissions (cleared ∙ ap (λ (xs : List (Option (Box InFlight))). slice_set xs n None) is)
+    ap emissions (cleared ∙ ap (λ (xs : List (Option InFlight)). slice_set xs n None) is)
     ∙ map-set (option_map emission) old n None ∙ ap (λ (xs : List (Option Emission)). slice_set xs n None) seen
 
 one_at : {X : Type 0} (P : X → Type 0) (x d : X) (k : ℕ) → P x → k < 1 → P (slice_index_or (x ∷ []) k d)
@@ -25,16 +24,15 @@ one_at P x d zero p lt = p
 one_at P x d (suc k) p lt = absurd (omega (arith, lt))
 
 -- a slot more, whose token the log shows and whose packet is well made
-pub slots_push : (log : Log) (old now new : List (Option (Box InFlight))) (slot : Box InFlight) (x : InFlight) (e : TlpEntry) (bytes : List ℕ) → All (IsSlot log) old → now ≡ old → new ≡ now ++ Some slot ∷ [] → slot.value ≡ x
+pub slots_push : (log : Log) (old now new : List (Option InFlight)) (x : InFlight) (e : TlpEntry) (bytes : List ℕ) → All (IsSlot log) old → now ≡ old → new ≡ now ++ Some x ∷ []
     → Shown log x.token → entry_of x.token ≡ e → e.bytes ≡ bytes → IsWellMade x.parties bytes → length bytes ≤ 272 → All (IsSlot log) new
-slots_push log old now new slot x e bytes kept same grown holds shown entry are made small =
+slots_push log old now new x e bytes kept same grown shown entry are made small =
     let is : (entry_of x.token).bytes ≡ bytes = ap (λ (t : TlpEntry). t.bytes) entry ∙ are in
     let well : IsWellMade x.parties (entry_of x.token).bytes = subst (IsWellMade x.parties) (sym is) made in
     let short : length (entry_of x.token).bytes ≤ 272 = subst (λ (b : List ℕ). length b ≤ 272) (sym is) small in
-    let one : IsSlot log (Some slot) =
-    subst (λ (y : InFlight). Shown log y.token × IsWellMade y.parties (entry_of y.token).bytes × (length (entry_of y.token).bytes ≤ 272)) (sym holds) (shown, well, short) in
-    subst (All (IsSlot log)) (sym (grown ∙ ap (λ (xs : List (Option (Box InFlight))). xs ++ Some slot ∷ []) same))
-    (All-append (IsSlot log) old (Some slot ∷ []) kept (λ k d lt. one_at (IsSlot log) (Some slot) d k one lt))
+    let one : IsSlot log (Some x) = (shown, well, short) in
+    subst (All (IsSlot log)) (sym (grown ∙ ap (λ (xs : List (Option InFlight)). xs ++ Some x ∷ []) same))
+    (All-append (IsSlot log) old (Some x ∷ []) kept (λ k d lt. one_at (IsSlot log) (Some x) d k one lt))
 
 -- ---- a packet in flight, when one more is put into flight
 

@@ -22,12 +22,11 @@ struct InFlight {
 
 /// The packets in flight by their numbers, and the log that has their bytes.
 /// Others may share the log. A contract sees the list. The place of a packet that ended stays, empty, since no
-/// number is given out twice: so what is in flight stands in a box of its own, and a place is small.
+/// number is given out twice.
 #[derive(Drop)]
 pub struct Flight {
-    alloc: Global,
     log: Arc<Log>,
-    slots: Vec<Option<Box<InFlight>>>,
+    slots: Vec<Option<InFlight>>,
 }
 
 impl Model for Flight {
@@ -43,7 +42,7 @@ impl Model for Flight {
     ghost invariant = { λ f. AreSlots f };
 }
 
-fn clear(slots: &mut [Option<Box<InFlight>>], index: usize)
+fn clear(slots: &mut [Option<InFlight>], index: usize)
     ensures { slots.new ≡ slice_set slots.old index None }
 {
     if index < slots.len() {
@@ -58,7 +57,6 @@ impl Flight {
         ensures { IfOk result (λ flight. flight ≡ []) }
     {
         Ok(Flight {
-            alloc,
             log,
             slots: Vec::with_capacity(alloc, room)?,
         })
@@ -110,8 +108,7 @@ impl Flight {
         let these = parties;
         let head = head_of(these, packet);
         let (frame, token) = self.log.emit(rt, domain, number, head, packet.bytes())?;
-        let slot = Box::new(self.alloc, InFlight { parties, token })?;
-        self.slots.push_reserved(Some(slot));
+        self.slots.push_reserved(Some(InFlight { parties, token }));
         Ok(frame)
     }
 

@@ -1,7 +1,7 @@
-//! A domain by itself: packets that it doesn't take, and journals that it can't have.
+//! A domain by itself: packets that it doesn't take.
 
-use domain::{Domain, Entry};
-use fab_types::{Bdf, DomainId, PortId, ReplayFault};
+use domain::Domain;
+use fab_types::{Bdf, DomainId, PortId};
 use frame_log::{Frame, FrameFault, Log};
 use layout::Layout;
 use std::alloc::Global;
@@ -24,7 +24,6 @@ const WRITE: [u8; 16] = [
 /// The helpers have no clauses: a test that calls them knows nothing of the domain, and so is proved in short time.
 #[derive(Drop)]
 struct Scene {
-    alloc: Global,
     domain: Domain,
 }
 
@@ -40,7 +39,7 @@ impl Scene {
     fn new(alloc: Global) -> Option<Scene> {
         let layout = Layout::read(alloc, LAYOUT).ok()?;
         let domain = domain_of(alloc, &layout, 1)?;
-        Some(Scene { alloc, domain })
+        Some(Scene { domain })
     }
 
     fn write<R: Wait>(&mut self, rt: &R) -> Option<Frame> {
@@ -67,11 +66,6 @@ impl Scene {
     fn entries(&self) -> usize {
         self.domain.journal().len()
     }
-
-    /// How a journal is refused.
-    fn refusal<R: Wait>(&self, rt: &R, journal: &[Entry]) -> Option<ReplayFault> {
-        Domain::replay(rt, self.alloc, self.domain.start(), journal).err()
-    }
 }
 
 #[test]
@@ -82,15 +76,5 @@ fn a_packet_is_taken_by_the_call_of_its_case_alone(rt: HostRuntime) -> Result<()
     assert_eq!(rt; scene.entries(), 1);
     assert!(rt; scene.carries(&rt, frame));
     assert_eq!(rt; scene.entries(), 2);
-    Ok(())
-}
-
-#[test]
-fn a_journal_is_refused_at_its_first_illegal_entry(rt: HostRuntime) -> Result<(), Fail> {
-    let scene = Scene::new(rt.alloc()).ok_or("a domain")?;
-    let tick = Entry::Tick(Bdf::from_bits(0x0300));
-    let journal = [tick, Entry::Carry(0), Entry::Deliver(0)];
-    assert_eq!(rt; scene.refusal(&rt, &journal), Some(ReplayFault::Illegal(1)));
-    assert_eq!(rt; scene.refusal(&rt, &journal[..1]), None);
     Ok(())
 }

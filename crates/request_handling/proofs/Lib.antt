@@ -4,3 +4,4 @@ pub mod WellMadeLemmas
 pub mod Addressed
 pub mod PastPort
 pub mod Discarding
+pub mod Suiting

@@ -5,5 +5,6 @@ pub mod Fates
 pub mod Answers
 pub mod AtFunctions
 pub mod Carries
+pub mod Dispositions
 pub mod Requests
 pub mod Takers

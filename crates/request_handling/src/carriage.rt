@@ -1,29 +1,28 @@
 //! What the host does with a request, and what a function does with one of the host.
 
-ghost use Rattle.std.specs.Prelude.{◌≡◌, ◌/◌, ◌≤◌, true, None, Some, if◌then◌else◌};
-ghost use Rattle.fab_types.specs.declared.head.Parties.TheVariants.{Downward, Upward};
-ghost use Rattle.function.specs.Accesses.{IsAccess};
+ghost use Rattle.std.specs.Prelude.{◌≡◌, ◌/◌, ◌%◌, ℕ, List, true, None, Some, IfSome, if◌then◌else◌, option_map};
+ghost use Rattle.platform.specs.Share.{Share};
 ghost use Rattle.tlp_view.specs.Bytes.{packet_of};
 ghost use Rattle.tlp_view.specs.declared.kind.Kind.TheVariants.{MRd};
 ghost use Rattle.tlp_view.specs.Kinds.{has_address, is_fetch_add};
-ghost use Rattle.tlp_view.specs.Packet.{dw_count};
+ghost use Rattle.tlp_view.specs.Packet.{Packet};
 ghost use Rattle.tlp_view.specs.Runs.{is_write};
-ghost use Rattle.request_handling.specs.WellMade.{IsWellMade};
+ghost use Rattle.request_handling.specs.declared.disposition.Disposition.TheVariants.{Accessed, Stored};
 ghost use Rattle.request_handling.specs.AtFunctions.{access_of, request_at_function};
-ghost use Rattle.request_handling.specs.Carries.{add_to_frame, blocked_by_host, carriage_by, carriage_of, frame_for, from_frame, is_carried, is_owner, refused_by_host, serve, serve_add, serve_read, to_frame, write_to, read_from};
+ghost use Rattle.request_handling.specs.Carries.{carriage_by, frame_for, is_carried, is_owner, serve, serve_add, serve_read, write_to};
+ghost use Rattle.request_handling.specs.Dispositions.{IsServed, Suits, handling};
 ghost use Rattle.layout.specs.Tables.{target_of};
 ghost use Rattle.platform.specs.declared.parts.Access.TheVariants as access;
 ghost use Rattle.request_handling.specs.Answers.{address_of};
 ghost use Rattle.request_handling.specs.Fates.{fate, fate_at};
 
-use crate::answers::{address_of, forward, function_answer, host_data, host_operand, host_refusal};
+use crate::answers::{address_of, forward};
+use crate::disposition::Disposition;
 use crate::fate::{Fate, is_untranslated, packet_fate};
-use crate::handling::{Effect, Handling};
 use crate::page::place;
 use crate::requests::request_at_function;
 use fab_types::{Bdf, DomainId};
 use function::Function;
-use host_memory::HostMemory;
 use host_table::{HostTable, Target};
 use layout::Start;
 use platform::{Access, DownstreamPort};
@@ -57,97 +56,50 @@ fn is_carried(start: &Start, view: &TlpView) -> bool
     }
 }
 
-/// The host writes to a frame.
-pub(crate) fn to_frame(frame: u16, view: &TlpView) -> Handling
+/// The place of a request in its page.
+fn place_in_page(view: &TlpView) -> usize
     requires { has_address (view.now).kind ≡ true }
-    ensures { result ≡ to_frame frame view.now }
+    ensures { result ≡ address_of view.now % 4096 }
 {
-    let first = (address_of(view) % 4096) as usize;
-    Handling {
-        effect: Effect::Store(frame, first),
-        reply: None,
-    }
+    (address_of(view) % 4096) as usize
 }
 
-/// The host answers a read of a frame.
-pub(crate) fn from_frame(start: &Start, memory: &HostMemory, view: &TlpView, frame: u16) -> Handling
-    requires read { (view.now).kind ≡ MRd }
-    requires short { dw_count (view.now).length ≤ 64 }
-    ensures { result ≡ from_frame start.now memory.now view.now frame }
+/// The host writes to a frame.
+pub(crate) fn to_frame(frame: u16, view: &TlpView) -> Disposition
+    requires { has_address (view.now).kind ≡ true }
+    ensures { result ≡ Stored frame (address_of view.now % 4096) }
 {
-    Handling {
-        effect: Effect::Leave,
-        reply: Some(host_data(start, memory, frame, view)),
-    }
-}
-
-/// The host adds to a frame, and answers with what stood there.
-#[tactic(auto, using(crate::proofs::Addressed::fetch_add_addressed))]
-fn add_to_frame(start: &Start, memory: &HostMemory, view: &TlpView, frame: u16) -> Handling
-    requires { is_fetch_add (view.now).kind ≡ true }
-    ensures { result ≡ add_to_frame start.now memory.now view.now frame }
-{
-    let first = (address_of(view) % 4096) as usize;
-    Handling {
-        effect: Effect::Add(frame, first),
-        reply: Some(host_operand(start, memory, frame, view)),
-    }
-}
-
-/// The host counts a non-posted request whose page isn't mapped for it, and refuses it.
-fn blocked_by_host(start: &Start, view: &TlpView) -> Handling
-    ensures { result ≡ blocked_by_host start.now view.now }
-{
-    Handling {
-        effect: Effect::Block,
-        reply: Some(host_refusal(start, view)),
-    }
-}
-
-/// The host refuses a request.
-pub(crate) fn refused_by_host(start: &Start, view: &TlpView) -> Handling
-    ensures { result ≡ refused_by_host start.now view.now }
-{
-    Handling {
-        effect: Effect::Leave,
-        reply: Some(host_refusal(start, view)),
-    }
+    Disposition::Stored(frame, place_in_page(view))
 }
 
 /// What the host does with a write.
 #[tactic(auto, using(crate::proofs::WellMadeLemmas::write_access, crate::proofs::Addressed::write_addressed))]
-fn serve_write(start: &Start, table: &HostTable, view: &TlpView) -> Option<Handling>
+fn serve_write(start: &Start, table: &HostTable, view: &TlpView) -> Option<Disposition>
     requires { is_write (view.now).kind ≡ true }
-    ensures { result ≡ write_to start.now view.now (target_of table.now view.now.requester (address_of view.now / 4096) access.Write) }
+    ensures value { (frames registers : List (ℕ × List ℕ)) → option_map (handling start.now frames registers view.now) result ≡ write_to start.now view.now (target_of table.now view.now.requester (address_of view.now / 4096) access.Write) }
+    ensures served { IfSome result (λ d. IsServed view.now d) }
 {
     match table.lookup(view.requester(), address_of(view) / 4096, Access::Write) {
         Target::Frame(frame) => Some(to_frame(frame, view)),
-        Target::Peer(function) => forward(start, function, view),
-        Target::None => Some(Handling {
-            effect: Effect::Block,
-            reply: None,
-        }),
+        Target::Peer(function) => forward(start, function),
+        Target::None => Some(Disposition::Blocked),
     }
 }
 
 /// What the host does with a read.
-fn serve_read(
-    start: &Start,
-    table: &HostTable,
-    memory: &HostMemory,
-    view: &TlpView,
-) -> Option<Handling>
+fn serve_read(start: &Start, table: &HostTable, view: &TlpView) -> Option<Disposition>
     requires table { table.now ≡ (start.now).maps }
     requires read { (view.now).kind ≡ MRd }
-    ensures { result ≡ serve_read start.now memory.now view.now }
+    ensures value { (frames registers : List (ℕ × List ℕ)) → option_map (handling start.now frames registers view.now) result ≡ serve_read start.now frames view.now }
+    ensures served { IfSome result (λ d. IsServed view.now d) }
 {
     if view.dw_length() > 64 {
-        return Some(refused_by_host(start, view));
+        return Some(Disposition::RefusedByHost);
     }
     match table.lookup(view.requester(), address_of(view) / 4096, Access::Read) {
-        Target::Frame(frame) => Some(from_frame(start, memory, view, frame)),
-        Target::Peer(function) => forward(start, function, view),
-        Target::None => Some(blocked_by_host(start, view)),
+        Target::Frame(frame) => Some(Disposition::Shown(frame)),
+        Target::Peer(function) => forward(start, function),
+        Target::None => Some(Disposition::BlockedAndRefused),
     }
 }
 
@@ -166,55 +118,48 @@ fn frame_for(start: &Start, table: &HostTable, view: &TlpView, access: Access) -
 
 /// What the host does with a FetchAdd, which reads and writes (PCIe 4.0, 6.15).
 #[tactic(auto, using(crate::proofs::Addressed::fetch_add_addressed))]
-fn serve_add(start: &Start, table: &HostTable, memory: &HostMemory, view: &TlpView) -> Handling
+fn serve_add(start: &Start, table: &HostTable, view: &TlpView) -> Disposition
     requires table { table.now ≡ (start.now).maps }
     requires atomic { is_fetch_add (view.now).kind ≡ true }
-    ensures { result ≡ serve_add start.now memory.now view.now }
+    ensures value { (frames registers : List (ℕ × List ℕ)) → handling start.now frames registers view.now result ≡ serve_add start.now frames view.now }
+    ensures served { IsServed view.now result }
 {
     let to_read = frame_for(start, table, view, Access::Read);
     let to_write = frame_for(start, table, view, Access::Write);
     match (to_read, to_write) {
-        (Some(_), Some(frame)) => add_to_frame(start, memory, view, frame),
-        (Some(_), None) => blocked_by_host(start, view),
-        (None, _) => blocked_by_host(start, view),
+        (Some(_), Some(frame)) => Disposition::Added(frame, place_in_page(view)),
+        (Some(_), None) => Disposition::BlockedAndRefused,
+        (None, _) => Disposition::BlockedAndRefused,
     }
 }
 
 /// What the host does with a request for memory, by the table of its Requester ID.
 #[tactic(auto, using(crate::proofs::Addressed::left_read))]
-pub(crate) fn serve(
-    start: &Start,
-    table: &HostTable,
-    memory: &HostMemory,
-    view: &TlpView,
-) -> Option<Handling>
+pub(crate) fn serve(start: &Start, table: &HostTable, view: &TlpView) -> Option<Disposition>
     requires table { table.now ≡ (start.now).maps }
     requires addressed { has_address (view.now).kind ≡ true }
-    ensures { result ≡ serve start.now memory.now view.now }
+    ensures value { (frames registers : List (ℕ × List ℕ)) → option_map (handling start.now frames registers view.now) result ≡ serve start.now frames view.now }
+    ensures served { IfSome result (λ d. IsServed view.now d) }
 {
     let kind = view.kind();
     if is_write(kind) {
         serve_write(start, table, view)
     } else if kind.is_fetch_add() {
-        Some(serve_add(start, table, memory, view))
+        Some(serve_add(start, table, view))
     } else {
-        serve_read(start, table, memory, view)
+        serve_read(start, table, view)
     }
 }
 
 /// What the host does with a request for memory of this domain.
-fn carried(
-    start: &Start,
-    table: &HostTable,
-    memory: &HostMemory,
-    view: &TlpView,
-) -> Option<Handling>
+fn carried(start: &Start, table: &HostTable, view: &TlpView) -> Option<Disposition>
     requires table { table.now ≡ (start.now).maps }
     requires addressed { has_address (view.now).kind ≡ true }
-    ensures { result ≡ (if is_carried start.now view.now then serve start.now memory.now view.now else None) }
+    ensures value { (frames registers : List (ℕ × List ℕ)) → option_map (handling start.now frames registers view.now) result ≡ (if is_carried start.now view.now then serve start.now frames view.now else None) }
+    ensures served { IfSome result (λ d. IsServed view.now d) }
 {
     if is_carried(start, view) {
-        serve(start, table, memory, view)
+        serve(start, table, view)
     } else {
         None
     }
@@ -226,9 +171,10 @@ fn carried_directly(
     functions: &[Function],
     function: Bdf,
     view: &TlpView,
-) -> Option<Handling>
+) -> Option<Disposition>
     requires addressed { has_address (view.now).kind ≡ true }
-    ensures { result ≡ (if is_carried start.now view.now then Some (request_at_function start.now functions.now function view.now) else None) }
+    ensures value { (frames : List (ℕ × List ℕ)) → option_map (handling start.now frames functions.now view.now) result ≡ (if is_carried start.now view.now then Some (request_at_function start.now functions.now function view.now) else None) }
+    ensures served { IfSome result (λ d. IsServed view.now d) }
 {
     if is_carried(start, view) {
         Some(request_at_function(start, functions, function, view))
@@ -242,19 +188,19 @@ fn carriage_past(
     port: &DownstreamPort,
     start: &Start,
     table: &HostTable,
-    memory: &HostMemory,
     functions: &[Function],
     function: Bdf,
     bytes: &[u8],
-) -> Option<Handling>
+) -> Option<Disposition>
     requires { table.now ≡ (start.now).maps }
-    ensures { result ≡ carriage_by start.now memory.now functions.now bytes.now (fate_at start.now.ports function port.now bytes.now) }
+    ensures value { (frames : List (ℕ × List ℕ)) → option_map (handling start.now frames functions.now (packet_of bytes.now)) result ≡ carriage_by start.now frames functions.now bytes.now (fate_at start.now.ports function port.now bytes.now) }
+    ensures suits { IfSome result (λ d. Suits bytes.now d) }
 {
     let Ok(view) = TlpView::read(bytes) else {
         return None;
     };
     match packet_fate(start.ports(), function, port, &view) {
-        Fate::ToHost => carried(start, table, memory, &view),
+        Fate::ToHost => carried(start, table, &view),
         Fate::Direct(peer) => carried_directly(start, functions, peer, &view),
         Fate::Vanish => None,
         Fate::Refused(_) => None,
@@ -266,49 +212,28 @@ fn carriage_past(
 pub fn carriage_up(
     start: &Start,
     table: &HostTable,
-    memory: &HostMemory,
     functions: &[Function],
     function: Bdf,
     bytes: &[u8],
-) -> Option<Handling>
+) -> Option<Disposition>
     requires { table.now ≡ (start.now).maps }
-    ensures { result ≡ carriage_by start.now memory.now functions.now bytes.now (fate start.now.ports function bytes.now) }
+    ensures value { (frames : List (ℕ × List ℕ)) → option_map (handling start.now frames functions.now (packet_of bytes.now)) result ≡ carriage_by start.now frames functions.now bytes.now (fate start.now.ports function bytes.now) }
+    ensures suits { IfSome result (λ d. Suits bytes.now d) }
 {
     match start.first_port(function) {
-        Some(port) => carriage_past(&port, start, table, memory, functions, function, bytes),
+        Some(port) => carriage_past(&port, start, table, functions, function, bytes),
         None => None,
     }
 }
 
 /// What a function does with a request for its register page.
-pub(crate) fn access_of(
-    start: &Start,
-    functions: &[Function],
-    id: Bdf,
-    view: &TlpView,
-) -> Option<Handling>
-    requires { IsAccess view.now }
-    ensures { result ≡ access_of start.now functions.now id view.now }
+/// `None` exactly where it isn't one of these functions.
+pub fn access_of(functions: &[Function], id: Bdf) -> Option<Disposition>
+    ensures value { (share : Share) (frames : List (ℕ × List ℕ)) (t : Packet) → option_map (handling share frames functions.now t) result ≡ access_of share functions.now id t }
+    ensures accessed { IfSome result (λ d. d ≡ Accessed id) }
 {
     match place(functions, id) {
-        Some(at) => Some(Handling {
-            effect: Effect::Access(id),
-            reply: function_answer(start, &functions[at], view),
-        }),
+        Some(_) => Some(Disposition::Accessed(id)),
         None => None,
     }
-}
-
-/// What a function does with these bytes of the host.
-/// `None` exactly where it isn't one of these functions.
-pub fn carriage_to_function(
-    start: &Start,
-    functions: &[Function],
-    id: Bdf,
-    bytes: &[u8],
-) -> Option<Handling>
-    requires { IsWellMade (Downward id) bytes.now }
-    ensures { result ≡ access_of start.now functions.now id (packet_of bytes.now) }
-{
-    access_of(start, functions, id, &TlpView::again(bytes))
 }

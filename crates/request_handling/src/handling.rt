@@ -4,6 +4,7 @@ ghost use Rattle.std.specs.Prelude.{◌≡◌, None};
 ghost use Rattle.fab_types.specs.declared.head.Parties.TheVariants.{Downward};
 ghost use Rattle.tlp_view.specs.Requests.{packet_bytes};
 ghost use Rattle.request_handling.specs.Answers.{IsReadAs, answer, made_bytes};
+ghost use Rattle.request_handling.specs.AtFunctions.{discarded};
 
 use fab_types::{Answerer, Bdf, Origin, Parties};
 use std::marker::Model;
@@ -119,4 +120,14 @@ pub struct Handling {
     pub effect: Effect,
     /// What follows from it, if anything.
     pub reply: Option<Reply>,
+}
+
+/// Nothing happens, and nothing answers.
+pub fn discarded() -> Handling
+    ensures { result ≡ discarded }
+{
+    Handling {
+        effect: Effect::Leave,
+        reply: None,
+    }
 }

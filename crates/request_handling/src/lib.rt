@@ -3,6 +3,7 @@
 
 mod answers;
 mod carriage;
+mod disposition;
 mod fate;
 mod handling;
 mod heads;
@@ -12,11 +13,12 @@ mod requests;
 mod taker;
 
 pub use answers::bar_of;
-pub use carriage::{carriage_to_function, carriage_up};
+pub use carriage::{access_of, carriage_up};
+pub use disposition::Disposition;
 pub use fate::{Fate, first_port_fate};
-pub use handling::{Effect, Handling, Made, Reply};
+pub use handling::{Effect, Handling, Made, Reply, discarded};
 pub use heads::{head_of, target_for};
 pub use page::place;
-pub use refusal::{discarded, refusal_of, refusal_of_completion};
+pub use refusal::{refusal_of, refusal_of_completion};
 pub use requests::{at_port, request_at_function, request_at_host};
 pub use taker::{Taker, taker_of};

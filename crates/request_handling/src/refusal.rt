@@ -1,31 +1,22 @@
 //! What the first port of its sender does with a packet that it stops.
 
-ghost use Rattle.std.specs.Prelude.{◌≡◌};
+ghost use Rattle.std.specs.Prelude.{◌≡◌, ℕ, List, IfSome, option_map};
 ghost use Rattle.fab_types.specs.declared.head.Parties.TheVariants.{Upward};
 ghost use Rattle.tlp_view.specs.Bytes.{packet_of};
 ghost use Rattle.tlp_view.specs.Malformed.{malformed};
+ghost use Rattle.tlp_view.specs.Packet.{Packet};
 ghost use Rattle.platform.specs.Owners.{first_port};
-ghost use Rattle.request_handling.specs.AtFunctions.{discarded};
+ghost use Rattle.platform.specs.Share.{Share};
 ghost use Rattle.request_handling.specs.Carries.{answer_refusal, is_returned, refusal_by, refusal_of};
+ghost use Rattle.request_handling.specs.Dispositions.{Suits, handling};
 ghost use Rattle.request_handling.specs.Fates.{fate_at};
 
-use crate::answers::port_answer;
+use crate::disposition::Disposition;
 use crate::fate::{Fate, packet_fate, returns_completion};
-use crate::handling::{Effect, Handling};
 use fab_types::{Answerer, Bdf};
 use layout::Start;
 use platform::DownstreamPort;
 use tlp_view::TlpView;
-
-/// Nothing happens, and nothing answers.
-pub fn discarded() -> Handling
-    ensures { result ≡ discarded }
-{
-    Handling {
-        effect: Effect::Leave,
-        reply: None,
-    }
-}
 
 /// How these bytes of a function end at this port, one of these, if they end there.
 pub(crate) fn refusal_at(
@@ -33,29 +24,28 @@ pub(crate) fn refusal_at(
     port: &DownstreamPort,
     function: Bdf,
     bytes: &[u8],
-) -> Option<Handling>
-    ensures { result ≡ refusal_by port.now.id function bytes.now (fate_at ports.now function port.now bytes.now) }
+) -> Option<Disposition>
+    ensures value { (share : Share) (frames registers : List (ℕ × List ℕ)) → option_map (handling share frames registers (packet_of bytes.now)) result ≡ refusal_by port.now.id function bytes.now (fate_at ports.now function port.now bytes.now) }
+    ensures suits { IfSome result (λ d. Suits bytes.now d) }
 {
     let Ok(view) = TlpView::read(bytes) else {
-        return Some(discarded());
+        return Some(Disposition::Discarded);
     };
     match packet_fate(ports, function, port, &view) {
-        Fate::Vanish => Some(discarded()),
-        Fate::Refused(status) => Some(Handling {
-            effect: Effect::Leave,
-            reply: Some(port_answer(port.id, function, status, &view)),
-        }),
+        Fate::Vanish => Some(Disposition::Discarded),
+        Fate::Refused(status) => Some(Disposition::RefusedByPort(port.id, function, status)),
         Fate::ToHost | Fate::Direct(_) => None,
     }
 }
 
 /// How these bytes of a function end at its first port, if they end there.
-pub fn refusal_of(start: &Start, function: Bdf, bytes: &[u8]) -> Option<Handling>
-    ensures { result ≡ refusal_of start.now bytes.now (Upward function) }
+pub fn refusal_of(start: &Start, function: Bdf, bytes: &[u8]) -> Option<Disposition>
+    ensures value { (frames registers : List (ℕ × List ℕ)) → option_map (handling start.now frames registers (packet_of bytes.now)) result ≡ refusal_of start.now bytes.now (Upward function) }
+    ensures suits { IfSome result (λ d. Suits bytes.now d) }
 {
     match start.first_port(function) {
         Some(port) => refusal_at(start.ports(), &port, function, bytes),
-        None => Some(discarded()),
+        None => Some(Disposition::Discarded),
     }
 }
 
@@ -75,14 +65,15 @@ fn is_returned(start: &Start, answerer: Answerer, view: &TlpView) -> bool
 /// How a completion of a function ends at its first port, if it ends there.
 /// That is the first port of the function that made it. With Upstream Forwarding clear the port discards what
 /// is for a bus below it (PCIe 4.0, 6.12.1.1). Completions of ports and of the host come to no such port.
-pub fn refusal_of_completion(start: &Start, answerer: Answerer, bytes: &[u8]) -> Option<Handling>
-    ensures { result ≡ answer_refusal start.now (malformed bytes.now) answerer (packet_of bytes.now) }
+pub fn refusal_of_completion(start: &Start, answerer: Answerer, bytes: &[u8]) -> Option<Disposition>
+    ensures value { (frames registers : List (ℕ × List ℕ)) (t : Packet) → option_map (handling start.now frames registers t) result ≡ answer_refusal start.now (malformed bytes.now) answerer (packet_of bytes.now) }
+    ensures suits { IfSome result (λ d. Suits bytes.now d) }
 {
     let Ok(view) = TlpView::read(bytes) else {
         return None;
     };
     if is_returned(start, answerer, &view) {
-        Some(discarded())
+        Some(Disposition::Discarded)
     } else {
         None
     }

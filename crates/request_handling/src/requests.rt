@@ -1,80 +1,80 @@
 //! What the host and a function do with an alien request.
 
-ghost use Rattle.std.specs.Prelude.{◌≡◌, ◌==◌, true};
+ghost use Rattle.std.specs.Prelude.{◌≡◌, ◌==◌, ℕ, List, true};
 ghost use Rattle.std.specs.List.{find};
-ghost use Rattle.tlp_view.specs.Kinds.{has_address, is_memory};
+ghost use Rattle.platform.specs.Share.{Share};
+ghost use Rattle.tlp_view.specs.Bytes.{packet_of};
+ghost use Rattle.tlp_view.specs.Kinds.{class_of_kind, has_address, is_memory};
+ghost use Rattle.tlp_view.specs.Packet.{Packet};
 ghost use Rattle.tlp_view.specs.View.{address_type_in};
-ghost use Rattle.request_handling.specs.AtFunctions.{is_access, lies_in, or_discarded, request_at_function, unserved};
+ghost use Rattle.request_handling.specs.Answers.{function_refusal};
+ghost use Rattle.request_handling.specs.AtFunctions.{is_access, lies_in, request_at_function, unserved};
+ghost use Rattle.request_handling.specs.Dispositions.{IsServed, Suits, handling};
 ghost use Rattle.request_handling.specs.Requests.{at_frame, at_port, by_number, by_table, frame_at, request_at_host, unserved_by_host};
 
-use crate::answers::{address_of, bar_of, function_refusal, host_refusal};
-use crate::carriage::{
-    access_of, from_frame, is_owner, is_write, refused_by_host, serve, to_frame,
-};
-use crate::handling::{Effect, Handling, Reply};
-use crate::refusal::{discarded, refusal_at};
+use crate::answers::{address_of, bar_of};
+use crate::carriage::{access_of, is_owner, is_write, serve, to_frame};
+use crate::disposition::Disposition;
+use crate::refusal::refusal_at;
 use fab_types::{AddressType, Bdf, Class, Parties};
 use function::Function;
-use host_memory::HostMemory;
 use host_table::HostTable;
 use layout::Start;
 use platform::DownstreamPort;
 use tlp_view::TlpView;
 
-/// Where nobody has a case for it nothing happens.
-fn or_discarded(handling: Option<Handling>) -> Handling
-    ensures { result ≡ or_discarded handling }
+/// The host refuses a non-posted request, and discards any other.
+fn unserved_by_host(view: &TlpView) -> Disposition
+    ensures value { (share : Share) (frames registers : List (ℕ × List ℕ)) → handling share frames registers view.now result ≡ unserved_by_host share view.now }
+    ensures served { IsServed view.now result }
 {
-    match handling {
-        Some(handling) => handling,
-        None => discarded(),
+    match view.class() {
+        Class::NonPosted => Disposition::RefusedByHost,
+        Class::Posted | Class::Completion => Disposition::Discarded,
     }
 }
 
-/// A non-posted request is answered so, any other is discarded.
-fn unserved(class: Class, answer: Reply) -> Handling
-    ensures { result ≡ unserved class answer }
+/// The same at a function.
+fn unserved_by_function(function: Bdf, view: &TlpView) -> Disposition
+    ensures value { (share : Share) (frames registers : List (ℕ × List ℕ)) → handling share frames registers view.now result ≡ unserved (class_of_kind view.now.kind) (function_refusal share function view.now) }
+    ensures served { IsServed view.now result }
 {
-    match class {
-        Class::NonPosted => Handling {
-            effect: Effect::Leave,
-            reply: Some(answer),
-        },
-        Class::Posted | Class::Completion => discarded(),
+    match view.class() {
+        Class::NonPosted => Disposition::RefusedByFunction(function),
+        Class::Posted | Class::Completion => Disposition::Discarded,
     }
-}
-
-fn unserved_by_host(start: &Start, view: &TlpView) -> Handling
-    ensures { result ≡ unserved_by_host start.now view.now }
-{
-    unserved(view.class(), host_refusal(start, view))
 }
 
 /// By the table of the Requester ID, if that is one of this domain.
-fn by_table(start: &Start, table: &HostTable, memory: &HostMemory, view: &TlpView) -> Handling
+fn by_table(start: &Start, table: &HostTable, view: &TlpView) -> Disposition
     requires table { table.now ≡ (start.now).maps }
     requires addressed { has_address (view.now).kind ≡ true }
-    ensures { result ≡ by_table start.now memory.now view.now }
+    ensures value { (frames registers : List (ℕ × List ℕ)) → handling start.now frames registers view.now result ≡ by_table start.now frames view.now }
+    ensures served { IsServed view.now result }
 {
     if is_owner(start.owner(view.requester()), start.domain()) {
-        or_discarded(serve(start, table, memory, view))
+        match serve(start, table, view) {
+            Some(disposition) => disposition,
+            None => Disposition::Discarded,
+        }
     } else {
-        unserved_by_host(start, view)
+        unserved_by_host(view)
     }
 }
 
 /// A frame is written or read.
 #[tactic(auto, using(crate::proofs::Addressed::memory_addressed, crate::proofs::Addressed::memory_read))]
-fn at_frame(start: &Start, memory: &HostMemory, view: &TlpView, frame: u16) -> Handling
+fn at_frame(view: &TlpView, frame: u16) -> Disposition
     requires { is_memory (view.now).kind ≡ true }
-    ensures { result ≡ at_frame start.now memory.now view.now frame }
+    ensures value { (share : Share) (frames registers : List (ℕ × List ℕ)) → handling share frames registers view.now result ≡ at_frame share frames view.now frame }
+    ensures served { IsServed view.now result }
 {
     if is_write(view.kind()) {
         to_frame(frame, view)
     } else if view.dw_length() > 64 {
-        refused_by_host(start, view)
+        Disposition::RefusedByHost
     } else {
-        from_frame(start, memory, view, frame)
+        Disposition::Shown(frame)
     }
 }
 
@@ -90,34 +90,31 @@ fn frame_at(numbers: &[u16], page: u64) -> Option<u16>
 
 /// No table is asked: the page is the number of the frame.
 #[tactic(auto, using(crate::proofs::Addressed::memory_addressed))]
-fn by_number(start: &Start, memory: &HostMemory, view: &TlpView) -> Handling
+fn by_number(start: &Start, view: &TlpView) -> Disposition
     requires { is_memory (view.now).kind ≡ true }
-    ensures { result ≡ by_number start.now memory.now view.now }
+    ensures value { (frames registers : List (ℕ × List ℕ)) → handling start.now frames registers view.now result ≡ by_number start.now frames view.now }
+    ensures served { IsServed view.now result }
 {
     match frame_at(start.frames(), address_of(view) / 4096) {
-        Some(frame) => at_frame(start, memory, view, frame),
-        None => unserved_by_host(start, view),
+        Some(frame) => at_frame(view, frame),
+        None => unserved_by_host(view),
     }
 }
 
 /// What the host does with a request that is alien there.
 /// PCIe 4.0, 10.2.1 has the AT field.
-pub fn request_at_host(
-    start: &Start,
-    table: &HostTable,
-    memory: &HostMemory,
-    view: &TlpView,
-) -> Handling
+pub fn request_at_host(start: &Start, table: &HostTable, view: &TlpView) -> Disposition
     requires { table.now ≡ (start.now).maps }
-    ensures { result ≡ request_at_host start.now memory.now view.now (address_type_in view.now) }
+    ensures value { (frames registers : List (ℕ × List ℕ)) → handling start.now frames registers view.now result ≡ request_at_host start.now frames view.now (address_type_in view.now) }
+    ensures served { IsServed view.now result }
 {
     match view.at() {
-        Some(AddressType::Untranslated) => by_table(start, table, memory, view),
-        Some(AddressType::Translated) if view.kind().is_memory() => by_number(start, memory, view),
-        Some(AddressType::Translated) => unserved_by_host(start, view),
-        Some(AddressType::TranslationRequest) => unserved_by_host(start, view),
-        Some(AddressType::Reserved) => unserved_by_host(start, view),
-        None => unserved_by_host(start, view),
+        Some(AddressType::Untranslated) => by_table(start, table, view),
+        Some(AddressType::Translated) if view.kind().is_memory() => by_number(start, view),
+        Some(AddressType::Translated) => unserved_by_host(view),
+        Some(AddressType::TranslationRequest) => unserved_by_host(view),
+        Some(AddressType::Reserved) => unserved_by_host(view),
+        None => unserved_by_host(view),
     }
 }
 
@@ -146,14 +143,18 @@ pub fn request_at_function(
     functions: &[Function],
     id: Bdf,
     view: &TlpView,
-) -> Handling
-    ensures { result ≡ request_at_function start.now functions.now id view.now }
+) -> Disposition
+    ensures value { (frames : List (ℕ × List ℕ)) → handling start.now frames functions.now view.now result ≡ request_at_function start.now functions.now id view.now }
+    ensures served { IsServed view.now result }
 {
     let bar = bar_of(start.functions(), id);
     if is_access(view) && lies_in(bar, address_of(view)) {
-        or_discarded(access_of(start, functions, id, view))
+        match access_of(functions, id) {
+            Some(disposition) => disposition,
+            None => Disposition::Discarded,
+        }
     } else {
-        unserved(view.class(), function_refusal(start, id, view))
+        unserved_by_function(id, view)
     }
 }
 
@@ -163,11 +164,15 @@ pub fn at_port(
     port: &DownstreamPort,
     bytes: &[u8],
     sender: Parties,
-) -> Handling
-    ensures { result ≡ at_port ports.now port.now bytes.now sender }
+) -> Disposition
+    ensures value { (share : Share) (frames registers : List (ℕ × List ℕ)) → handling share frames registers (packet_of bytes.now) result ≡ at_port ports.now port.now bytes.now sender }
+    ensures suits { Suits bytes.now result }
 {
     match sender {
-        Parties::Upward(function) => or_discarded(refusal_at(ports, port, function, bytes)),
-        Parties::Downward(_) | Parties::Answer(..) => discarded(),
+        Parties::Upward(function) => match refusal_at(ports, port, function, bytes) {
+            Some(disposition) => disposition,
+            None => Disposition::Discarded,
+        },
+        Parties::Downward(_) | Parties::Answer(..) => Disposition::Discarded,
     }
 }

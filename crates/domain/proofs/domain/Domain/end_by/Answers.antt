@@ -1,7 +1,8 @@
-use Rattle.std.proofs.Common.{◌+◌, ◌*◌, ◌<◌, length, arith}
+use Rattle.std.proofs.Common.{◌+◌, ◌*◌, ◌<◌, length, arith, refl}
 use Rattle.domain.specs.Kept.{domain_view}
 use Rattle.domain.specs.Machine.{aliens_in}
-use Rattle.domain.proofs.Keeping.{blocks_fit, end_room, ended_so, ends_seen, replays_more, room_stays}
+use Rattle.domain.specs.Domains.{disposed}
+use Rattle.domain.proofs.Keeping.{blocks_fit, end_room, ended_so, ends_seen, makes_end, makes_seen, replays_more, room_stays}
 use Rattle.domain.proofs.domain.Domain.end_by.Goals as goal
 
 pub conclude-requires-clause-blocks : goal.conclude-requires-clause-blocks
@@ -12,19 +13,27 @@ conclude-requires-clause-blocks g c =
 pub push_reserved-requires : goal.push_reserved-requires
 push_reserved-requires g c =
     let d = c.self.inside in
-    let h = ends_seen (domain_view d) c.args.self.now c.args.entry c.args.number c.args.handling c.self.view_is c.requires in
+    let h = ends_seen (domain_view d) c.args.self.now c.args.entry c.args.number c.args.disposition c.self.view_is c.requires in
     let room : length d.journal.items < 4 * d.start.budget + 3 * aliens_in d.journal.items = end_room d.start d.state d.journal.items c.args.number h.emission c.self.invariant.replays h.waits in
     omega (arith, d.journal.ok, c.self.invariant.room, c.self.invariant.entries, room)
 
 pub invariant_of-self-2 : goal.invariant_of-self-2
 invariant_of-self-2 g c =
     let d = c.self.inside in
-    let h = ends_seen (domain_view d) c.args.self.now c.args.entry c.args.number c.args.handling c.self.view_is c.requires in
+    let h = ends_seen (domain_view d) c.args.self.now c.args.entry c.args.number c.args.disposition c.self.view_is c.requires in
     record {
       share = c.self.invariant.share;
       table = c.self.invariant.table;
       replays = replays_more d.start d.state c.conclude.new.self d.journal.items _ c.args.entry _ c.self.invariant.replays c.push_reserved.ensures.items
-          (ended_so (domain_view d) c.args.entry c.args.number c.args.handling c.conclude.new.self h c.in-Ok.ensures.state);
+          (ended_so (domain_view d) c.args.entry c.args.number c.args.disposition c.conclude.new.self h c.in-Ok.ensures.state);
       entries = room_stays d.entries d.start.budget d.journal.items _ c.args.entry c.push_reserved.ensures.items (h.own (aliens_in d.journal.items)) c.self.invariant.entries;
       room = omega (arith, c.self.invariant.room, c.push_reserved.ensures.capacity);
     }
+
+pub returns-clause-ok : goal.returns-clause-ok
+returns-clause-ok g c =
+    let d = c.self.inside in
+    let h = ends_seen (domain_view d) c.args.self.now c.args.entry c.args.number c.args.disposition c.self.view_is c.requires in
+    makes_seen (domain_view d) c.args.self.now _ c.args.entry c.in-Ok.sent c.self.view_is
+    (makes_end (domain_view d) _ c.args.entry (disposed d.start d.state h.emission c.args.disposition).reply c.in-Ok.sent refl c.push_reserved.ensures.items
+    (ended_so (domain_view d) c.args.entry c.args.number c.args.disposition c.conclude.new.self h c.in-Ok.ensures.state) (c.in-Ok.ensures.sent h.emission h.waits))

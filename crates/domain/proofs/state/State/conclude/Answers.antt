@@ -1,14 +1,27 @@
-use Rattle.std.proofs.Common.{ap, ◌∙◌}
+use Rattle.std.proofs.Common.{◌+◌, ◌<◌, ◌^◌, ap, subst, sym, ◌∙◌}
+use Rattle.request_handling.specs.declared.handling.Effect.{Effect}
+use Rattle.domain_parts.specs.declared.counts.Counts.{Counts}
+use Rattle.domain_parts.specs.Ends.{EffectFits, done, replied}
 use Rattle.domain_parts.specs.State.{Alone, without}
+use Rattle.domain.specs.Domains.{disposed}
 use Rattle.domain.specs.States.{alone_of}
-use Rattle.domain.proofs.ConcludeLemmas.{concludes, fits_after, with_flight}
+use Rattle.domain.proofs.ConcludeLemmas.{concludes, fits_after, unblocked, with_flight}
 use Rattle.domain.proofs.state.State.conclude.Goals as goal
 
+pub perform-requires-clause-blocks : goal.perform-requires-clause-blocks
+perform-requires-clause-blocks g c =
+    subst (λ (k : Counts). k.blocked + 1 < 2 ^ 64) (sym (unblocked c.args.self.now c.answer.new.self (λ x. (disposed c.args.start.now c.args.self.now x c.args.disposition).reply) c.args.number c.requires.waits c.in_ok-sent.ensures.state)) c.requires.blocks
+
 pub perform-requires-clause-fits : goal.perform-requires-clause-fits
-perform-requires-clause-fits g c = λ e is. fits_after c.args.self.now c.send.new.self c.args.handling.reply c.args.number c.args.handling.effect e c.requires.waits c.in_ok-sent.ensures.state c.requires.fits is
+perform-requires-clause-fits g c = λ e is.
+    fits_after c.args.self.now c.answer.new.self (λ x. (disposed c.args.start.now c.args.self.now x c.args.disposition).reply) c.args.number c.effect.result e c.requires.waits c.in_ok-sent.ensures.state
+    (λ x there. subst (EffectFits x) (sym c.effect.ensures) (c.requires.fits x there)) is
 
 pub returns-clause-state : goal.returns-clause-state
 returns-clause-state g c = λ e is.
+    let s = c.args.self.now in
+    let reply = (disposed c.args.start.now s e c.args.disposition).reply in
     ap (with_flight (alone_of c.self.inside)) c.end.ensures
     ∙ ap (λ (s : Alone). without s c.args.number) c.self.view_is
-    ∙ concludes c.args.self.now c.send.new.self c.perform.new.self c.args.handling.reply c.args.number e c.args.handling.effect c.requires.waits is c.in_ok-sent.ensures.state c.perform.ensures
+    ∙ concludes s c.answer.new.self c.perform.new.self reply c.args.number e c.effect.result c.requires.waits is (c.in_ok-sent.ensures.state e is) c.perform.ensures
+    ∙ ap (λ (d : Effect). replied (done (without s c.args.number) e.bytes d) reply) c.effect.ensures

@@ -1,0 +1,133 @@
+//! What is done about a packet that ends, before what answers it is made.
+
+ghost use Rattle.std.specs.Prelude.{◌≡◌};
+ghost use Rattle.function.specs.Accesses.{IsAccess};
+ghost use Rattle.host_memory.specs.Pages.{page_of};
+ghost use Rattle.tlp_view.specs.Bytes.{packet_of};
+ghost use Rattle.request_handling.specs.Dispositions.{Suits, access_answer, effect_of, handling, reply_of};
+
+use crate::answers::{
+    forwarded, function_answer, function_refusal, host_data, host_operand, host_refusal,
+    port_answer,
+};
+use crate::handling::{Effect, Handling, Reply};
+use crate::page::place;
+use fab_types::{Bdf, PortId, Status};
+use function::Function;
+use host_memory::HostMemory;
+use layout::Start;
+use tlp_view::TlpView;
+
+/// What is done about a packet that ends.
+/// It is small, and moved in place of the answer, which is made where it is sent.
+#[derive(Clone, Copy)]
+pub enum Disposition {
+    /// Nothing happens, and nothing answers.
+    Discarded,
+    /// The port refuses what this function sent, with this status.
+    RefusedByPort(PortId, Bdf, Status),
+    /// The host refuses it.
+    RefusedByHost,
+    /// This function refuses it.
+    RefusedByFunction(Bdf),
+    /// The host counts a posted request whose page isn't mapped for it.
+    Blocked,
+    /// The host counts a non-posted request whose page isn't mapped for it, and refuses it.
+    BlockedAndRefused,
+    /// The host writes the enabled bytes to this frame, from this byte on.
+    Stored(u16, usize),
+    /// The host answers with what stands in this frame.
+    Shown(u16),
+    /// The host adds the operand to the bytes of this frame, from this byte on, and answers with what stood there.
+    Added(u16, usize),
+    /// The host sends the same request to this function, whose register page is at this address.
+    Forwarded(Bdf, u32),
+    /// This function's register page is written, or answers a read.
+    Accessed(Bdf),
+}
+
+/// A function that is one of these answers a read of its register page.
+fn access_answer(start: &Start, functions: &[Function], id: Bdf, view: &TlpView) -> Option<Reply>
+    requires { IsAccess view.now }
+    ensures { result ≡ access_answer start.now id view.now (page_of functions.now id) }
+{
+    match place(functions, id) {
+        Some(at) => function_answer(start, &functions[at], view),
+        None => None,
+    }
+}
+
+impl Disposition {
+    /// What that does with the state.
+    pub fn effect(&self) -> Effect
+        ensures { result ≡ effect_of self.now }
+    {
+        match self {
+            Disposition::Blocked | Disposition::BlockedAndRefused => Effect::Block,
+            Disposition::Stored(frame, first) => Effect::Store(*frame, *first),
+            Disposition::Added(frame, first) => Effect::Add(*frame, *first),
+            Disposition::Accessed(function) => Effect::Access(*function),
+            Disposition::Discarded
+            | Disposition::RefusedByPort(..)
+            | Disposition::RefusedByHost
+            | Disposition::RefusedByFunction(_)
+            | Disposition::Shown(_)
+            | Disposition::Forwarded(..) => Effect::Leave,
+        }
+    }
+
+    /// What answers the packet, if anything does.
+    pub fn reply(
+        &self,
+        start: &Start,
+        memory: &HostMemory,
+        functions: &[Function],
+        bytes: &[u8],
+    ) -> Option<Reply>
+        requires { Suits bytes.now self.now }
+        ensures { result ≡ reply_of start.now memory.now functions.now (packet_of bytes.now) self.now }
+    {
+        match self {
+            Disposition::Discarded | Disposition::Blocked | Disposition::Stored(..) => None,
+            Disposition::RefusedByPort(port, function, status) => {
+                let view = TlpView::again(bytes);
+                Some(port_answer(*port, *function, *status, &view))
+            }
+            Disposition::RefusedByHost | Disposition::BlockedAndRefused => {
+                Some(host_refusal(start, &TlpView::again(bytes)))
+            }
+            Disposition::RefusedByFunction(function) => {
+                Some(function_refusal(start, *function, &TlpView::again(bytes)))
+            }
+            Disposition::Shown(frame) => {
+                Some(host_data(start, memory, *frame, &TlpView::again(bytes)))
+            }
+            Disposition::Added(frame, _) => {
+                Some(host_operand(start, memory, *frame, &TlpView::again(bytes)))
+            }
+            Disposition::Forwarded(function, bar) => {
+                Some(forwarded(*function, *bar, &TlpView::again(bytes)))
+            }
+            Disposition::Accessed(function) => {
+                access_answer(start, functions, *function, &TlpView::again(bytes))
+            }
+        }
+    }
+
+    /// Both at once.
+    pub fn handling(
+        &self,
+        start: &Start,
+        memory: &HostMemory,
+        functions: &[Function],
+        bytes: &[u8],
+    ) -> Handling
+        requires { Suits bytes.now self.now }
+        ensures { result ≡ handling start.now memory.now functions.now (packet_of bytes.now) self.now }
+    {
+        Handling {
+            effect: self.effect(),
+            reply: self.reply(start, memory, functions, bytes),
+        }
+    }
+}
