@@ -35,13 +35,13 @@ use Rattle.domain.specs.declared.receive.Reception.{Reception}
 use Rattle.domain.specs.declared.receive.Reception.TheVariants.{Ends, Arrives}
 use Rattle.request_handling.specs.declared.taker.Taker.{Taker}
 use Rattle.request_handling.specs.declared.taker.Taker.TheVariants.{Host, Function, Port, Upstream}
-use Rattle.request_handling.specs.AtFunctions.{or_discarded, request_at_function}
+use Rattle.request_handling.specs.AtFunctions.{or_discarded}
 use Rattle.request_handling.specs.Requests.{at_frame_if, at_port, by_number, frame_at, request_at_host, unserved_by_host}
 use Rattle.domain.specs.Aliens.{answerer_of, at_function_with, at_host_with, is_excluded, received_if, reception_at, reception_by, reception_of, reception_unless}
 use Rattle.request_handling.specs.Answers.{address_of, host_refusal}
 use Rattle.request_handling.specs.AtFunctions.{discarded}
 use Rattle.request_handling.specs.Carries.{from_frame, is_owner, refusal_by, refused_by_host, serve, to_frame}
-use Rattle.domain.specs.Deliveries.{arrival_at, is_port}
+use Rattle.domain.specs.Deliveries.{arriving_at, is_port}
 use Rattle.domain.specs.Domains.{DomainView, Makes}
 use Rattle.domain_parts.specs.Ends.{BytesFit, EffectFits}
 use Rattle.request_handling.specs.Fates.{fate_at}
@@ -115,23 +115,23 @@ at_port_fits ports port b (Answer by x) = tt
 
 -- ---- what is received may be
 
-arrives_open : (tags : List OpenTag) (t : Packet) (b : List ℕ) (by : Answerer) (owner : Origin) (status : Status) → IsReceivable tags b (Arrives (arrival_at tags t b by owner status))
-arrives_open tags t b by owner status = λ e. both-first (is_open tags owner t.tag) (is_port by || (t.requester == origin_id owner)) e
+arrives_open : (tags : List OpenTag) (t : Packet) (b : List ℕ) (by : Answerer) (owner : Origin) (status : Status) → malformed b ≡ None → IsReceivable tags b (Arrives (arriving_at tags t by owner status))
+arrives_open tags t b by owner status good = (good, λ e. both-first (is_open tags owner t.tag) (is_port by || (t.requester == origin_id owner)) e)
 
 either_received : (tags : List OpenTag) (b : List ℕ) (test : Bool) (x y : Reception) → IsReceivable tags b x → IsReceivable tags b y → IsReceivable tags b (cond test x y)
 either_received tags b true x y of_x of_y = of_x
 either_received tags b false x y of_x of_y = of_y
 
-host_received : (o : Option Status) (share : Share) (s : Alone) (b : List ℕ) (sender : Parties) → malformed b ≡ None → IsReceivable s.open_tags b (at_host_with o share s b sender (packet_of b))
+host_received : (o : Option Status) (share : Share) (s : Alone) (b : List ℕ) (sender : Parties) → malformed b ≡ None → IsReceivable s.open_tags b (at_host_with o share s sender (packet_of b))
 host_received None share s b sender good = at_host_fits share s.frames b (address_type_in (packet_of b)) good
 host_received (Some status) share s b sender good =
     let t = packet_of b in
-    either_received s.open_tags b (target_for sender t.requester == host_of share.domain) (Arrives (arrival_at s.open_tags t b (answerer_of sender) (origin.Host share.domain) status)) (Ends discarded)
-    (arrives_open s.open_tags t b (answerer_of sender) (origin.Host share.domain) status) tt
+    either_received s.open_tags b (target_for sender t.requester == host_of share.domain) (Arrives (arriving_at s.open_tags t (answerer_of sender) (origin.Host share.domain) status)) (Ends discarded)
+    (arrives_open s.open_tags t b (answerer_of sender) (origin.Host share.domain) status good) tt
 
-function_received : (o : Option Status) (share : Share) (s : Alone) (g : ℕ) (b : List ℕ) (sender : Parties) → malformed b ≡ None → IsReceivable s.open_tags b (at_function_with o share s g b sender (packet_of b))
+function_received : (o : Option Status) (share : Share) (s : Alone) (g : ℕ) (b : List ℕ) (sender : Parties) → malformed b ≡ None → IsReceivable s.open_tags b (at_function_with o share s g sender (packet_of b))
 function_received None share s g b sender good = at_function_fits share s.registers g b good
-function_received (Some status) share s g b sender good = arrives_open s.open_tags (packet_of b) b (answerer_of sender) (origin.Function g) status
+function_received (Some status) share s g b sender good = arrives_open s.open_tags (packet_of b) b (answerer_of sender) (origin.Function g) status good
 
 at_fits : (share : Share) (s : Alone) (b : List ℕ) (sender : Parties) (taker : Taker) → malformed b ≡ None → IsReceivable s.open_tags b (reception_at share s b sender (packet_of b) taker)
 at_fits share s b sender Host good = host_received (status_in (packet_of b).body) share s b sender good

@@ -26,17 +26,16 @@ use Rattle.request_handling.specs.declared.fate.Fate.{Fate}
 use Rattle.request_handling.specs.declared.fate.Fate.TheVariants.{Vanish, Refused, ToHost, Direct}
 use Rattle.tlp_view.specs.Kinds.{is_fetch_add}
 use Rattle.request_handling.specs.Answers.{address_of, bar_of, function_answer, host_refusal}
-use Rattle.request_handling.specs.AtFunctions.{access_of, request_at_function}
+use Rattle.request_handling.specs.AtFunctions.{request_at_function}
 use Rattle.domain.proofs.FunctionFits.{at_function_fits, effect_fits}
 use Rattle.request_handling.specs.Carries.{add_if, carriage_by, carriage_end, carriage_of, forward, frame_for, is_carried, port_id, read_from, refusal_by, refusal_end, refusal_of, serve, serve_add, serve_read, write_to}
 use Rattle.domain.specs.Domains.{Arrives, Disposes, DomainView, EndsBy, disposed}
 use Rattle.domain_parts.specs.Ends.{EffectFits, conclude}
 use Rattle.request_handling.specs.Fates.{fate, fate_below, fate_unless}
-use Rattle.domain.specs.Machine.{carry, change, ended, refuse}
+use Rattle.domain.specs.Machine.{change, ended}
 use Rattle.request_handling.specs.Emissions.{Emission}
 use Rattle.request_handling.proofs.Discarding.{answer_discarded}
-use Rattle.domain_parts.specs.State.{Alone, Change, emits_nothing, item_at, without}
-use Rattle.domain.specs.declared.deliver.Arrival.{Arrival}
+use Rattle.domain_parts.specs.State.{Alone, emits_nothing, item_at, without}
 use Rattle.domain.specs.declared.deliver.Arriving.{Arriving}
 use Rattle.domain_parts.specs.Tags.{is_open}
 use Rattle.fab_types.specs.Origins.{origin_id}
@@ -44,7 +43,7 @@ use Rattle.fab_types.specs.declared.head.Answerer.{Answerer}
 use Rattle.fab_types.specs.declared.origin.Origin.{Origin}
 use Rattle.fab_types.specs.declared.status.Status.{Status}
 use Rattle.function.specs.declared.tags.OpenTag.{OpenTag}
-use Rattle.domain.specs.Deliveries.{Arrivable, arrival, arrival_at, arrival_by, arrival_for, arrival_of, arrived, is_port}
+use Rattle.domain.specs.Deliveries.{Arrivable, Arrival, arrival, arrival_at, arrival_by, arrival_for, arrival_of, arrived, is_port}
 
 abbrev some : {A : Type 0} → A → Option A
 some x = Some x

@@ -7,10 +7,9 @@ use Rattle.frame_log.specs.Descriptor.{Descriptor}
 use Rattle.platform.specs.Share.{Share}
 use Rattle.domain.specs.declared.entry.Entry.{Entry}
 use Rattle.domain.specs.declared.entry.Entry.TheVariants.{Submit}
-use Rattle.request_handling.specs.declared.handling.Effect.{Effect}
 use Rattle.domain.specs.Domains.{DomainView, EndsBy, Makes, disposed}
 use Rattle.request_handling.specs.declared.disposition.Disposition.{Disposition}
-use Rattle.domain_parts.specs.Ends.{EffectFits, conclude}
+use Rattle.domain_parts.specs.Ends.{conclude}
 use Rattle.request_handling.specs.Heads.{descriptor_of}
 use Rattle.domain.specs.Machine.{aliens_in, change, step_from, replay_from, replay, with_alien}
 use Rattle.request_handling.specs.Emissions.{Emission}
@@ -90,10 +89,6 @@ some x = Some x
 
 some_is : {A : Type 0} (x y : A) → some x ≡ some y → x ≡ y
 some_is x y e = cc
-
--- one packet stands under a number
-pub fits_each : (o : Option Emission) (e x : Emission) (d : Effect) → o ≡ Some x → EffectFits x d → o ≡ Some e → EffectFits e d
-fits_each o e x d is fits other = subst (λ (y : Emission). EffectFits y d) (some_is x e (sym is ∙ other)) fits
 
 -- the change that an end makes, by the state that it leaves
 pub ended_so : (v : DomainView) (e : Entry) (n : ℕ) (d : Disposition) (t : Alone) (h : EndsBy v e n d) → ((x : Emission) → item_at v.state.flight n ≡ Some x → t ≡ (conclude v.state n x.bytes (disposed v.share v.state x d)).state)

@@ -5,7 +5,6 @@ use Rattle.fab_types.specs.declared.head.Parties.{Parties}
 use Rattle.fab_types.specs.declared.head.Parties.TheVariants.{Upward}
 use Rattle.fab_types.specs.declared.place.Place.{Place}
 use Rattle.platform.specs.Share.{Share}
-use Rattle.domain.specs.declared.deliver.Arrival.{Arrival}
 use Rattle.request_handling.specs.declared.handling.Effect.{Effect}
 use Rattle.request_handling.specs.declared.handling.Effect.TheVariants.{Leave, Block, Store, Add, Access}
 use Rattle.request_handling.specs.declared.handling.Handling.{Handling}
@@ -15,7 +14,7 @@ use Rattle.domain.specs.declared.receive.Reception.TheVariants.{Ends, Arrives}
 use Rattle.domain.specs.Aliens.{received_if, reception_of}
 use Rattle.domain.specs.Receptions.{received}
 use Rattle.request_handling.specs.Carries.{carriage_end, refusal_end}
-use Rattle.domain.specs.Deliveries.{arrival, arrived, recorded, unexpected}
+use Rattle.domain.specs.Deliveries.{Arrival, arrival, arrival_by, arrived, recorded, unexpected}
 use Rattle.domain_parts.specs.Ends.{done, replied}
 use Rattle.domain.specs.Machine.{change, ended}
 use Rattle.request_handling.specs.Emissions.{Emission}
@@ -80,7 +79,7 @@ upward_stays share s n c f b h = λ is.
 
 received_flight : (s : Alone) (b : List ℕ) (r : Reception) → (received s b r).state.flight ≡ joined s.flight (received s b r).emission
 received_flight s b (Ends a) = replied_flight (done s b a.effect) a.reply ∙ ap (λ (fl : List (Option Emission)). joined fl a.reply) (done_flight s b a.effect)
-received_flight s b (Arrives a) = arrived_flight s a.delivery a.is_awaited
+received_flight s b (Arrives a) = arrived_flight s (arrival_by a b).delivery a.is_awaited
 
 taken_flight : (s : Alone) (b : List ℕ) (r : Option Reception) (c : Change) → received_if s b r ≡ Some c → c.state.flight ≡ joined s.flight c.emission
 taken_flight s b None c h = absurd cc

@@ -23,7 +23,6 @@ use Rattle.platform.specs.Owners.{is_function, is_own_function}
 use Rattle.platform.specs.Share.{Share}
 use Rattle.tlp_view.specs.Bytes.{packet_of}
 use Rattle.fab_types.specs.declared.host_access.HostAccess.{HostAccess}
-use Rattle.domain.specs.declared.deliver.Arrival.{Arrival}
 use Rattle.request_handling.specs.declared.handling.Effect.{Effect}
 use Rattle.request_handling.specs.declared.handling.Effect.TheVariants.{Leave, Block, Store, Add, Access}
 use Rattle.request_handling.specs.declared.handling.Handling.{Handling}
@@ -34,7 +33,7 @@ use Rattle.domain.specs.declared.receive.Reception.TheVariants.{Ends, Arrives}
 use Rattle.domain.specs.Aliens.{received_if, reception_of}
 use Rattle.request_handling.specs.Answers.{bar_of}
 use Rattle.request_handling.specs.Carries.{carriage_end, refusal_end}
-use Rattle.domain.specs.Deliveries.{arrival, arrived, recorded, unexpected}
+use Rattle.domain.specs.Deliveries.{Arrival, arrival, arrival_by, arrived, recorded, unexpected}
 use Rattle.domain_parts.specs.Closings.{completed}
 use Rattle.domain_parts.specs.Ends.{done, replied}
 use Rattle.domain_parts.specs.HostAccesses.{mmio_fault, mmio_unless, mmio_with, tag_for}
@@ -127,7 +126,7 @@ delivers_same s n (Some a) c h = subst (Same s) (some_is _ c h) (arrived_same (w
 received_same : (s : Alone) (b : List ℕ) (o : Option Reception) (c : Change) → received_if s b o ≡ Some c → Same s c
 received_same s b None c h = absurd cc
 received_same s b (Some (Ends a)) c h = subst (Same s) (some_is _ c h) (ap ids (replied_same (done s b a.effect) a.reply) ∙ done_same s b a.effect)
-received_same s b (Some (Arrives a)) c h = subst (Same s) (some_is _ c h) (arrived_same s a.delivery a.is_awaited)
+received_same s b (Some (Arrives a)) c h = subst (Same s) (some_is _ c h) (arrived_same s (arrival_by a b).delivery a.is_awaited)
 
 change_same : (share : Share) (s : Alone) (entry : Entry) (c : Change) → change share s entry ≡ Some c → Same s c
 change_same share s (Submit f b) c h = submit_same s f b (submit_fault share s f b) c h

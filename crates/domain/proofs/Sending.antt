@@ -5,10 +5,9 @@ use Rattle.std.proofs.lemmas.List.{append-nil}
 use Rattle.std.proofs.lemmas.Option.{get_or_from_slice_get, slice_get_within}
 use Rattle.fab_types.specs.declared.origin.Origin.{Origin}
 use Rattle.platform.specs.Share.{Share}
-use Rattle.domain.specs.declared.deliver.Arrival.{Arrival}
 use Rattle.domain.specs.declared.entry.Entry.{Entry}
 use Rattle.domain.specs.declared.entry.Entry.TheVariants.{Submit, Tick, Mmio, Refuse, Carry, Deliver, Alien}
-use Rattle.domain.specs.Deliveries.{arrival, arrived}
+use Rattle.domain.specs.Deliveries.{Arrival, arrival, arrived}
 use Rattle.domain.specs.Machine.{change, replay, replay_from, step_from}
 use Rattle.domain.specs.Sent.{AreSent, IsBySource, Sent, sent, sent_at, sent_by_entry, sent_from, sent_of, source}
 use Rattle.request_handling.specs.Emissions.{Emission}

@@ -25,7 +25,7 @@ use Rattle.request_handling.specs.declared.taker.Taker.TheVariants.{Host, Functi
 use Rattle.request_handling.specs.AtFunctions.{discarded}
 use Rattle.request_handling.specs.AtFunctions.{request_at_function}
 use Rattle.request_handling.specs.Requests.{at_port, request_at_host}
-use Rattle.domain.specs.Deliveries.{arrival_at}
+use Rattle.domain.specs.Deliveries.{arriving_at}
 use Rattle.request_handling.specs.Heads.{target_for}
 use Rattle.domain.specs.Receptions.{received}
 use Rattle.domain_parts.specs.State.{Alone, Change}
@@ -39,30 +39,30 @@ answerer_of (Downward function) = by.Host
 answerer_of (Answer answerer addressee) = answerer
 
 -- the host takes those that are routed to its own ID
-abbrev pub completion_at_host : Share → List OpenTag → List ℕ → Parties → Packet → Status → Reception
-completion_at_host share tags bytes sender t status =
-    if target_for sender t.requester == host_of share.domain then Arrives (arrival_at tags t bytes (answerer_of sender) (origin.Host share.domain) status)
+abbrev pub completion_at_host : Share → List OpenTag → Parties → Packet → Status → Reception
+completion_at_host share tags sender t status =
+    if target_for sender t.requester == host_of share.domain then Arrives (arriving_at tags t (answerer_of sender) (origin.Host share.domain) status)
     else Ends discarded
 
 -- ---- at each of them: what has a status is a completion, all else a request
 
-abbrev pub at_host_with : Option Status → Share → Alone → List ℕ → Parties → Packet → Reception
-at_host_with None share s bytes sender t = Ends (request_at_host share s.frames t (address_type_in t))
-at_host_with (Some status) share s bytes sender t = completion_at_host share s.open_tags bytes sender t status
+abbrev pub at_host_with : Option Status → Share → Alone → Parties → Packet → Reception
+at_host_with None share s sender t = Ends (request_at_host share s.frames t (address_type_in t))
+at_host_with (Some status) share s sender t = completion_at_host share s.open_tags sender t status
 
-abbrev pub at_host : Share → Alone → List ℕ → Parties → Packet → Reception
-at_host share s bytes sender t = at_host_with (status_in t.body) share s bytes sender t
+abbrev pub at_host : Share → Alone → Parties → Packet → Reception
+at_host share s sender t = at_host_with (status_in t.body) share s sender t
 
-abbrev pub at_function_with : Option Status → Share → Alone → ℕ → List ℕ → Parties → Packet → Reception
-at_function_with None share s g bytes sender t = Ends (request_at_function share s.registers g t)
-at_function_with (Some status) share s g bytes sender t = Arrives (arrival_at s.open_tags t bytes (answerer_of sender) (origin.Function g) status)
+abbrev pub at_function_with : Option Status → Share → Alone → ℕ → Parties → Packet → Reception
+at_function_with None share s g sender t = Ends (request_at_function share s.registers g t)
+at_function_with (Some status) share s g sender t = Arrives (arriving_at s.open_tags t (answerer_of sender) (origin.Function g) status)
 
-abbrev pub at_function : Share → Alone → ℕ → List ℕ → Parties → Packet → Reception
-at_function share s g bytes sender t = at_function_with (status_in t.body) share s g bytes sender t
+abbrev pub at_function : Share → Alone → ℕ → Parties → Packet → Reception
+at_function share s g sender t = at_function_with (status_in t.body) share s g sender t
 
 abbrev pub reception_at : Share → Alone → List ℕ → Parties → Packet → Taker → Reception
-reception_at share s bytes sender t Host = at_host share s bytes sender t
-reception_at share s bytes sender t (Function g) = at_function share s g bytes sender t
+reception_at share s bytes sender t Host = at_host share s sender t
+reception_at share s bytes sender t (Function g) = at_function share s g sender t
 reception_at share s bytes sender t (Port port) = Ends (at_port share.ports port bytes sender)
 reception_at share s bytes sender t Upstream = Ends discarded
 

@@ -9,7 +9,6 @@ use Rattle.fab_types.specs.declared.status.Status.{Status}
 use Rattle.tlp_view.specs.Bytes.{packet_of}
 use Rattle.tlp_view.specs.Malformed.{malformed}
 use Rattle.tlp_view.specs.Packet.{Packet, status_in}
-use Rattle.domain.specs.declared.deliver.Arrival.{Arrival}
 use Rattle.domain.specs.declared.deliver.Arriving.{Arriving}
 use Rattle.function.specs.declared.tags.OpenTag.{OpenTag}
 use Rattle.fab_types.specs.Origins.{origin_id}
@@ -23,21 +22,25 @@ is_port by.Port = true
 is_port by.Host = false
 is_port (by.Function function) = false
 
-abbrev pub delivery_of : Origin → Packet → Status → List ℕ → Delivery
-delivery_of owner t status bytes = record { owner = owner; tag = t.tag; status = status; bytes = bytes }
+-- the record of a completion that arrives, and whether its addressee waits for it
+pub record Arrival : Type 0 where
+  pub delivery : Delivery
+  pub is_awaited : Bool
 
 -- awaited is a completion with an open Tag of the addressee; only a port's answer may bear another Requester ID
 abbrev pub is_awaited : List OpenTag → Answerer → Origin → Packet → Bool
 is_awaited tags answerer owner t = is_open tags owner t.tag && (is_port answerer || (t.requester == origin_id owner))
 
--- a completion of this status at this function or host
-abbrev pub arrival_at : List OpenTag → Packet → List ℕ → Answerer → Origin → Status → Arrival
-arrival_at tags t bytes answerer owner status =
-    record { delivery = delivery_of owner t status bytes; is_awaited = is_awaited tags answerer owner t }
+-- a completion of this status at this function or host, without its bytes
+abbrev pub arriving_at : List OpenTag → Packet → Answerer → Origin → Status → Arriving
+arriving_at tags t answerer owner status = record { owner = owner; tag = t.tag; status = status; is_awaited = is_awaited tags answerer owner t }
 
--- what is known of it without its bytes, and those
+-- the same with them
 abbrev pub arrival_by : Arriving → List ℕ → Arrival
 arrival_by a bytes = record { delivery = record { owner = a.owner; tag = a.tag; status = a.status; bytes = bytes }; is_awaited = a.is_awaited }
+
+abbrev pub arrival_at : List OpenTag → Packet → List ℕ → Answerer → Origin → Status → Arrival
+arrival_at tags t bytes answerer owner status = arrival_by (arriving_at tags t answerer owner status) bytes
 
 -- a packet that has no status is no completion, and arrives at nobody
 abbrev pub arrival_for : List OpenTag → List ℕ → Answerer → Option Origin → Option Arrival

@@ -8,12 +8,11 @@ use Rattle.domain.specs.declared.consume.EntryFault.{EntryFault}
 use Rattle.domain.specs.declared.consume.EntryFault.TheVariants.{Illegal}
 use Rattle.domain.specs.declared.consume.EntryFault.TheVariants as end
 use Rattle.domain.specs.declared.entry.Entry.{Entry}
-use Rattle.domain.specs.declared.deliver.Arrival.{Arrival}
 use Rattle.request_handling.specs.declared.disposition.Disposition.{Disposition}
 use Rattle.request_handling.specs.declared.handling.Handling.{Handling}
 use Rattle.request_handling.specs.Dispositions.{Suits, effect_of, handling}
 use Rattle.tlp_view.specs.Bytes.{packet_of}
-use Rattle.domain.specs.Deliveries.{arrival, record_of_arrival}
+use Rattle.domain.specs.Deliveries.{Arrival, arrival, record_of_arrival}
 use Rattle.domain.specs.Deliveries.{arrived as arrived_state}
 use Rattle.domain_parts.specs.Ends.{EffectFits, conclude}
 use Rattle.request_handling.specs.Emissions.{Emission}

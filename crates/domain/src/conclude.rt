@@ -3,6 +3,7 @@
 ghost use Rattle.std.specs.Prelude.{◌≡◌, ◌+◌, ◌<◌, ◌≤◌, ◌^◌, IfOk, IsSome, OnErr, length, option_map, vec_capacity, true, None, Some, ◌++◌, ◌∷◌, []};
 ghost use Rattle.tlp_view.specs.Bytes.{packet_of};
 ghost use Rattle.domain.specs.Deliveries.{Arrivable, arrival_by, arrived, recorded, unexpected};
+ghost use Rattle.domain.specs.Receptions.{MayArrive};
 ghost use Rattle.domain_parts.specs.Closings.{closed, completed, use_of};
 ghost use Rattle.domain_parts.specs.Ends.{EffectFits, conclude, done, replied};
 ghost use Rattle.request_handling.specs.Heads.{descriptor_of};
@@ -12,7 +13,7 @@ ghost use Rattle.domain.specs.Domains.{disposed};
 ghost use Rattle.domain_parts.specs.State.{item_at, without};
 ghost use Rattle.domain_parts.specs.Tags.{is_open};
 
-use crate::deliver::{Arrival, Arriving, Record};
+use crate::deliver::{Arriving, Record};
 use crate::state::State;
 use domain_parts::{close, complete, use_of};
 use fab_types::{DomainId, NoMemory};
@@ -86,6 +87,7 @@ impl State {
     }
 
     /// Emits what answers the packet of this number, which ends so. Where memory was refused nothing changes.
+    #[tactic(auto, using(request_handling::proofs::Suiting::unanswered))]
     fn answer<R: Wait>(
         &mut self,
         rt: &R,
@@ -99,6 +101,9 @@ impl State {
         ensures sent { IfOk result (λ sent. (e : Emission) → item_at self.old.flight number ≡ Some e → sent ≡ option_map (descriptor_of start.now.domain (length self.old.flight)) (disposed start.now self.old e disposition).reply) }
         ensures err { OnErr result ((self.new ≡ self.old) × ((e : Emission) → item_at self.old.flight number ≡ Some e → IsSome (disposed start.now self.old e disposition).reply)) }
     {
+        if !disposition.may_answer() {
+            return Ok(None);
+        }
         let Some((_, bytes)) = self.flight.item(number) else {
             unreachable!();
         };
@@ -130,18 +135,15 @@ impl State {
         Ok(sent)
     }
 
-    /// A completion arrives so.
-    pub(crate) fn arrive(&mut self, arrival: Arrival)
+    /// A completion of these bytes arrives so.
+    pub(crate) fn arrive(&mut self, bytes: &[u8], arriving: &Arriving)
         requires counts { self.old.counts.unexpected + 1 < 2 ^ 64 }
-        requires is_open { arrival.is_awaited ≡ true → is_open self.old.open_tags (arrival.delivery).owner (arrival.delivery).tag ≡ true }
-        ensures { self.new ≡ arrived self.old arrival }
+        requires short { length bytes.now ≤ 272 }
+        requires arrives { MayArrive self.old.open_tags bytes.now arriving.now }
+        ensures { self.new ≡ arrived self.old (arrival_by arriving.now bytes.now) }
     {
-        let Arrival {
-            delivery,
-            is_awaited,
-        } = arrival;
-        if is_awaited {
-            self.keep(delivery);
+        if arriving.is_awaited {
+            self.keep(arriving.record(bytes));
         } else {
             self.count_unexpected();
         }

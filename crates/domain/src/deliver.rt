@@ -1,8 +1,8 @@
 //! The delivery of a completion to the function or host that it goes to.
 
-ghost use Rattle.std.specs.Prelude.{◌≡◌, ◌≤◌, ℕ, List, length, None, option_map};
+ghost use Rattle.std.specs.Prelude.{◌≡◌, ◌≤◌, length, None, option_map};
 ghost use Rattle.tlp_view.specs.Malformed.{malformed};
-ghost use Rattle.domain.specs.Deliveries.{arrival_at, arrival_by, arrival_for, is_awaited, is_port};
+ghost use Rattle.domain.specs.Deliveries.{arrival_by, arrival_for, arriving_at, is_awaited, is_port};
 
 use crate::copies::copied;
 use arrayvec::ArrayVec;
@@ -104,13 +104,6 @@ impl Arriving {
     }
 }
 
-/// A completion that is to be delivered, and whether its addressee waits for it.
-#[derive(Drop)]
-pub(crate) struct Arrival {
-    pub(crate) delivery: Record,
-    pub(crate) is_awaited: bool,
-}
-
 fn is_port(answerer: Answerer) -> bool
     ensures { result ≡ is_port answerer }
 {
@@ -126,14 +119,14 @@ fn is_awaited(tags: &[OpenTag], answerer: Answerer, owner: Origin, view: &TlpVie
 }
 
 /// A well-formed completion of this status at this function or host.
-fn arriving_at(
+pub(crate) fn arriving_at(
     tags: &[OpenTag],
     view: &TlpView,
     answerer: Answerer,
     owner: Origin,
     status: Status,
 ) -> Arriving
-    ensures { (bytes : List ℕ) → arrival_by result bytes ≡ arrival_at tags.now view.now bytes answerer owner status }
+    ensures { result ≡ arriving_at tags.now view.now answerer owner status }
 {
     let same = owner;
     let is_awaited = is_awaited(tags, answerer, same, view);
@@ -142,26 +135,6 @@ fn arriving_at(
         tag: view.tag(),
         status,
         is_awaited,
-    }
-}
-
-/// The same with its record.
-pub(crate) fn arrival_at(
-    tags: &[OpenTag],
-    view: &TlpView,
-    bytes: &[u8],
-    answerer: Answerer,
-    owner: Origin,
-    status: Status,
-) -> Arrival
-    requires well_formed { malformed bytes.now ≡ None }
-    requires short { length bytes.now ≤ 272 }
-    ensures { result ≡ arrival_at tags.now view.now bytes.now answerer owner status }
-{
-    let arriving = arriving_at(tags, view, answerer, owner, status);
-    Arrival {
-        delivery: arriving.record(bytes),
-        is_awaited: arriving.is_awaited,
     }
 }
 

@@ -1,11 +1,11 @@
 //! The change of a domain's state that an alien packet makes.
 
-ghost use Rattle.std.specs.Prelude.{◌≡◌, ◌+◌, ◌<◌, ◌^◌, IfOk, OnErr, length, option_map};
+ghost use Rattle.std.specs.Prelude.{◌≡◌, ◌+◌, ◌<◌, ◌≤◌, ◌^◌, IfOk, OnErr, length, option_map};
 ghost use Rattle.domain_parts.specs.Ends.{BytesFit, does};
 ghost use Rattle.request_handling.specs.Heads.{descriptor_of};
 ghost use Rattle.domain.specs.Receptions.{IsReceivable, received};
 
-use crate::deliver::Arrival;
+use crate::deliver::Arriving;
 use crate::state::State;
 use fab_types::{DomainId, NoMemory};
 use frame_log::Frame;
@@ -16,7 +16,7 @@ use std::sync::Wait;
 #[derive(Drop)]
 pub(crate) enum Reception {
     Ends(Handling),
-    Arrives(Arrival),
+    Arrives(Arriving),
 }
 
 impl State {
@@ -50,6 +50,7 @@ impl State {
     ) -> Result<Option<Frame>, NoMemory>
         requires blocks { self.old.counts.blocked + 1 < 2 ^ 64 }
         requires counts { self.old.counts.unexpected + 1 < 2 ^ 64 }
+        requires short { length bytes.now ≤ 272 }
         requires fits { IsReceivable self.old.open_tags bytes.now reception }
         ensures state { IfOk result (λ _. self.new ≡ (received self.old bytes.now reception).state) }
         ensures sent { IfOk result (λ sent. sent ≡ option_map (descriptor_of domain (length self.old.flight)) (received self.old bytes.now reception).emission) }
@@ -57,8 +58,8 @@ impl State {
     {
         match reception {
             Reception::Ends(handling) => self.end_bytes(rt, domain, bytes, handling),
-            Reception::Arrives(arrival) => {
-                self.arrive(arrival);
+            Reception::Arrives(arriving) => {
+                self.arrive(bytes, &arriving);
                 Ok(None)
             }
         }

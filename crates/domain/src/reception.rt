@@ -1,6 +1,6 @@
 //! What becomes of an alien packet at the one that takes it.
 
-ghost use Rattle.std.specs.Prelude.{◌≡◌, ◌≤◌, ◌==◌, length};
+ghost use Rattle.std.specs.Prelude.{◌≡◌, ◌≤◌, ◌==◌, IfSome, length};
 ghost use Rattle.std.specs.List.{find};
 ghost use Rattle.fab_types.specs.Id.{host_of};
 ghost use Rattle.tlp_view.specs.Bytes.{packet_of};
@@ -9,7 +9,7 @@ ghost use Rattle.request_handling.specs.Dispositions.{Suits, handling};
 ghost use Rattle.request_handling.specs.Requests.{at_port};
 ghost use Rattle.domain.specs.Aliens.{answerer_of, at_function, at_host, completion_at_host, reception_at, reception_unless};
 
-use crate::deliver::arrival_at;
+use crate::deliver::arriving_at;
 use crate::domain::Domain;
 use crate::receive::Reception;
 use fab_types::{Answerer, Bdf, Origin, Parties, Place, Status};
@@ -42,16 +42,8 @@ impl Domain {
     }
 
     /// A completion of this status at the host.
-    fn completion_at_host(
-        &self,
-        bytes: &[u8],
-        sender: Parties,
-        view: &TlpView,
-        status: Status,
-    ) -> Reception
-        requires well_formed { malformed bytes.now ≡ None }
-        requires short { length bytes.now ≤ 272 }
-        ensures { result ≡ completion_at_host self.now.share self.now.state.open_tags bytes.now sender view.now status }
+    fn completion_at_host(&self, sender: Parties, view: &TlpView, status: Status) -> Reception
+        ensures { result ≡ completion_at_host self.now.share self.now.state.open_tags sender view.now status }
     {
         let domain = self.start.domain();
         let these = sender;
@@ -61,18 +53,17 @@ impl Domain {
         let tags = self.state.open_tags();
         let owner = Origin::Host(domain);
         let answerer = answerer_of(sender);
-        Reception::Arrives(arrival_at(tags, view, bytes, answerer, owner, status))
+        Reception::Arrives(arriving_at(tags, view, answerer, owner, status))
     }
 
     #[tactic(auto, using(request_handling::proofs::Suiting::served_suits))]
     fn at_host(&self, bytes: &[u8], sender: Parties, view: &TlpView) -> Reception
         requires well_formed { malformed bytes.now ≡ None }
         requires read { view.now ≡ packet_of bytes.now }
-        requires short { length bytes.now ≤ 272 }
-        ensures { result ≡ at_host self.now.share self.now.state bytes.now sender view.now }
+        ensures { result ≡ at_host self.now.share self.now.state sender view.now }
     {
         match view.status() {
-            Some(status) => self.completion_at_host(bytes, sender, view, status),
+            Some(status) => self.completion_at_host(sender, view, status),
             None => {
                 let disposition = request_at_host(&self.start, &self.table, view);
                 Reception::Ends(self.handling(bytes, disposition))
@@ -84,15 +75,14 @@ impl Domain {
     fn at_function(&self, function: Bdf, bytes: &[u8], sender: Parties, view: &TlpView) -> Reception
         requires well_formed { malformed bytes.now ≡ None }
         requires read { view.now ≡ packet_of bytes.now }
-        requires short { length bytes.now ≤ 272 }
-        ensures { result ≡ at_function self.now.share self.now.state function bytes.now sender view.now }
+        ensures { result ≡ at_function self.now.share self.now.state function sender view.now }
     {
         match view.status() {
             Some(status) => {
                 let tags = self.state.open_tags();
                 let owner = Origin::Function(function);
                 let answerer = answerer_of(sender);
-                Reception::Arrives(arrival_at(tags, view, bytes, answerer, owner, status))
+                Reception::Arrives(arriving_at(tags, view, answerer, owner, status))
             }
             None => {
                 let functions = self.state.functions();
@@ -105,7 +95,6 @@ impl Domain {
     fn reception_at(&self, bytes: &[u8], sender: Parties, view: &TlpView, taker: Taker) -> Reception
         requires well_formed { malformed bytes.now ≡ None }
         requires read { view.now ≡ packet_of bytes.now }
-        requires short { length bytes.now ≤ 272 }
         ensures { result ≡ reception_at self.now.share self.now.state bytes.now sender view.now taker }
     {
         match taker {
@@ -121,7 +110,6 @@ impl Domain {
 
     /// What becomes of these bytes at the one that takes them.
     fn received_by(&self, bytes: &[u8], sender: Parties, taker: Taker) -> Reception
-        requires { length bytes.now ≤ 272 }
         ensures { result ≡ reception_unless (malformed bytes.now) self.now.share self.now.state bytes.now sender taker }
     {
         match TlpView::read(bytes) {
@@ -132,7 +120,8 @@ impl Domain {
 
     /// What becomes of an alien packet, if it may be taken there.
     pub(crate) fn reception(&self, place: Place, sender: Parties, bytes: &[u8]) -> Option<Reception>
-        ensures { result ≡ reception_of self.now.share self.now.state place sender bytes.now }
+        ensures value { result ≡ reception_of self.now.share self.now.state place sender bytes.now }
+        ensures short { IfSome result (λ _. length bytes.now ≤ 272) }
     {
         if self.start.is_guarded() || bytes.len() > 272 {
             return None;

@@ -4,3 +4,4 @@ pub mod Controls
 pub mod Faults
 pub mod Origins
 pub mod Texts
+pub mod PacketBytes

@@ -1,17 +1,29 @@
 //! Bytes of packets.
 
-ghost use Rattle.std.specs.Prelude.{◌≡◌, IfOk, nat_eq};
+ghost use Rattle.std.specs.Prelude.{◌≡◌, IfOk, IfSome, nat_eq};
 ghost use Rattle.std.specs.Cmp.{partial_equiv_from_equiv};
 ghost use Rattle.std.specs.Cmp.Lexicographic.{nat_list_eq_equiv, pointwise};
 
 use crate::faults::memory::NoMemory;
+use arrayvec::ArrayVec;
 use std::alloc::Global;
+use std::fmt;
 use std::marker::Model;
 
+/// How many bytes stand in the value itself: a header of 4 DW, or one of 3 DW with a payload of one.
+const SHORT: usize = 16;
+
+/// Where the bytes stand. A short packet takes no memory of its own.
+#[derive(Drop)]
+enum Kept {
+    Short(ArrayVec<u8, SHORT>),
+    Long(Vec<u8>),
+}
+
 /// The bytes of a packet, header and payload. A contract sees the list.
-#[derive(Debug, Drop)]
+#[derive(Drop)]
 pub struct PacketBytes {
-    items: Vec<u8>,
+    kept: Kept,
 }
 
 impl Model for PacketBytes {
@@ -19,38 +31,57 @@ impl Model for PacketBytes {
 
     ghost Value = { List ℕ };
 
-    ghost view = { λ p. p.items.items };
+    ghost use Rattle.fab_types.specs.PacketBytes.{kept_bytes};
+
+    ghost view = { λ p. kept_bytes p.kept };
+}
+
+/// A copy in the value itself, if the bytes fit.
+fn short_copy(bytes: &[u8]) -> Option<ArrayVec<u8, SHORT>>
+    ensures { IfSome result (λ copy. copy.items ≡ bytes.now) }
+{
+    let mut copy = ArrayVec::new();
+    match copy.try_extend_from_slice(bytes) {
+        Ok(()) => Some(copy),
+        Err(_) => None,
+    }
 }
 
 impl PacketBytes {
-    /// A copy of these bytes.
+    /// A copy of these bytes. It answers `NoMemory` where memory was refused, which bytes of at most 16 take none of.
     pub fn copy_of(alloc: Global, bytes: &[u8]) -> Result<PacketBytes, NoMemory>
         ensures { IfOk result (λ copy. copy ≡ bytes.now) }
     {
-        let items = Vec::from_slice(alloc, bytes)?;
-        Ok(PacketBytes { items })
+        let kept = match short_copy(bytes) {
+            Some(copy) => Kept::Short(copy),
+            None => Kept::Long(Vec::from_slice(alloc, bytes)?),
+        };
+        Ok(PacketBytes { kept })
     }
 
     /// These bytes, without a copy of them.
     pub fn from_vec(items: Vec<u8>) -> PacketBytes
         ensures { result ≡ items.items }
     {
-        PacketBytes { items }
-    }
-
-    /// The bytes as a list, without a copy of them.
-    pub fn into_vec(self) -> Vec<u8>
-        ensures { result.items ≡ self }
-    {
-        let PacketBytes { items } = self;
-        items
+        PacketBytes {
+            kept: Kept::Long(items),
+        }
     }
 
     /// Lends the bytes.
     pub fn as_slice(&self) -> &[u8]
         ensures { result.now ≡ self.now }
     {
-        self.items.as_slice()
+        match &self.kept {
+            Kept::Short(items) => items.as_slice(),
+            Kept::Long(items) => items.as_slice(),
+        }
+    }
+}
+
+impl fmt::Debug for PacketBytes {
+    fn fmt<W: fmt::Write>(&self, f: &mut fmt::Formatter<W>) -> fmt::Result {
+        fmt::Debug::fmt(self.as_slice(), f)
     }
 }
 

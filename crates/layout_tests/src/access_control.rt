@@ -71,14 +71,17 @@ fn the_bus_of_the_requester_is_tested_and_then_the_address_type(
     rt: HostRuntime,
 ) -> Result<(), Fail> {
     let layout = Layout::read(rt.alloc(), EXAMPLE)?;
-    let port = port_of(&layout, 0x0210).ok_or("no port")?;
-    assert_eq!(rt; vet(&port, &request(0x09ff)), Verdict::Pass);
-    assert_eq!(rt; vet(&port, &request(0x0a00)), SPOOFED);
-    let port = port_of(&layout, 0x0208).ok_or("no port")?;
-    assert_eq!(rt; vet(&port, &request(0x051d)), Verdict::Pass);
-    let port = port_of(&layout, 0x0500).ok_or("no port")?;
-    assert_eq!(rt; vet(&port, &translated_write(0x0300)), SPOOFED);
-    assert_eq!(rt; vet(&port, &translated_write(0x0600)), TRANSLATED);
+    let packets = [
+        (0x0210, request(0x09ff), Verdict::Pass),
+        (0x0210, request(0x0a00), SPOOFED),
+        (0x0208, request(0x051d), Verdict::Pass),
+        (0x0500, translated_write(0x0300), SPOOFED),
+        (0x0500, translated_write(0x0600), TRANSLATED),
+    ];
+    for (id, header, verdict) in packets {
+        let port = port_of(&layout, id).ok_or("no port")?;
+        assert!(rt; vet(&port, &header) == verdict);
+    }
     Ok(())
 }
 

@@ -3,7 +3,7 @@
 use crate::example::EXAMPLE;
 use fab_types::{Bdf, DomainId};
 use layout::Layout;
-use platform::MapTarget;
+use platform::{CreditLimits, MapTarget};
 use std::test::Fail;
 
 fn read(rt: &HostRuntime, text: &str) -> Result<Layout, Fail> {
@@ -13,15 +13,36 @@ fn read(rt: &HostRuntime, text: &str) -> Result<Layout, Fail> {
 #[test]
 fn an_id_is_owned_by_its_bus_or_as_a_host(rt: HostRuntime) -> Result<(), Fail> {
     let layout = read(&rt, EXAMPLE)?;
-    let owner = |id: Bdf| layout.owner(id).map(|domain| domain.get());
-    assert_eq!(rt; owner(Bdf::from_bits(0x0300)), Some(1));
-    assert_eq!(rt; owner(Bdf::from_bits(0x0328)), Some(1));
-    assert_eq!(rt; owner(Bdf::from_bits(0x0500)), Some(2));
-    assert_eq!(rt; owner(Bdf::from_bits(0x0918)), Some(1));
-    assert_eq!(rt; owner(Bdf::from_bits(0x0a00)), None);
-    assert_eq!(rt; owner(Bdf::from_bits(0x0010)), Some(2));
-    assert_eq!(rt; owner(Bdf::from_bits(0x0018)), None);
+    let owners = [
+        (0x0300, Some(1)),
+        (0x0328, Some(1)),
+        (0x0500, Some(2)),
+        (0x0918, Some(1)),
+        (0x0a00, None),
+        (0x0010, Some(2)),
+        (0x0018, None),
+    ];
+    for (id, owner) in owners {
+        let found = layout.owner(Bdf::from_bits(id));
+        assert_eq!(rt; found.map(|domain| domain.get()), owner);
+    }
     Ok(())
+}
+
+/// The headers and the payload of each class, in the order of a line.
+fn headers_and_data(limits: &CreditLimits) -> ((u16, u16, u16), (u16, u16, u16)) {
+    (
+        (
+            limits.posted_headers,
+            limits.non_posted_headers,
+            limits.completion_headers,
+        ),
+        (
+            limits.posted_data,
+            limits.non_posted_data,
+            limits.completion_data,
+        ),
+    )
 }
 
 #[test]
@@ -29,26 +50,16 @@ fn a_link_has_usual_credits_or_those_of_its_line(rt: HostRuntime) -> Result<(), 
     let mut text = String::from_str(rt.alloc(), EXAMPLE)?;
     text.push_str("credit 04:00.0 1 16 2 17 3 18\n")?;
     let layout = read(&rt, text.as_str())?;
-    let headers = |id: Bdf| {
-        layout.credits(id).map(|limits| (
-            limits.posted_headers,
-            limits.non_posted_headers,
-            limits.completion_headers,
-        ))
-    };
-    let payload = |id: Bdf| {
-        layout.credits(id).map(|limits| (
-            limits.posted_data,
-            limits.non_posted_data,
-            limits.completion_data,
-        ))
-    };
-    assert_eq!(rt; headers(Bdf::from_bits(0x0300)), Some((16, 16, 16)));
-    assert_eq!(rt; payload(Bdf::from_bits(0x0300)), Some((64, 16, 64)));
-    assert_eq!(rt; headers(Bdf::from_bits(0x0400)), Some((1, 2, 3)));
-    assert_eq!(rt; payload(Bdf::from_bits(0x0400)), Some((16, 17, 18)));
-    assert_eq!(rt; headers(Bdf::from_bits(0x0100)), Some((16, 16, 16)));
-    assert_eq!(rt; headers(Bdf::from_bits(0x0200)), None);
+    let links = [
+        (0x0300, Some(((16, 16, 16), (64, 16, 64)))),
+        (0x0400, Some(((1, 2, 3), (16, 17, 18)))),
+        (0x0100, Some(((16, 16, 16), (64, 16, 64)))),
+        (0x0200, None),
+    ];
+    for (id, wanted) in links {
+        let found = layout.credits(Bdf::from_bits(id));
+        assert!(rt; found.map(|limits| headers_and_data(&limits)) == wanted);
+    }
     Ok(())
 }
 

@@ -46,23 +46,41 @@ fn packets_go_to_the_port_that_has_their_target_below(rt: HostRuntime) -> Result
     Ok(())
 }
 
+/// The first of these addresses to which a request from above doesn't go as it says: to the port of this ID, or to nobody.
+fn astray(bridge: &Bridge, requests: &[(u64, Option<u16>)]) -> Option<u64> {
+    for (address, to) in requests {
+        let wanted = match to {
+            Some(id) => Route::Port(port(*id)),
+            None => Route::Nobody,
+        };
+        if bridge.route(port(0x0100), &request(*address)) != wanted {
+            return Some(*address);
+        }
+    }
+    None
+}
+
+/// The first and the last bytes of the example's windows, and those beside them.
+const BESIDE_ONE_ANOTHER: [(u64, Option<u16>); 12] = [
+    (0, None),
+    (0x8fff_ffff, None),
+    (0x9000_0000, Some(0x0200)),
+    (0x900f_ffff, Some(0x0200)),
+    (0x9010_0000, Some(0x0208)),
+    (0x9020_0000, Some(0x0208)),
+    (0x902f_ffff, Some(0x0208)),
+    (0x9030_0000, Some(0x0210)),
+    (0x903f_ffff, Some(0x0210)),
+    (0x9040_0000, None),
+    (0x1_9000_0000, None),
+    (u64::MAX, None),
+];
+
 #[test]
 fn requests_go_by_the_first_and_the_last_byte_of_windows(rt: HostRuntime) -> Result<(), Fail> {
     let layout = Layout::read(rt.alloc(), EXAMPLE)?;
     let bridge = Bridge::new(rt.alloc(), &layout)?;
-    let from_above = |address: u64| bridge.route(port(0x0100), &request(address));
-    assert_eq!(rt; from_above(0), Route::Nobody);
-    assert_eq!(rt; from_above(0x8fff_ffff), Route::Nobody);
-    assert_eq!(rt; from_above(0x9000_0000), Route::Port(port(0x0200)));
-    assert_eq!(rt; from_above(0x900f_ffff), Route::Port(port(0x0200)));
-    assert_eq!(rt; from_above(0x9010_0000), Route::Port(port(0x0208)));
-    assert_eq!(rt; from_above(0x9020_0000), Route::Port(port(0x0208)));
-    assert_eq!(rt; from_above(0x902f_ffff), Route::Port(port(0x0208)));
-    assert_eq!(rt; from_above(0x9030_0000), Route::Port(port(0x0210)));
-    assert_eq!(rt; from_above(0x903f_ffff), Route::Port(port(0x0210)));
-    assert_eq!(rt; from_above(0x9040_0000), Route::Nobody);
-    assert_eq!(rt; from_above(0x1_9000_0000), Route::Nobody);
-    assert_eq!(rt; from_above(u64::MAX), Route::Nobody);
+    assert_eq!(rt; astray(&bridge, &BESIDE_ONE_ANOTHER), None);
     Ok(())
 }
 
@@ -74,22 +92,26 @@ port 02:01.0 04 04 00000000 000fffff 1f 1
 port 02:02.0 05 05 7ff00000 800fffff 1f 1
 ";
 
+/// The same of these windows.
+const OF_WINDOWS_APART: [(u64, Option<u16>); 11] = [
+    (0, Some(0x0208)),
+    (0xf_ffff, Some(0x0208)),
+    (0x10_0000, None),
+    (0x7fef_ffff, None),
+    (0x7ff0_0000, Some(0x0210)),
+    (0x800f_ffff, Some(0x0210)),
+    (0x8010_0000, None),
+    (0xffef_ffff, None),
+    (0xfff0_0000, Some(0x0200)),
+    (0xffff_ffff, Some(0x0200)),
+    (0x1_0000_0000, None),
+];
+
 #[test]
 fn windows_may_stand_apart_and_in_any_order(rt: HostRuntime) -> Result<(), Fail> {
     let layout = Layout::read(rt.alloc(), APART)?;
     let bridge = Bridge::new(rt.alloc(), &layout)?;
-    let from_above = |address: u64| bridge.route(port(0x0100), &request(address));
-    assert_eq!(rt; from_above(0), Route::Port(port(0x0208)));
-    assert_eq!(rt; from_above(0xf_ffff), Route::Port(port(0x0208)));
-    assert_eq!(rt; from_above(0x10_0000), Route::Nobody);
-    assert_eq!(rt; from_above(0x7fef_ffff), Route::Nobody);
-    assert_eq!(rt; from_above(0x7ff0_0000), Route::Port(port(0x0210)));
-    assert_eq!(rt; from_above(0x800f_ffff), Route::Port(port(0x0210)));
-    assert_eq!(rt; from_above(0x8010_0000), Route::Nobody);
-    assert_eq!(rt; from_above(0xffef_ffff), Route::Nobody);
-    assert_eq!(rt; from_above(0xfff0_0000), Route::Port(port(0x0200)));
-    assert_eq!(rt; from_above(0xffff_ffff), Route::Port(port(0x0200)));
-    assert_eq!(rt; from_above(0x1_0000_0000), Route::Nobody);
+    assert_eq!(rt; astray(&bridge, &OF_WINDOWS_APART), None);
     Ok(())
 }
 

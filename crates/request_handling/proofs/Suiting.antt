@@ -1,13 +1,14 @@
 -- What is served so may be answered so.
-use Rattle.std.proofs.Common.{◌≡◌, ℕ, List, Option, None, Some, sym, subst}
+use Rattle.std.proofs.Common.{false, refl, ◌≡◌, ℕ, List, Option, None, Some, sym, subst}
 use Rattle.std.specs.Prelude.{IfSome}
 use Rattle.fab_types.specs.declared.head.Parties.TheVariants.{Downward}
+use Rattle.platform.specs.Share.{Share}
 use Rattle.tlp_view.specs.Bytes.{packet_of}
 use Rattle.tlp_view.specs.Malformed.{malformed}
 use Rattle.tlp_view.specs.Packet.{Packet}
 use Rattle.request_handling.specs.declared.disposition.Disposition.{Disposition}
 use Rattle.request_handling.specs.declared.disposition.Disposition.TheVariants.{Discarded, RefusedByPort, RefusedByHost, RefusedByFunction, Blocked, BlockedAndRefused, Stored, Shown, Added, Forwarded, Accessed}
-use Rattle.request_handling.specs.Dispositions.{IsServed, Suits}
+use Rattle.request_handling.specs.Dispositions.{IsServed, Suits, may_answer, reply_of}
 use Rattle.request_handling.specs.WellMade.{IsWellMade}
 
 well_served : (b : List ℕ) (d : Disposition) → malformed b ≡ None → IsServed (packet_of b) d → Suits b d
@@ -37,3 +38,9 @@ all_suit b t (Some d) good same s = served_suits b t d good same s
 pub accesses_suit : (b : List ℕ) (g : ℕ) (o : Option Disposition) → IsWellMade (Downward g) b → IfSome o (λ d. d ≡ Accessed g) → IfSome o (λ d. Suits b d)
 accesses_suit b g None well is = tt
 accesses_suit b g (Some d) well is = access_suits b g d well is
+
+pub unanswered : (share : Share) (frames registers : List (ℕ × List ℕ)) (t : Packet) (d : Disposition) → may_answer d ≡ false → reply_of share frames registers t d ≡ None
+unanswered share frames registers t Discarded e = refl
+unanswered share frames registers t Blocked e = refl
+unanswered share frames registers t (Stored k first) e = refl
+unanswered share frames registers t _ e = absurd cc

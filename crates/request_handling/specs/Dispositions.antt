@@ -1,5 +1,5 @@
--- What is done about a packet that ends, by what its taker decided.
-use Rattle.std.specs.Prelude.{◌≡◌, true, ℕ, ◌≤◌, List, Option, Some, None}
+-- What is done about a packet that ends, by what its taker decided (PCIe 4.0, 2.3).
+use Rattle.std.specs.Prelude.{◌≡◌, Bool, true, false, ℕ, ◌≤◌, List, Option, Some, None}
 use Rattle.function.specs.Accesses.{IsAccess}
 use Rattle.host_memory.specs.Pages.{page_of}
 use Rattle.platform.specs.Share.{Share}
@@ -34,6 +34,20 @@ effect_of (Shown k) = Leave
 effect_of (Added k first) = Add k first
 effect_of (Forwarded function bar) = Leave
 effect_of (Accessed function) = Access function
+
+-- may something answer it?
+abbrev pub may_answer : Disposition → Bool
+may_answer Discarded = false
+may_answer (RefusedByPort port function status) = true
+may_answer RefusedByHost = true
+may_answer (RefusedByFunction function) = true
+may_answer Blocked = false
+may_answer BlockedAndRefused = true
+may_answer (Stored k first) = false
+may_answer (Shown k) = true
+may_answer (Added k first) = true
+may_answer (Forwarded function bar) = true
+may_answer (Accessed function) = true
 
 -- what answers the packet
 abbrev pub reply_of : Share → List (ℕ × List ℕ) → List (ℕ × List ℕ) → Packet → Disposition → Option Emission

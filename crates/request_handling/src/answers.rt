@@ -1,18 +1,15 @@
 //! The completions by which ports and the host answer.
 
-ghost use Rattle.std.specs.Prelude.{◌≡◌, ◌+◌, ◌*◌, ◌%◌, ◌≤◌, ℕ, List, IfSome, length, option_map, true, unwrap_or};
+ghost use Rattle.std.specs.Prelude.{◌≡◌, ◌+◌, ◌*◌, ◌%◌, ◌≤◌, IfSome, length, true, unwrap_or};
 ghost use Rattle.std.specs.Option.{option_copied};
 ghost use Rattle.host_memory.specs.Pages.{part_of};
 ghost use Rattle.tlp_view.specs.Completions.{HeadFits, atomic_completion, completion_of, read_completion};
 ghost use Rattle.tlp_view.specs.Kinds.{has_address, is_fetch_add};
 ghost use Rattle.tlp_view.specs.declared.kind.Kind.TheVariants.{MRd};
-ghost use Rattle.tlp_view.specs.Packet.{Packet, dw_count};
-ghost use Rattle.request_handling.specs.Dispositions.{IsServed, handling};
-ghost use Rattle.request_handling.specs.Carries.{forward};
+ghost use Rattle.tlp_view.specs.Packet.{dw_count};
 ghost use Rattle.request_handling.specs.Answers.{address_of, bar_of, blank, forwarded, function_answer, function_refusal, host_data, host_operand, host_refusal, port_answer, reads_nothing, shown};
 ghost use Rattle.function.specs.Accesses.{IsAccess};
 
-use crate::disposition::Disposition;
 use crate::handling::Reply;
 use fab_types::{Answerer, Bdf, Origin, PortId, Status};
 use function::Function;
@@ -88,18 +85,6 @@ pub fn bar_of(functions: &[EndpointFunction], function: Bdf) -> Option<u32>
         .iter()
         .find(|line| line.id == function)
         .map(|line| line.bar)
-}
-
-/// A request goes on to the same place in this function's register page.
-/// It does if the layout has the function.
-pub(crate) fn forward(start: &Start, function: Bdf) -> Option<Disposition>
-    ensures value { (frames registers : List (ℕ × List ℕ)) (t : Packet) → option_map (handling start.now frames registers t) result ≡ forward function t (bar_of start.now.functions function) }
-    ensures served { IfSome result (λ d. (t : Packet) → IsAccess t → IsServed t d) }
-{
-    match bar_of(start.functions(), function) {
-        Some(bar) => Some(Disposition::Forwarded(function, bar)),
-        None => None,
-    }
 }
 
 /// The address of a request that has one.

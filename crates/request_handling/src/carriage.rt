@@ -8,15 +8,16 @@ ghost use Rattle.tlp_view.specs.Kinds.{has_address, is_fetch_add};
 ghost use Rattle.tlp_view.specs.Packet.{Packet};
 ghost use Rattle.tlp_view.specs.Runs.{is_write};
 ghost use Rattle.request_handling.specs.declared.disposition.Disposition.TheVariants.{Accessed, Stored};
+ghost use Rattle.function.specs.Accesses.{IsAccess};
 ghost use Rattle.request_handling.specs.AtFunctions.{access_of, request_at_function};
-ghost use Rattle.request_handling.specs.Carries.{carriage_by, frame_for, is_carried, is_owner, serve, serve_add, serve_read, write_to};
+ghost use Rattle.request_handling.specs.Carries.{carriage_by, forward, frame_for, is_carried, is_owner, serve, serve_add, serve_read, write_to};
 ghost use Rattle.request_handling.specs.Dispositions.{IsServed, Suits, handling};
 ghost use Rattle.layout.specs.Tables.{target_of};
 ghost use Rattle.platform.specs.declared.parts.Access.TheVariants as access;
-ghost use Rattle.request_handling.specs.Answers.{address_of};
+ghost use Rattle.request_handling.specs.Answers.{address_of, bar_of};
 ghost use Rattle.request_handling.specs.Fates.{fate, fate_at};
 
-use crate::answers::{address_of, forward};
+use crate::answers::{address_of, bar_of};
 use crate::disposition::Disposition;
 use crate::fate::{Fate, is_untranslated, packet_fate};
 use crate::page::place;
@@ -70,6 +71,18 @@ pub(crate) fn to_frame(frame: u16, view: &TlpView) -> Disposition
     ensures { result ≡ Stored frame (address_of view.now % 4096) }
 {
     Disposition::Stored(frame, place_in_page(view))
+}
+
+/// A request goes on to the same place in this function's register page.
+/// It does if the layout has the function.
+fn forward(start: &Start, function: Bdf) -> Option<Disposition>
+    ensures value { (frames registers : List (ℕ × List ℕ)) (t : Packet) → option_map (handling start.now frames registers t) result ≡ forward function t (bar_of start.now.functions function) }
+    ensures served { IfSome result (λ d. (t : Packet) → IsAccess t → IsServed t d) }
+{
+    match bar_of(start.functions(), function) {
+        Some(bar) => Some(Disposition::Forwarded(function, bar)),
+        None => None,
+    }
 }
 
 /// What the host does with a write.

@@ -4,7 +4,7 @@ ghost use Rattle.std.specs.Prelude.{◌≡◌};
 ghost use Rattle.function.specs.Accesses.{IsAccess};
 ghost use Rattle.host_memory.specs.Pages.{page_of};
 ghost use Rattle.tlp_view.specs.Bytes.{packet_of};
-ghost use Rattle.request_handling.specs.Dispositions.{Suits, access_answer, effect_of, handling, reply_of};
+ghost use Rattle.request_handling.specs.Dispositions.{Suits, access_answer, effect_of, handling, may_answer, reply_of};
 
 use crate::answers::{
     forwarded, function_answer, function_refusal, host_data, host_operand, host_refusal,
@@ -73,6 +73,24 @@ impl Disposition {
             | Disposition::RefusedByFunction(_)
             | Disposition::Shown(_)
             | Disposition::Forwarded(..) => Effect::Leave,
+        }
+    }
+
+    /// May something answer the packet?
+    /// What accesses a register page may, though a write of it isn't answered.
+    pub fn may_answer(&self) -> bool
+        ensures { result ≡ may_answer self.now }
+    {
+        match self {
+            Disposition::Discarded | Disposition::Blocked | Disposition::Stored(..) => false,
+            Disposition::RefusedByPort(..)
+            | Disposition::RefusedByHost
+            | Disposition::RefusedByFunction(_)
+            | Disposition::BlockedAndRefused
+            | Disposition::Shown(_)
+            | Disposition::Added(..)
+            | Disposition::Forwarded(..)
+            | Disposition::Accessed(_) => true,
         }
     }
 

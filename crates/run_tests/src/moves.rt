@@ -1,6 +1,6 @@
 //! Events of a fabric by which packets go on.
 
-use fab_types::{Bdf, Class, Direction, DomainId, NoMemory, Origin, PortId, Way};
+use fab_types::{Bdf, Class, Direction, NoMemory, Origin, PortId, Way};
 use fabric_core::{Event, Fabric, Station};
 use layout::Layout;
 use std::alloc::{AllocError, Global};
@@ -18,7 +18,6 @@ pub(crate) fn direction(lower: u16, way: Way) -> Direction {
 #[derive(Clone, Copy)]
 pub(crate) enum Move {
     EnterOfFunction(u16, Class),
-    EnterOfHost(DomainId, Class),
     Send(u16, Way, Class),
     Take(u16, Way),
     Credit(u16, Way),
@@ -34,7 +33,6 @@ impl Move {
             Move::EnterOfFunction(id, class) => {
                 Event::Enter(Origin::Function(Bdf::from_bits(id)), class)
             }
-            Move::EnterOfHost(domain, class) => Event::Enter(Origin::Host(domain), class),
             Move::Send(lower, way, class) => Event::Send(direction(lower, way), class),
             Move::Take(lower, way) => Event::Take(direction(lower, way)),
             Move::Credit(lower, way) => Event::Credit(direction(lower, way)),
@@ -48,17 +46,16 @@ impl Move {
 /// The function of domain 2 whose moves these are, and the port above it.
 pub(crate) const FUNCTION_06: u16 = 0x0600;
 
-pub(crate) const PORT_ABOVE_06: u16 = 0x0500;
+const PORT_ABOVE_06: u16 = 0x0500;
 
-/// A read of 06:00.0 in the name of another is stopped by its first port, whose answer comes down again.
-pub(crate) const STOPPED_READ: [Move; 7] = [
+/// A read of 06:00.0 in the name of another is stopped by its first port, whose answer comes down to it.
+pub(crate) const STOPPED_READ: [Move; 6] = [
     Move::EnterOfFunction(FUNCTION_06, Class::NonPosted),
     Move::Send(FUNCTION_06, Way::Up, Class::NonPosted),
     Move::Take(FUNCTION_06, Way::Up),
     Move::Pass(PORT_ABOVE_06, Class::NonPosted),
     Move::Send(FUNCTION_06, Way::Down, Class::Completion),
     Move::Take(FUNCTION_06, Way::Down),
-    Move::Arrive(FUNCTION_06, Class::Completion),
 ];
 
 fn add_moves(moves: &mut Vec<Event>, station: &Station) -> Result<(), AllocError> {

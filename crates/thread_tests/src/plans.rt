@@ -15,8 +15,19 @@ fn plan(rt: &HostRuntime) -> Result<Plan, Fail> {
     Ok(Plan::new(rt.alloc(), &layout)?)
 }
 
-fn ends(wires: &[Wire], place: usize) -> Option<(usize, usize)> {
-    wires.get(place).map(|wire| (wire.from, wire.to))
+/// Is the wire at this place one between these workers?
+fn leads(wires: &[Wire], place: usize, from: usize, to: usize) -> bool {
+    matches!(wires.get(place), Some(wire) if wire.from == from && wire.to == to)
+}
+
+/// Are there so many wires, and are those at these places between these workers?
+fn are(wires: &[Wire], count: usize, known: &[(usize, usize, usize)]) -> bool {
+    for (place, from, to) in known {
+        if !leads(wires, *place, *from, *to) {
+            return false;
+        }
+    }
+    wires.len() == count
 }
 
 #[test]
@@ -24,13 +35,17 @@ fn workers_are_those_of_ports_then_of_functions_and_of_the_root(
     rt: HostRuntime,
 ) -> Result<(), Fail> {
     let plan = plan(&rt)?;
-    let worker = |number: usize| plan.workers().get(number).copied();
-    let port = |id: u16| Some(WorkerId::Port(PortId::new(Bdf::from_bits(id))));
+    let port = |id: u16| WorkerId::Port(PortId::new(Bdf::from_bits(id)));
+    let known = [
+        (1, port(0x0400)),
+        (2, port(0x0200)),
+        (7, WorkerId::Function(Bdf::from_bits(0x0300))),
+        (11, WorkerId::Root),
+    ];
+    for (number, id) in known {
+        assert!(rt; plan.workers().get(number).copied() == Some(id));
+    }
     assert_eq!(rt; plan.workers().len(), 12);
-    assert_eq!(rt; worker(1), port(0x0400));
-    assert_eq!(rt; worker(2), port(0x0200));
-    assert_eq!(rt; worker(7), Some(WorkerId::Function(Bdf::from_bits(0x0300))));
-    assert_eq!(rt; worker(11), Some(WorkerId::Root));
     Ok(())
 }
 
@@ -39,23 +54,15 @@ fn packets_go_up_a_link_and_down_it_and_their_credits_come_back(
     rt: HostRuntime,
 ) -> Result<(), Fail> {
     let plan = plan(&rt)?;
-    assert_eq!(rt; plan.links().len(), 12);
-    assert_eq!(rt; ends(plan.links(), 0), Some((0, 11)));
-    assert_eq!(rt; ends(plan.links(), 2), Some((1, 3)));
-    assert_eq!(rt; ends(plan.links(), 7), Some((5, 8)));
-    assert_eq!(rt; plan.credits().len(), 12);
-    assert_eq!(rt; ends(plan.credits(), 2), Some((3, 1)));
-    assert_eq!(rt; ends(plan.credits(), 7), Some((8, 5)));
+    assert!(rt; are(plan.links(), 12, &[(0, 0, 11), (2, 1, 3), (7, 5, 8)]));
+    assert!(rt; are(plan.credits(), 12, &[(2, 3, 1), (7, 8, 5)]));
     Ok(())
 }
 
 #[test]
 fn each_port_of_a_switch_leads_to_each(rt: HostRuntime) -> Result<(), Fail> {
     let plan = plan(&rt)?;
-    assert_eq!(rt; plan.pairs().len(), 25);
-    assert_eq!(rt; ends(plan.pairs(), 0), Some((0, 0)));
-    assert_eq!(rt; ends(plan.pairs(), 7), Some((2, 4)));
-    assert_eq!(rt; ends(plan.pairs(), 18), Some((1, 6)));
-    assert_eq!(rt; ends(plan.pairs(), 24), Some((6, 6)));
+    let known = [(0, 0, 0), (7, 2, 4), (18, 1, 6), (24, 6, 6)];
+    assert!(rt; are(plan.pairs(), 25, &known));
     Ok(())
 }

@@ -63,21 +63,21 @@ given P p (Some e) = p
 module _ (s : Alone) (bytes : List ℕ) (sender : Parties) where
   -- a completion makes neither the host nor a function emit anything
   module _ (share : Share) (t : Packet) (P : Type 0) (asks : status_in t.body ≡ None → P) where
-    host_asks : IfSome (received s bytes (at_host share s bytes sender t)).emission (λ e. P)
+    host_asks : IfSome (received s bytes (at_host share s sender t)).emission (λ e. P)
     host_asks = go (status_in t.body) refl
       where
-        completes : (status : Status) (b : Bool) → (target_for sender t.requester == host_of share.domain) ≡ b → IfSome (received s bytes (completion_at_host share s.open_tags bytes sender t status)).emission (λ e. P)
+        completes : (status : Status) (b : Bool) → (target_for sender t.requester == host_of share.domain) ≡ b → IfSome (received s bytes (completion_at_host share s.open_tags sender t status)).emission (λ e. P)
         completes status true own = rw own tt
         completes status false own = rw own tt
 
-        go : (o : Option Status) → status_in t.body ≡ o → IfSome (received s bytes (at_host_with o share s bytes sender t)).emission (λ e. P)
+        go : (o : Option Status) → status_in t.body ≡ o → IfSome (received s bytes (at_host_with o share s sender t)).emission (λ e. P)
         go None is = given P (asks is) (request_at_host share s.frames t (address_type_in t)).reply
         go (Some status) is = completes status (target_for sender t.requester == host_of share.domain) refl
 
-    function_asks : (function : ℕ) → IfSome (received s bytes (at_function share s function bytes sender t)).emission (λ e. P)
+    function_asks : (function : ℕ) → IfSome (received s bytes (at_function share s function sender t)).emission (λ e. P)
     function_asks function = go (status_in t.body) refl
       where
-        go : (o : Option Status) → status_in t.body ≡ o → IfSome (received s bytes (at_function_with o share s function bytes sender t)).emission (λ e. P)
+        go : (o : Option Status) → status_in t.body ≡ o → IfSome (received s bytes (at_function_with o share s function sender t)).emission (λ e. P)
         go None is = given P (asks is) (request_at_function share s.registers function t).reply
         go (Some status) is = tt
 
@@ -96,10 +96,10 @@ module _ (s : Alone) (bytes : List ℕ) (sender : Parties) where
 
   -- ---- at a function
 
-  function_sends : (share : Share) (function : ℕ) (t : Packet) → IsQuiet (received s bytes (at_function share s function bytes sender t)).emission
+  function_sends : (share : Share) (function : ℕ) (t : Packet) → IsQuiet (received s bytes (at_function share s function sender t)).emission
   function_sends share function t = go (status_in t.body)
     where
-      go : (o : Option Status) → IsQuiet (received s bytes (at_function_with o share s function bytes sender t)).emission
+      go : (o : Option Status) → IsQuiet (received s bytes (at_function_with o share s function sender t)).emission
       go None = function_quiet share s.registers function t
       go (Some status) = tt
 

@@ -51,7 +51,7 @@ use Rattle.request_handling.specs.declared.handling.Handling.{Handling}
 use Rattle.request_handling.specs.Answers.{address_of, answered_by, bar_of, forwarded, function_answer, function_refusal, host_data, host_operand, host_refusal, page_at, port_answer, shown}
 use Rattle.request_handling.specs.AtFunctions.{access_of, discarded, is_access, lies_in, or_discarded, request_at_function, unserved}
 use Rattle.request_handling.specs.Carries.{add_if, answer_refusal, carriage_by, carriage_of, forward, frame_for, is_carried, port_id, read_from, refusal_by, refusal_of, refused_by_host, serve, serve_add, serve_read, write_to}
-use Rattle.domain.specs.Deliveries.{arrival_at, arrival_of, arrived, delivery_of, is_awaited, recorded, unexpected}
+use Rattle.domain.specs.Deliveries.{arrival_at, arrival_of, arrived, is_awaited, recorded, unexpected}
 use Rattle.domain_parts.specs.Closings.{completed, use_of}
 use Rattle.domain.specs.Domains.{DomainView}
 use Rattle.domain_parts.specs.Ends.{conclude, replied, with_access}
@@ -360,7 +360,7 @@ fine_arrival s n bytes answerer (Some owner) c long e = by (status_in (packet_of
     by : (o : Option Status) → option_map (λ a. emits_nothing (arrived (without s n) a)) (option_map (arrival_at s.open_tags (packet_of bytes) bytes answerer owner) o) ≡ Some c → IsFine c
     by None e = absurd cc
     by (Some status) e =
-        is_fine _ c e (fine_arrived (without s n) (delivery_of owner (packet_of bytes) status bytes) (is_awaited s.open_tags answerer owner (packet_of bytes)) (record { frames = long.frames; registers = long.registers }))
+        is_fine _ c e (fine_arrived (without s n) (arrival_at s.open_tags (packet_of bytes) bytes answerer owner status).delivery (is_awaited s.open_tags answerer owner (packet_of bytes)) (record { frames = long.frames; registers = long.registers }))
 
 fine_delivered : (s : Alone) (n : ℕ) (bytes : List ℕ) (parties : Parties) (c : Change) → AreLong s → option_map (λ a. emits_nothing (arrived (without s n) a)) (arrival_of s.open_tags bytes parties) ≡ Some c → IsFine c
 fine_delivered s n bytes (Upward f) c long e = absurd cc

@@ -16,11 +16,11 @@ returns-in-None c =
     let g = c.args.function in
     let b = c.args.bytes.now in
     let p = c.request_at_function-disposition.result in
-    subst (λ (u : DomainView). ends c.handling.result ≡ at_function u.share u.state g b c.args.sender t) c.self.view_is
+    subst (λ (u : DomainView). ends c.handling.result ≡ at_function u.share u.state g c.args.sender t) c.self.view_is
     (ap ends (c.handling.ensures
     ∙ ap (λ (u : DomainView). handling u.share u.state.frames u.state.registers (packet_of b) p) (sym c.self.view_is)
     ∙ ap (λ (x : Packet). handling d.start d.state.frames d.state.registers x p) (sym c.requires.read)
     ∙ ap (λ (pages : List (ℕ × List ℕ)). handling d.start d.state.frames pages t p) (sym c.functions-functions.ensures)
     ∙ c.request_at_function-disposition.ensures.value d.state.frames
     ∙ ap (λ (pages : List (ℕ × List ℕ)). request_at_function d.start pages g t) c.functions-functions.ensures)
-    ∙ ap (λ (o : Option Status). at_function_with o d.start d.state g b c.args.sender t) c.in-None.ensures.value)
+    ∙ ap (λ (o : Option Status). at_function_with o d.start d.state g c.args.sender t) c.in-None.ensures.value)

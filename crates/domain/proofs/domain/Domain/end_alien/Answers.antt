@@ -31,7 +31,7 @@ pub receive-requires-clause-fits : goal.receive-requires-clause-fits
 receive-requires-clause-fits g c =
     let d = c.self.inside in
     let b = c.args.bytes.now in
-    let is = found (domain_view d) c.args.self.now c.args.place c.args.sender b _ c.in-Some.reception c.self.view_is c.in-Some.is c.reception.ensures in
+    let is = found (domain_view d) c.args.self.now c.args.place c.args.sender b _ c.in-Some.reception c.self.view_is c.in-Some.is c.reception.ensures.value in
     subst (λ (u : Alone). IsReceivable u.open_tags b c.in-Some.reception) (sym c.make_room.ensures) (found_fits d.start d.state c.args.place c.args.sender b c.in-Some.reception is)
 
 pub push_reserved-requires : goal.push_reserved-requires
@@ -47,7 +47,7 @@ invariant_of-self-2 g c =
     let js = d.journal.items in
     let b = c.args.bytes.now in
     let r = c.in-Some.reception in
-    let is = found (domain_view d) c.args.self.now c.args.place c.args.sender b _ r c.self.view_is c.in-Some.is c.reception.ensures in
+    let is = found (domain_view d) c.args.self.now c.args.place c.args.sender b _ r c.self.view_is c.in-Some.is c.reception.ensures.value in
     let grown = alien_copied js _ c.args.place c.args.sender b c.in-Ok-copy_of.copy c.in-Ok-copy_of.ensures (c.push_reserved.ensures.items ∙ ap (λ (es : List Entry). es ++ Alien c.args.place c.args.sender c.in-Ok-copy_of.copy ∷ []) c.room_for_entries.ensures.items) in
     let left = c.in-Ok-receive.ensures.state ∙ ap (λ (u : Alone). (received u b r).state) c.make_room.ensures in
     record {
@@ -64,7 +64,7 @@ returns-clause-ok g c =
     let d = c.self.inside in
     let b = c.args.bytes.now in
     let r = c.in-Some.reception in
-    let is = found (domain_view d) c.args.self.now c.args.place c.args.sender b _ r c.self.view_is c.in-Some.is c.reception.ensures in
+    let is = found (domain_view d) c.args.self.now c.args.place c.args.sender b _ r c.self.view_is c.in-Some.is c.reception.ensures.value in
     let grown = alien_copied d.journal.items _ c.args.place c.args.sender b c.in-Ok-copy_of.copy c.in-Ok-copy_of.ensures (c.push_reserved.ensures.items ∙ ap (λ (es : List Entry). es ++ Alien c.args.place c.args.sender c.in-Ok-copy_of.copy ∷ []) c.room_for_entries.ensures.items) in
     let left = c.in-Ok-receive.ensures.state ∙ ap (λ (u : Alone). (received u b r).state) c.make_room.ensures in
     makes_alien (domain_view d) c.args.self.now _ c.args.place c.args.sender b r c.domain-domain.result c.in-Ok-receive.sent c.self.view_is is refl grown left c.domain-domain.ensures
