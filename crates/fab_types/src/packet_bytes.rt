@@ -48,7 +48,7 @@ fn short_copy(bytes: &[u8]) -> Option<ArrayVec<u8, SHORT>>
 }
 
 impl PacketBytes {
-    /// A copy of these bytes. It answers `NoMemory` where memory was refused, which bytes of at most 16 take none of.
+    /// A copy of these bytes. It answers `NoMemory` where memory was refused; at most 16 bytes ask for none.
     pub fn copy_of(alloc: Global, bytes: &[u8]) -> Result<PacketBytes, NoMemory>
         ensures { IfOk result (λ copy. copy ≡ bytes.now) }
     {
