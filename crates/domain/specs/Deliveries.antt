@@ -39,6 +39,7 @@ arriving_at tags t answerer owner status = record { owner = owner; tag = t.tag; 
 abbrev pub arrival_by : Arriving → List ℕ → Arrival
 arrival_by a bytes = record { delivery = record { owner = a.owner; tag = a.tag; status = a.status; bytes = bytes }; is_awaited = a.is_awaited }
 
+-- a completion of these bytes and of this status at this function or host
 abbrev pub arrival_at : List OpenTag → Packet → List ℕ → Answerer → Origin → Status → Arrival
 arrival_at tags t bytes answerer owner status = arrival_by (arriving_at tags t answerer owner status) bytes
 

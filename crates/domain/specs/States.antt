@@ -6,7 +6,7 @@ use Rattle.domain_parts.specs.State.{Alone}
 abbrev pub alone_of : Inside → Alone
 alone_of s = record {
   frames = s.contents.memory;
-  registers = s.contents.registers.items;
+  registers = s.contents.registers;
   open_tags = s.open_tags.items;
   deliveries = s.records.items;
   counts = s.contents.counts;

@@ -18,7 +18,7 @@ use crate::state::State;
 use domain_parts::{close, complete, use_of};
 use fab_types::{DomainId, NoMemory};
 use frame_log::Frame;
-use function::{Function, OpenTag};
+use function::{Functions, OpenTag};
 use layout::Start;
 use request_handling::{Disposition, Effect, Reply};
 use std::sync::Wait;
@@ -37,7 +37,7 @@ fn record(tags: &mut Vec<OpenTag>, records: &mut Vec<Record>, delivery: Record)
 }
 
 /// The data of a read line go to its function's page, where the completion closes that line's Tag.
-fn complete_line(functions: &mut [Function], tags: &[OpenTag], delivery: &Record)
+fn complete_line(functions: &mut Functions, tags: &[OpenTag], delivery: &Record)
     ensures { functions.new ≡ completed functions.old (use_of tags.now delivery.now.owner delivery.now.tag) delivery.now.owner delivery.now.status (packet_of delivery.now.bytes).payload }
 {
     let usage = use_of(tags, delivery.owner(), delivery.tag());

@@ -101,7 +101,7 @@ impl Domain {
             Taker::Host => self.at_host(bytes, sender, view),
             Taker::Function(function) => self.at_function(function, bytes, sender, view),
             Taker::Port(port) => {
-                let disposition = at_port(self.start.ports(), &port, bytes, sender);
+                let disposition = at_port(&self.start, &port, bytes, sender);
                 Reception::Ends(self.handling(bytes, disposition))
             }
             Taker::Upstream => Reception::Ends(discarded()),

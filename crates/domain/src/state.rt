@@ -12,7 +12,7 @@ use crate::deliver::{Arriving, Record, arriving_for};
 use domain_parts::{Contents, Counts, Flight, first_registers, planned, register_page};
 use fab_types::{Bdf, NoMemory, Parties};
 use frame_log::Log;
-use function::{Function, OpenTag, Plan};
+use function::{Functions, OpenTag, Plan};
 use host_memory::HostMemory;
 use layout::Start;
 use std::alloc::Global;
@@ -135,7 +135,7 @@ impl State {
     }
 
     /// The domain's functions.
-    pub(crate) fn functions(&self) -> &[Function]
+    pub(crate) fn functions(&self) -> &Functions
         ensures { result.now ≡ self.now.registers }
     {
         &self.contents.registers

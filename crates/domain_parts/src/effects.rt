@@ -8,7 +8,7 @@ ghost use Rattle.domain_parts.specs.State.{Alone};
 
 use crate::counts::Counts;
 use crate::registers::access;
-use function::Function;
+use function::Functions;
 use host_memory::HostMemory;
 use request_handling::Effect;
 use tlp_view::TlpView;
@@ -29,7 +29,7 @@ pub struct Contents {
     /// The domain's frames of host memory.
     pub memory: HostMemory,
     /// The register pages of its functions.
-    pub registers: Vec<Function>,
+    pub registers: Functions,
     /// What it counts.
     pub counts: Counts,
 }

@@ -12,15 +12,15 @@ ghost use Rattle.domain_parts.specs.RegisterPages.{changed};
 ghost use Rattle.domain_parts.specs.State.{first_registers};
 
 use fab_types::{Bdf, NoMemory, Origin, Status};
-use function::{Function, OpenTag, Plan, TagUse};
+use function::{Function, Functions, OpenTag, Plan, TagUse};
 use layout::Start;
 use request_handling::place;
 use std::alloc::Global;
 use tlp_view::TlpView;
 
 /// The domain's functions at the start.
-pub fn first_registers(alloc: Global, start: &Start) -> Result<Vec<Function>, NoMemory>
-    ensures { IfOk result (λ made. made.items ≡ first_registers start.now) }
+pub fn first_registers(alloc: Global, start: &Start) -> Result<Functions, NoMemory>
+    ensures { IfOk result (λ made. made ≡ first_registers start.now) }
 {
     let mut made = Vec::new(alloc);
     for line in start.functions() {
@@ -28,33 +28,33 @@ pub fn first_registers(alloc: Global, start: &Start) -> Result<Vec<Function>, No
             made.push(Function::new(alloc, line.id)?)?;
         }
     }
-    Ok(made)
+    Functions::new(alloc, made)
 }
 
 /// The register page of this function.
-pub fn register_page(functions: &[Function], id: Bdf) -> Option<&[u8]>
+pub fn register_page(functions: &Functions, id: Bdf) -> Option<&[u8]>
     ensures { option_copied result ≡ page_of functions.now id }
 {
-    match functions.iter().find(|function| function.id() == id) {
-        Some(function) => Some(function.page()),
+    match place(functions, id) {
+        Some(at) => Some(functions.as_slice()[at].page()),
         None => None,
     }
 }
 
 /// Does to this function's register page what the request asks for.
-pub(crate) fn access(functions: &mut [Function], id: Bdf, request: &TlpView)
+pub(crate) fn access(functions: &mut Functions, id: Bdf, request: &TlpView)
     requires { IsAccess request.now }
     ensures { functions.new ≡ changed functions.old id (λ page. accessed page request.now) }
 {
     if let Some(at) = place(functions, id) {
-        let _ = functions[at].access(request);
+        functions.access(at, request);
     }
 }
 
 /// A completion closed a Tag of this owner.
 /// The data of a read line go to its function's page.
 pub fn complete(
-    functions: &mut [Function],
+    functions: &mut Functions,
     owner: Origin,
     tag: u8,
     usage: TagUse,
@@ -70,7 +70,7 @@ pub fn complete(
 }
 
 fn complete_at(
-    functions: &mut [Function],
+    functions: &mut Functions,
     id: Bdf,
     tag: u8,
     usage: TagUse,
@@ -81,27 +81,27 @@ fn complete_at(
 {
     if let Some(at) = place(functions, id) {
         let owner = Origin::Function(id);
-        functions[at].completed(OpenTag { owner, tag, usage }, status, payload);
+        functions.completed(at, OpenTag { owner, tag, usage }, status, payload);
     }
 }
 
 /// What the next tick of this function does, with these Tags open.
-pub fn planned(functions: &[Function], id: Bdf, open_tags: &[OpenTag]) -> Option<Plan>
+pub fn planned(functions: &Functions, id: Bdf, open_tags: &[OpenTag]) -> Option<Plan>
     ensures value { result ≡ option_map (λ page. plan_of id page open_tags.now) (page_of functions.now id) }
     ensures fits { IfSome result (λ plan. (page : List ℕ) → page_of functions.now id ≡ Some page → PlanFits plan page) }
 {
     match place(functions, id) {
-        Some(at) => Some(functions[at].planned(open_tags)),
+        Some(at) => Some(functions.as_slice()[at].planned(open_tags)),
         None => None,
     }
 }
 
 /// Does to this function's register page what a tick with this plan does.
-pub fn perform(functions: &mut [Function], id: Bdf, plan: &Plan)
+pub fn perform(functions: &mut Functions, id: Bdf, plan: &Plan)
     requires { (page : List ℕ) → page_of functions.old id ≡ Some page → PlanFits plan.now page }
     ensures { functions.new ≡ changed functions.old id (page_after plan.now) }
 {
     if let Some(at) = place(functions, id) {
-        functions[at].perform(plan);
+        functions.perform(at, plan);
     }
 }

@@ -1,6 +1,6 @@
 //! Bytes of packets.
 
-ghost use Rattle.std.specs.Prelude.{◌≡◌, IfOk, IfSome, nat_eq};
+ghost use Rattle.std.specs.Prelude.{◌≡◌, ◌≤◌, IfOk, IfSome, IsOk, IsSome, length, nat_eq};
 ghost use Rattle.std.specs.Cmp.{partial_equiv_from_equiv};
 ghost use Rattle.std.specs.Cmp.Lexicographic.{nat_list_eq_equiv, pointwise};
 
@@ -38,7 +38,8 @@ impl Model for PacketBytes {
 
 /// A copy in the value itself, if the bytes fit.
 fn short_copy(bytes: &[u8]) -> Option<ArrayVec<u8, SHORT>>
-    ensures { IfSome result (λ copy. copy.items ≡ bytes.now) }
+    ensures value { IfSome result (λ copy. copy.items ≡ bytes.now) }
+    ensures fits { length bytes.now ≤ 16 → IsSome result }
 {
     let mut copy = ArrayVec::new();
     match copy.try_extend_from_slice(bytes) {
@@ -50,7 +51,8 @@ fn short_copy(bytes: &[u8]) -> Option<ArrayVec<u8, SHORT>>
 impl PacketBytes {
     /// A copy of these bytes. It answers `NoMemory` where memory was refused; at most 16 bytes ask for none.
     pub fn copy_of(alloc: Global, bytes: &[u8]) -> Result<PacketBytes, NoMemory>
-        ensures { IfOk result (λ copy. copy ≡ bytes.now) }
+        ensures value { IfOk result (λ copy. copy ≡ bytes.now) }
+        ensures short { length bytes.now ≤ 16 → IsOk result }
     {
         let kept = match short_copy(bytes) {
             Some(copy) => Kept::Short(copy),

@@ -2,8 +2,9 @@
 
 ghost use Rattle.std.specs.Prelude.{◌≡◌, ◌↔◌, ◌&&◌, ◌||◌, Err, IfOk, None, OnOk};
 ghost use Rattle.fab_types.specs.declared.faults.runs.CompareFault.{CompareFault};
+ghost use Rattle.fabric_core.specs.Events.{StepsTo};
 ghost use Rattle.fabric_core.specs.Isolation.{domain_of, is_event_of};
-ghost use Rattle.fabric_core.specs.Purging.{BothStep};
+ghost use Rattle.fabric_core.specs.Purging.{BothStep, StepsIf};
 ghost use Rattle.fabric_core.specs.TakenOut.{AreBothRuns, is_moved, tells_credits};
 ghost use Rattle.fabric_core.specs.World.{world_of};
 
@@ -32,6 +33,28 @@ fn is_left(event: &Event, is_own: bool, outcome: Outcome) -> bool
     matches!(event, Event::Credit(_)) || (is_own && matches!(outcome, Outcome::Moved))
 }
 
+/// What comes of an event. Of all that a step promises it has the one clause that runs are made of.
+fn outcome_of<R: Wait>(rt: &R, fabric: &mut Fabric, event: &Event) -> Outcome
+    ensures { StepsTo fabric.old event.now result fabric.new }
+{
+    fabric.step(rt, event)
+}
+
+/// The second fabric makes an event where it is left.
+fn follow<R: Wait>(
+    rt: &R,
+    second: &mut Fabric,
+    event: &Event,
+    is_left: bool,
+) -> Result<(), NoMemory>
+    ensures { OnOk result (StepsIf is_left event.now second.old second.new) }
+{
+    if is_left && matches!(outcome_of(rt, second, event), Outcome::NoMemory) {
+        return Err(NoMemory);
+    }
+    Ok(())
+}
+
 /// One event: the first fabric makes it, and the second makes it where it is left.
 fn advance<R: Wait>(
     rt: &R,
@@ -43,11 +66,8 @@ fn advance<R: Wait>(
     ensures { OnOk result (BothStep domain event.now first.old first.new second.old second.new) }
 {
     let is_own = is_event_of(first, domain, event);
-    let outcome = first.step(rt, event);
-    if is_left(event, is_own, outcome) && matches!(second.step(rt, event), Outcome::NoMemory) {
-        return Err(NoMemory);
-    }
-    Ok(())
+    let outcome = outcome_of(rt, first, event);
+    follow(rt, second, event, is_left(event, is_own, outcome))
 }
 
 /// Runs a list of events, and then what is left of it.

@@ -105,14 +105,31 @@ impl Scene {
         Some((first.number(), packets.len()))
     }
 
-    /// Does the lane give this packet back, and it stays the first before the port? From then on the lane takes one.
-    fn gives_back<R: Wait>(&mut self, rt: &R, number: u64) -> bool {
-        let before = self.waiting();
-        let rests = self.turn(rt, Posted) == Some(Outcome::Idle);
-        rests
-            && matches!(before, Some((first, _)) if first == number)
-            && before == self.waiting()
-            && self.permit(0)
+    fn moves<R: Wait>(&mut self, rt: &R, class: Class) -> bool {
+        matches!(self.turn(rt, class), Some(Outcome::Moved))
+    }
+
+    fn rests<R: Wait>(&mut self, rt: &R, class: Class) -> bool {
+        matches!(self.turn(rt, class), Some(Outcome::Idle))
+    }
+
+    /// Is this packet the first of so many that wait before the port?
+    fn is_first(&self, number: u64, count: usize) -> bool {
+        matches!(self.waiting(), Some((first, all)) if first == number && all == count)
+    }
+
+    fn rests_before<R: Wait>(&mut self, rt: &R, number: u64, count: usize) -> bool {
+        self.rests(rt, Posted) && self.is_first(number, count)
+    }
+
+    fn stays<R: Wait>(&mut self, rt: &R, number: u64, count: usize) -> bool {
+        self.is_first(number, count) && self.rests_before(rt, number, count)
+    }
+
+    /// Does the lane give this packet back, and it stays the first of so many before the port? From then on the lane
+    /// takes one.
+    fn gives_back<R: Wait>(&mut self, rt: &R, number: u64, count: usize) -> bool {
+        self.stays(rt, number, count) && self.permit(0)
     }
 
     /// Does a packet of the class wait in this lane?
@@ -138,8 +155,8 @@ impl Scene {
     fn does<R: Wait>(&mut self, rt: &R, step: Step) -> bool {
         match step {
             Step::Submits(word) => self.submit(rt, SENDER, word),
-            Step::Moves(class) => self.turn(rt, class) == Some(Outcome::Moved),
-            Step::Rests(class) => self.turn(rt, class) == Some(Outcome::Idle),
+            Step::Moves(class) => self.moves(rt, class),
+            Step::Rests(class) => self.rests(rt, class),
             Step::Permits(lane) => self.permit(lane),
             Step::Sent(lane, class) => self.has_sent(lane, class),
             Step::SentNothing(lane, class) => !self.has_sent(lane, class),
@@ -196,11 +213,12 @@ fn stay_until_taken<R: Wait>(rt: &R, alloc: Global, left: u64) -> Option<bool> {
             return None;
         }
     }
-    for number in 0..3_u64 {
-        if number >= left && !scene.gives_back(rt, number) {
+    for number in 0..3_u8 {
+        let (packet, count) = (u64::from(number), usize::from(3 - number));
+        if packet >= left && !scene.gives_back(rt, packet, count) {
             return Some(false);
         }
-        if scene.turn(rt, Posted)? != Outcome::Moved {
+        if !scene.moves(rt, Posted) {
             return Some(false);
         }
     }

@@ -4,4 +4,6 @@ pub mod Accessing
 pub mod FirstPage
 pub mod Fixed
 pub mod LowestTag
+pub mod Kept
+pub mod FirstPlaces
 mod Examples

@@ -6,3 +6,4 @@ pub mod Closings
 pub mod Accesses
 pub mod Pages
 pub mod Laws
+pub mod Functions

@@ -1,5 +1,5 @@
 -- The register page of a function. Its layout is this project's own.
-use Rattle.std.specs.Prelude.{ℕ, ◌+◌, ◌/◌, ◌%◌, ◌==◌, nat_le, nat_lt, Bool, ◌&&◌, List, [], ◌∷◌, replicate, slice_index, slice_range, slice_set, Option, Some, None, option_map, if◌then◌else◌}
+use Rattle.std.specs.Prelude.{ℕ, ◌+◌, ◌/◌, ◌%◌, ◌==◌, nat_le, nat_lt, Bool, ◌&&◌, ◌||◌, List, [], ◌∷◌, replicate, slice_index, slice_range, slice_set, Option, Some, None, option_map, if◌then◌else◌}
 use Rattle.std.specs.List.{find}
 use Rattle.function.specs.declared.registers.Register.{Register}
 use Rattle.function.specs.declared.registers.Register.TheVariants.{Id, Control, Status, ProgramCounter, Program, Buffer}
@@ -61,6 +61,10 @@ write_byte page offset value = write_register (register_at offset) page offset v
 abbrev pub write_bytes : List ℕ → ℕ → List ℕ → List ℕ
 write_bytes page offset [] = page
 write_bytes page offset (byte ∷ bytes) = write_bytes (write_byte page offset byte) (offset + 1) bytes
+
+-- do these bytes belong to the program, or to the buffer, which keep what is written?
+abbrev pub are_kept : ℕ → ℕ → Bool
+are_kept first end = (nat_le 0x100 first && nat_le end 0x200) || (nat_le 0x400 first && nat_le end 0x800)
 
 -- a write of runs of bytes, each at its offset from a first byte
 abbrev pub write_page : List ℕ → ℕ → List (ℕ × List ℕ) → List ℕ

@@ -3,6 +3,7 @@
 
 mod buffer;
 mod function;
+mod functions;
 mod laws;
 mod line;
 mod plan;
@@ -11,6 +12,7 @@ mod registers;
 mod tags;
 
 pub use function::Function;
+pub use functions::Functions;
 pub use laws::{fixed_bytes_stay, lowest_free_tag_is_taken};
 pub use plan::{Plan, Tick};
 pub use tags::{OpenTag, TagUse, is_open};

@@ -1,7 +1,7 @@
 //! The registers of a page.
 
 ghost use Rattle.std.specs.Prelude.{◌≡◌, ◌+◌, ◌<◌, ◌≤◌, length, slice_set};
-ghost use Rattle.function.specs.Registers.{register_at, started, write_byte, write_bytes, write_page};
+ghost use Rattle.function.specs.Registers.{are_kept, register_at, started, write_byte, write_bytes, write_page};
 ghost use Rattle.tlp_view.specs.Runs.{runs};
 
 use tlp_view::TlpView;
@@ -16,6 +16,8 @@ pub(crate) const STATUS: usize = 0x008;
 pub(crate) const PC: usize = 0x00c;
 
 pub(crate) const PROGRAM: usize = 0x100;
+/// The end of the program.
+const PROGRAM_END: usize = 0x200;
 
 pub(crate) const BUFFER: usize = 0x400;
 /// The end of the buffer.
@@ -54,7 +56,7 @@ fn register_at(offset: usize) -> Option<Register>
         Some(Register::Status)
     } else if PC <= offset && offset < PC + 4 {
         Some(Register::ProgramCounter)
-    } else if PROGRAM <= offset && offset < PROGRAM + 256 {
+    } else if PROGRAM <= offset && offset < PROGRAM_END {
         Some(Register::Program)
     } else if BUFFER <= offset && offset < BUFFER_END {
         Some(Register::Buffer)
@@ -94,14 +96,35 @@ fn write_byte(page: &mut [u8], offset: usize, value: u8)
     }
 }
 
+/// Do the bytes from `first` to `end` all belong to the program, or all to the buffer? These keep what is written.
+fn are_kept(first: usize, end: usize) -> bool
+    ensures { result ≡ are_kept first end }
+{
+    (PROGRAM <= first && end <= PROGRAM_END) || (BUFFER <= first && end <= BUFFER_END)
+}
+
 /// A write of these bytes, one after another.
-fn write_bytes(page: &mut [u8], first: usize, bytes: &[u8])
+fn write_each(page: &mut [u8], first: usize, bytes: &[u8])
     requires size { length page.old ≡ 4096 }
     requires inside { first + length bytes.now ≤ 4096 }
     ensures { page.new ≡ write_bytes page.old first bytes.now }
 {
     for (i, byte) in bytes.iter().enumerate() {
         write_byte(page, first + i, *byte);
+    }
+}
+
+/// A write of these bytes.
+fn write_bytes(page: &mut [u8], first: usize, bytes: &[u8])
+    requires size { length page.old ≡ 4096 }
+    requires inside { first + length bytes.now ≤ 4096 }
+    ensures { page.new ≡ write_bytes page.old first bytes.now }
+{
+    let end = first + bytes.len();
+    if are_kept(first, end) {
+        page[first..end].copy_from_slice(bytes);
+    } else {
+        write_each(page, first, bytes);
     }
 }
 

@@ -16,3 +16,4 @@ pub mod Noted
 pub mod Places
 pub mod Ranges
 pub mod Reached
+pub mod Led

@@ -3,7 +3,8 @@ use Rattle.std.specs.Prelude.{◌≡◌, ◌<◌, ℕ, ◌==◌, Bool, ◌&&◌,
 use Rattle.std.specs.List.{find, list_any}
 use Rattle.platform.specs.declared.parts.DownstreamPort.{DownstreamPort}
 use Rattle.platform.specs.declared.parts.EndpointFunction.{EndpointFunction}
-use Rattle.platform.specs.Owners.{owner_of_bus}
+use Rattle.fab_types.specs.Controls.{controls_egress}
+use Rattle.platform.specs.Owners.{holds_bus, owner_of_bus}
 use Rattle.layout.specs.Reach.{function_at}
 use Rattle.layout.specs.declared.buses.BusEntry.{BusEntry}
 
@@ -11,12 +12,17 @@ use Rattle.layout.specs.declared.buses.BusEntry.{BusEntry}
 abbrev pub is_below : List DownstreamPort → ℕ → ℕ → Bool
 is_below ports domain bus = list_any (λ port. (port.owner == domain) && (port.secondary == bus)) ports
 
+-- does a port above it control egress?
+abbrev pub controls_egress_above : List DownstreamPort → ℕ → Bool
+controls_egress_above ports bus = list_any (λ port. holds_bus port bus && controls_egress port.controls) ports
+
 abbrev pub bus_entry : List DownstreamPort → List EndpointFunction → ℕ → ℕ → BusEntry
 bus_entry ports functions domain bus = record {
   first_port = find (λ port. port.secondary == bus) ports;
   owner = owner_of_bus ports bus;
   function = function_at ports functions bus;
   is_own = is_below ports domain bus;
+  controls_egress = controls_egress_above ports bus;
 }
 
 -- for a domain, the entry of each bus number

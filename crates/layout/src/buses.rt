@@ -2,7 +2,7 @@
 
 ghost use Rattle.std.specs.Prelude.{◌≡◌, IfOk};
 ghost use Rattle.platform.specs.Owners.{owner_of_bus};
-ghost use Rattle.layout.specs.Buses.{IsBusTable, bus_entry, is_below};
+ghost use Rattle.layout.specs.Buses.{IsBusTable, bus_entry, controls_egress_above, is_below};
 
 use crate::reach::function_at;
 use fab_types::{Bdf, DomainId, NoMemory};
@@ -20,6 +20,8 @@ pub(crate) struct BusEntry {
     pub(crate) function: Option<Bdf>,
     /// Is the bus directly below a port of the domain?
     pub(crate) is_own: bool,
+    /// Does a port above the bus control egress?
+    pub(crate) controls_egress: bool,
 }
 
 /// Is this bus directly below a port of the domain?
@@ -29,6 +31,13 @@ fn is_below(ports: &[DownstreamPort], domain: DomainId, bus: u8) -> bool
     ports
         .iter()
         .any(|port| port.owner == domain && port.secondary == bus)
+}
+
+/// Does a port that has this bus below it control egress?
+fn controls_egress_above(ports: &[DownstreamPort], bus: u8) -> bool
+    ensures { result ≡ controls_egress_above ports.now bus }
+{
+    ports.iter().any(|port| port.holds_bus(bus) && port.controls.controls_egress())
 }
 
 fn bus_entry(
@@ -44,6 +53,7 @@ fn bus_entry(
         owner: owner_of_bus(ports, bus),
         function: function_at(ports, functions, bus),
         is_own: is_below(ports, domain, bus),
+        controls_egress: controls_egress_above(ports, bus),
     }
 }
 

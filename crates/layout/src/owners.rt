@@ -1,18 +1,21 @@
-//! Which functions and IDs are a domain's, and which port stands above a function.
+//! Which functions and IDs are a domain's, which port stands above a function, and where that lets its requests through to.
 
 ghost use Rattle.std.specs.Prelude.{◌≡◌};
+ghost use Rattle.platform.specs.Egress.{direct_to};
 ghost use Rattle.platform.specs.Owners.{first_port, is_own_function, owner_of};
 
 use crate::start::Start;
 use fab_types::{Bdf, DomainId};
-use platform::{DownstreamPort, is_function, owner_of};
+use platform::{DownstreamPort, direct_to, is_function, owner_of};
 
 impl Start {
     /// Is it a function of this domain?
     pub fn owns_function(&self, id: Bdf) -> bool
         ensures { result ≡ is_own_function self.now id }
     {
-        is_function(self.functions(), id) && self.bus(id.bus()).is_own
+        let entry = self.bus(id.bus());
+        // (as a rule it is the function that the bus leads to, so that none has to be looked for)
+        entry.is_own && (entry.function == Some(id) || is_function(self.functions(), id))
     }
 
     /// The port directly above a function.
@@ -20,6 +23,19 @@ impl Start {
         ensures { result ≡ first_port self.now.ports function }
     {
         self.bus(function.bus()).first_port
+    }
+
+    /// The function to which a request of this function goes directly, if any.
+    /// A port above the sender lets the request for this address through to another port of its switch; the answer
+    /// is the function below that (PCIe 4.0, 6.12.1.1).
+    pub fn direct_to(&self, function: Bdf, address: u64) -> Option<Bdf>
+        ensures { result ≡ direct_to self.now.ports function address }
+    {
+        if self.bus(function.bus()).controls_egress {
+            direct_to(self.ports(), function, address)
+        } else {
+            None
+        }
     }
 
     /// The domain that owns an ID, if any does.

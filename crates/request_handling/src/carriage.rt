@@ -23,7 +23,7 @@ use crate::fate::{Fate, is_untranslated, packet_fate};
 use crate::page::place;
 use crate::requests::request_at_function;
 use fab_types::{Bdf, DomainId};
-use function::Function;
+use function::Functions;
 use host_table::{HostTable, Target};
 use layout::Start;
 use platform::{Access, DownstreamPort};
@@ -181,7 +181,7 @@ fn carried(start: &Start, table: &HostTable, view: &TlpView) -> Option<Dispositi
 /// What a function does with a request of this domain that goes directly to it.
 fn carried_directly(
     start: &Start,
-    functions: &[Function],
+    functions: &Functions,
     function: Bdf,
     view: &TlpView,
 ) -> Option<Disposition>
@@ -201,7 +201,7 @@ fn carriage_past(
     port: &DownstreamPort,
     start: &Start,
     table: &HostTable,
-    functions: &[Function],
+    functions: &Functions,
     function: Bdf,
     bytes: &[u8],
 ) -> Option<Disposition>
@@ -212,7 +212,7 @@ fn carriage_past(
     let Ok(view) = TlpView::read(bytes) else {
         return None;
     };
-    match packet_fate(start.ports(), function, port, &view) {
+    match packet_fate(start, function, port, &view) {
         Fate::ToHost => carried(start, table, &view),
         Fate::Direct(peer) => carried_directly(start, functions, peer, &view),
         Fate::Vanish => None,
@@ -225,7 +225,7 @@ fn carriage_past(
 pub fn carriage_up(
     start: &Start,
     table: &HostTable,
-    functions: &[Function],
+    functions: &Functions,
     function: Bdf,
     bytes: &[u8],
 ) -> Option<Disposition>
@@ -241,7 +241,7 @@ pub fn carriage_up(
 
 /// What a function does with a request for its register page.
 /// `None` exactly where it isn't one of these functions.
-pub fn access_of(functions: &[Function], id: Bdf) -> Option<Disposition>
+pub fn access_of(functions: &Functions, id: Bdf) -> Option<Disposition>
     ensures value { (share : Share) (frames : List (ℕ × List ℕ)) (t : Packet) → option_map (handling share frames functions.now t) result ≡ access_of share functions.now id t }
     ensures accessed { IfSome result (λ d. d ≡ Accessed id) }
 {

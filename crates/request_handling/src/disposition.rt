@@ -13,7 +13,7 @@ use crate::answers::{
 use crate::handling::{Effect, Handling, Reply};
 use crate::page::place;
 use fab_types::{Bdf, PortId, Status};
-use function::Function;
+use function::Functions;
 use host_memory::HostMemory;
 use layout::Start;
 use tlp_view::TlpView;
@@ -47,12 +47,12 @@ pub enum Disposition {
 }
 
 /// A function that is one of these answers a read of its register page.
-fn access_answer(start: &Start, functions: &[Function], id: Bdf, view: &TlpView) -> Option<Reply>
+fn access_answer(start: &Start, functions: &Functions, id: Bdf, view: &TlpView) -> Option<Reply>
     requires { IsAccess view.now }
     ensures { result ≡ access_answer start.now id view.now (page_of functions.now id) }
 {
     match place(functions, id) {
-        Some(at) => function_answer(start, &functions[at], view),
+        Some(at) => function_answer(start, &functions.as_slice()[at], view),
         None => None,
     }
 }
@@ -99,7 +99,7 @@ impl Disposition {
         &self,
         start: &Start,
         memory: &HostMemory,
-        functions: &[Function],
+        functions: &Functions,
         bytes: &[u8],
     ) -> Option<Reply>
         requires { Suits bytes.now self.now }
@@ -137,7 +137,7 @@ impl Disposition {
         &self,
         start: &Start,
         memory: &HostMemory,
-        functions: &[Function],
+        functions: &Functions,
         bytes: &[u8],
     ) -> Handling
         requires { Suits bytes.now self.now }

@@ -7,7 +7,7 @@ ghost use Rattle.request_handling.specs.Fates.{fails_egress, fails_source, fails
 use crate::answers::address_of;
 use fab_types::{AddressType, Bdf, Class, Status};
 use layout::Start;
-use platform::{DownstreamPort, direct_to, holder_beside};
+use platform::{DownstreamPort, holder_beside};
 use tlp_view::TlpView;
 
 /// What the first port of a function does with what that sends.
@@ -101,12 +101,12 @@ fn goes_to(function: Option<Bdf>) -> Fate
 }
 
 pub(crate) fn packet_fate(
-    ports: &[DownstreamPort],
+    start: &Start,
     function: Bdf,
     port: &DownstreamPort,
     view: &TlpView,
 ) -> Fate
-    ensures value { result ≡ packet_fate ports.now function port.now view.now }
+    ensures value { result ≡ packet_fate start.now.ports function port.now view.now }
     ensures addressed { result ≡ Fate.ToHost → has_address (view.now).kind ≡ true }
     ensures direct { (g : ℕ) → result ≡ Fate.Direct g → has_address (view.now).kind ≡ true }
 {
@@ -115,18 +115,18 @@ pub(crate) fn packet_fate(
         stopped(Status::CA, class)
     } else if !view.kind().has_address() || returns_to_sender(port, view) {
         stopped(Status::UR, class)
-    } else if fails_egress(ports, port, view) {
+    } else if fails_egress(start.ports(), port, view) {
         stopped(Status::CA, class)
     } else {
-        goes_to(direct_to(ports, function, address_of(view)))
+        goes_to(start.direct_to(function, address_of(view)))
     }
 }
 
-fn fate_at(ports: &[DownstreamPort], function: Bdf, port: &DownstreamPort, bytes: &[u8]) -> Fate
-    ensures { result ≡ fate_at ports.now function port.now bytes.now }
+fn fate_at(start: &Start, function: Bdf, port: &DownstreamPort, bytes: &[u8]) -> Fate
+    ensures { result ≡ fate_at start.now.ports function port.now bytes.now }
 {
     match TlpView::read(bytes) {
-        Ok(view) => packet_fate(ports, function, port, &view),
+        Ok(view) => packet_fate(start, function, port, &view),
         Err(_) => Fate::Vanish,
     }
 }
@@ -137,7 +137,7 @@ pub fn first_port_fate(start: &Start, function: Bdf, bytes: &[u8]) -> Fate
     ensures { result ≡ fate start.now.ports function bytes.now }
 {
     match start.first_port(function) {
-        Some(port) => fate_at(start.ports(), function, &port, bytes),
+        Some(port) => fate_at(start, function, &port, bytes),
         None => Fate::Vanish,
     }
 }

@@ -5,21 +5,14 @@ ghost use Rattle.std.specs.List.{position};
 ghost use Rattle.host_memory.specs.Pages.{page_of};
 
 use fab_types::Bdf;
-use function::Function;
-
-fn position_of(functions: &[Function], id: Bdf) -> Option<usize>
-    ensures place { result ≡ position (λ page. page.0 == id) functions.now }
-    ensures id { IfSome result (λ at. (slice_index_or functions.now at (0, [])).0 ≡ id) }
-{
-    functions.iter().position(|function| function.id() == id)
-}
+use function::Functions;
 
 /// Where this function stands among these, and its register page.
 /// `None` exactly where it isn't one of them.
-pub fn place(functions: &[Function], id: Bdf) -> Option<usize>
+pub fn place(functions: &Functions, id: Bdf) -> Option<usize>
     ensures place { result ≡ position (λ page. page.0 == id) functions.now }
     ensures id { IfSome result (λ at. (slice_index_or functions.now at (0, [])).0 ≡ id) }
     ensures page { page_of functions.now id ≡ option_map (λ at. (slice_index_or functions.now at (0, [])).1) result }
 {
-    position_of(functions, id)
+    functions.place(id)
 }

@@ -18,20 +18,20 @@ use layout::Start;
 use platform::DownstreamPort;
 use tlp_view::TlpView;
 
-/// How these bytes of a function end at this port, one of these, if they end there.
+/// How these bytes of a function end at this port of the layout, if they end there.
 pub(crate) fn refusal_at(
-    ports: &[DownstreamPort],
+    start: &Start,
     port: &DownstreamPort,
     function: Bdf,
     bytes: &[u8],
 ) -> Option<Disposition>
-    ensures value { (share : Share) (frames registers : List (ℕ × List ℕ)) → option_map (handling share frames registers (packet_of bytes.now)) result ≡ refusal_by port.now.id function bytes.now (fate_at ports.now function port.now bytes.now) }
+    ensures value { (share : Share) (frames registers : List (ℕ × List ℕ)) → option_map (handling share frames registers (packet_of bytes.now)) result ≡ refusal_by port.now.id function bytes.now (fate_at start.now.ports function port.now bytes.now) }
     ensures suits { IfSome result (λ d. Suits bytes.now d) }
 {
     let Ok(view) = TlpView::read(bytes) else {
         return Some(Disposition::Discarded);
     };
-    match packet_fate(ports, function, port, &view) {
+    match packet_fate(start, function, port, &view) {
         Fate::Vanish => Some(Disposition::Discarded),
         Fate::Refused(status) => Some(Disposition::RefusedByPort(port.id, function, status)),
         Fate::ToHost | Fate::Direct(_) => None,
@@ -44,7 +44,7 @@ pub fn refusal_of(start: &Start, function: Bdf, bytes: &[u8]) -> Option<Disposit
     ensures suits { IfSome result (λ d. Suits bytes.now d) }
 {
     match start.first_port(function) {
-        Some(port) => refusal_at(start.ports(), &port, function, bytes),
+        Some(port) => refusal_at(start, &port, function, bytes),
         None => Some(Disposition::Discarded),
     }
 }

@@ -17,7 +17,7 @@ use crate::carriage::{access_of, is_owner, is_write, serve, to_frame};
 use crate::disposition::Disposition;
 use crate::refusal::refusal_at;
 use fab_types::{AddressType, Bdf, Class, Parties};
-use function::Function;
+use function::Functions;
 use host_table::HostTable;
 use layout::Start;
 use platform::DownstreamPort;
@@ -140,7 +140,7 @@ fn is_access(view: &TlpView) -> bool
 #[tactic(auto, using(crate::proofs::WellMadeLemmas::is_an_access, crate::proofs::Addressed::access_addressed))]
 pub fn request_at_function(
     start: &Start,
-    functions: &[Function],
+    functions: &Functions,
     id: Bdf,
     view: &TlpView,
 ) -> Disposition
@@ -158,18 +158,13 @@ pub fn request_at_function(
     }
 }
 
-/// A port refuses what its own line, one of these, refuses.
-pub fn at_port(
-    ports: &[DownstreamPort],
-    port: &DownstreamPort,
-    bytes: &[u8],
-    sender: Parties,
-) -> Disposition
-    ensures value { (share : Share) (frames registers : List (ℕ × List ℕ)) → handling share frames registers (packet_of bytes.now) result ≡ at_port ports.now port.now bytes.now sender }
+/// A port of the layout refuses what its own line refuses.
+pub fn at_port(start: &Start, port: &DownstreamPort, bytes: &[u8], sender: Parties) -> Disposition
+    ensures value { (share : Share) (frames registers : List (ℕ × List ℕ)) → handling share frames registers (packet_of bytes.now) result ≡ at_port start.now.ports port.now bytes.now sender }
     ensures suits { Suits bytes.now result }
 {
     match sender {
-        Parties::Upward(function) => match refusal_at(ports, port, function, bytes) {
+        Parties::Upward(function) => match refusal_at(start, port, function, bytes) {
             Some(disposition) => disposition,
             None => Disposition::Discarded,
         },

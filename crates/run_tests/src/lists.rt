@@ -35,10 +35,16 @@ impl Scene {
         self.fabric.step(rt, event)
     }
 
+    /// Is this event idle?
+    fn rests<R: Wait>(&mut self, rt: &R, one: Move) -> bool {
+        let event = one.event();
+        self.outcome(rt, &event) == Outcome::Idle
+    }
+
     /// Is each of these idle?
-    fn rests<R: Wait>(&mut self, rt: &R, moves: &[Move]) -> bool {
+    fn all_rest<R: Wait>(&mut self, rt: &R, moves: &[Move]) -> bool {
         for one in moves {
-            if !matches!(self.outcome(rt, &one.event()), Outcome::Idle) {
+            if !self.rests(rt, *one) {
                 return false;
             }
         }
@@ -71,7 +77,7 @@ const OF_NOTHING: [Move; 7] = [
 #[test]
 fn what_the_layout_has_not_is_idle(rt: HostRuntime) -> Result<(), Fail> {
     let mut scene = Scene::new(rt.alloc())?;
-    assert!(rt; scene.rests(&rt, &OF_NOTHING));
+    assert!(rt; scene.all_rest(&rt, &OF_NOTHING));
     assert!(rt; scene.fabric.credits(direction(NOBODY, Way::Up)).is_none());
     Ok(())
 }

@@ -58,15 +58,27 @@ pub(crate) const STOPPED_READ: [Move; 6] = [
     Move::Take(FUNCTION_06, Way::Down),
 ];
 
-fn add_moves(moves: &mut Vec<Event>, station: &Station) -> Result<(), AllocError> {
-    moves.push(station.taking(Class::Posted))?;
-    moves.push(station.taking(Class::NonPosted))?;
-    moves.push(station.taking(Class::Completion))?;
-    if let Station::Link(direction) = station {
-        moves.push(Event::Take(*direction))?;
-        moves.push(Event::Credit(*direction))?;
+/// The events of a station by which it takes a packet of each class.
+fn add_takings(moves: &mut Vec<Event>, station: &Station) -> Result<(), AllocError> {
+    for class in [Class::Posted, Class::NonPosted, Class::Completion] {
+        moves.push(station.taking(class))?;
     }
     Ok(())
+}
+
+/// The events of a link's direction beside.
+fn add_arrivals(moves: &mut Vec<Event>, direction: &Direction) -> Result<(), AllocError> {
+    moves.push(Event::Take(*direction))?;
+    moves.push(Event::Credit(*direction))?;
+    Ok(())
+}
+
+fn add_moves(moves: &mut Vec<Event>, station: &Station) -> Result<(), AllocError> {
+    add_takings(moves, station)?;
+    match station {
+        Station::Link(direction) => add_arrivals(moves, direction),
+        _ => Ok(()),
+    }
 }
 
 /// The events of a sweep of this layout.

@@ -80,13 +80,17 @@ impl Script {
         Some(())
     }
 
-    /// 06:00.0 submits a packet in the name of another, which its port stops.
-    fn spoof(&mut self) -> Option<()> {
-        self.submit(Bdf::from_bits(SENDER), SPOOFED_WRITE)?;
+    fn go_to_the_port(&mut self) -> Option<()> {
         for step in TO_THE_PORT {
             self.add(step.event())?;
         }
         Some(())
+    }
+
+    /// 06:00.0 submits a packet in the name of another, which its port stops.
+    fn spoof(&mut self) -> Option<()> {
+        self.submit(Bdf::from_bits(SENDER), SPOOFED_WRITE)?;
+        self.go_to_the_port()
     }
 }
 

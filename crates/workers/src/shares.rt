@@ -11,9 +11,9 @@ use std::alloc::Global;
 pub fn starts_of(alloc: Global, domains: &[Domain]) -> Result<Vec<Start>, NoMemory>
     ensures { IfOk result (λ starts. starts.items ≡ map (λ d. d.share) domains.now) }
 {
-    let mut starts = Vec::new(alloc);
+    let mut starts = Vec::with_capacity(alloc, domains.len())?;
     for domain in domains {
-        starts.push(domain.start().try_clone(alloc)?)?;
+        starts.push_reserved(domain.start().try_clone(alloc)?);
     }
     Ok(starts)
 }

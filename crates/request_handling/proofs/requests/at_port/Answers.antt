@@ -10,5 +10,5 @@ pub returns-in-None-clause-value : goal.returns-in-None-clause-value
 returns-in-None-clause-value c = λ share frames registers.
     let port = c.args.port.now in
     let f = c.in-Upward.function in
-    none_discarded (refusal_by port.id f c.args.bytes.now (fate_at c.args.ports.now f port c.args.bytes.now)) (c.in-None.ensures.value share frames registers)
-    ∙ ap (λ (sender : Parties). at_port c.args.ports.now port c.args.bytes.now sender) (sym c.in-Upward.is)
+    none_discarded (refusal_by port.id f c.args.bytes.now (fate_at c.args.start.now.ports f port c.args.bytes.now)) (c.in-None.ensures.value share frames registers)
+    ∙ ap (λ (sender : Parties). at_port c.args.start.now.ports port c.args.bytes.now sender) (sym c.in-Upward.is)

@@ -48,7 +48,7 @@ invariant_of-self-2 g c =
     let b = c.args.bytes.now in
     let r = c.in-Some.reception in
     let is = found (domain_view d) c.args.self.now c.args.place c.args.sender b _ r c.self.view_is c.in-Some.is c.reception.ensures.value in
-    let grown = alien_copied js _ c.args.place c.args.sender b c.in-Ok-copy_of.copy c.in-Ok-copy_of.ensures (c.push_reserved.ensures.items ∙ ap (λ (es : List Entry). es ++ Alien c.args.place c.args.sender c.in-Ok-copy_of.copy ∷ []) c.room_for_entries.ensures.items) in
+    let grown = alien_copied js _ c.args.place c.args.sender b c.in-Ok-copy_of.copy c.in-Ok-copy_of.ensures.value (c.push_reserved.ensures.items ∙ ap (λ (es : List Entry). es ++ Alien c.args.place c.args.sender c.in-Ok-copy_of.copy ∷ []) c.room_for_entries.ensures.items) in
     let left = c.in-Ok-receive.ensures.state ∙ ap (λ (u : Alone). (received u b r).state) c.make_room.ensures in
     record {
       share = c.self.invariant.share;
@@ -65,7 +65,7 @@ returns-clause-ok g c =
     let b = c.args.bytes.now in
     let r = c.in-Some.reception in
     let is = found (domain_view d) c.args.self.now c.args.place c.args.sender b _ r c.self.view_is c.in-Some.is c.reception.ensures.value in
-    let grown = alien_copied d.journal.items _ c.args.place c.args.sender b c.in-Ok-copy_of.copy c.in-Ok-copy_of.ensures (c.push_reserved.ensures.items ∙ ap (λ (es : List Entry). es ++ Alien c.args.place c.args.sender c.in-Ok-copy_of.copy ∷ []) c.room_for_entries.ensures.items) in
+    let grown = alien_copied d.journal.items _ c.args.place c.args.sender b c.in-Ok-copy_of.copy c.in-Ok-copy_of.ensures.value (c.push_reserved.ensures.items ∙ ap (λ (es : List Entry). es ++ Alien c.args.place c.args.sender c.in-Ok-copy_of.copy ∷ []) c.room_for_entries.ensures.items) in
     let left = c.in-Ok-receive.ensures.state ∙ ap (λ (u : Alone). (received u b r).state) c.make_room.ensures in
     makes_alien (domain_view d) c.args.self.now _ c.args.place c.args.sender b r c.domain-domain.result c.in-Ok-receive.sent c.self.view_is is refl grown left c.domain-domain.ensures
     (c.in-Ok-receive.ensures.sent ∙ ap (λ (u : Alone). option_map (descriptor_of c.domain-domain.result (length u.flight)) (received u b r).emission) c.make_room.ensures)

@@ -18,7 +18,7 @@ invariant_of-self-2 g c =
     let d = c.self.inside in
     let none = not_refused (domain_view d) c.args.self.now c.args.function c.args.bytes.now _ c.self.view_is c.in_default.is (rw c.new-packet.ensures at c.submit_fault.ensures) in
     let legal = submit_legal d.start d.state c.submit.new.self c.args.function c.args.bytes.now none (rw c.new-packet.ensures at c.in-Ok-submit.ensures.state) in
-    let grown = submit_copied d.journal.items _ c.args.function c.args.bytes.now c.in-Ok.copy c.in-Ok.ensures c.push_reserved.ensures.items in
+    let grown = submit_copied d.journal.items _ c.args.function c.args.bytes.now c.in-Ok.copy c.in-Ok.ensures.value c.push_reserved.ensures.items in
     record {
       share = c.self.invariant.share;
       table = c.self.invariant.table;
@@ -31,5 +31,5 @@ pub returns-clause-ok : goal.returns-clause-ok
 returns-clause-ok g c =
     let d = c.self.inside in
     let none = not_refused (domain_view d) c.args.self.now c.args.function c.args.bytes.now _ c.self.view_is c.in_default.is (rw c.new-packet.ensures at c.submit_fault.ensures) in
-    let grown = submit_copied d.journal.items _ c.args.function c.args.bytes.now c.in-Ok.copy c.in-Ok.ensures c.push_reserved.ensures.items in
+    let grown = submit_copied d.journal.items _ c.args.function c.args.bytes.now c.in-Ok.copy c.in-Ok.ensures.value c.push_reserved.ensures.items in
     makes_seen (domain_view d) c.args.self.now _ _ _ c.self.view_is (makes_submit (domain_view d) _ c.args.function c.args.bytes.now _ none refl (rw c.new-packet.ensures at c.in-Ok-submit.ensures.state) grown ((rw c.new-packet.ensures at c.in-Ok-submit.ensures.frame) ∙ ap (λ (k : ℕ). descriptor_of k (length d.state.flight) (upward c.args.function c.args.bytes.now)) c.domain-domain.ensures))

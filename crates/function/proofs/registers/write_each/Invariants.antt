@@ -1,6 +1,6 @@
 use Rattle.std.proofs.Common.{◌≡◌, ◌+◌, ◌≤◌, length, drop}
 use Rattle.function.specs.Registers.{write_bytes}
-use Rattle.function.proofs.registers.write_bytes.Given as goal
+use Rattle.function.proofs.registers.write_each.Given as goal
 
 -- what is left to be written gives the whole
 abbrev pub invariant-loop-i : goal.invariant-loop-i
