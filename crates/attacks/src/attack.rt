@@ -125,8 +125,8 @@ impl Harm {
 }
 
 impl Attack {
-    /// The bytes of the request (PCIe 4.0, 2.2.7): of 1 DW, all bytes enabled, with Tag 0. It is for the first DW of the
-    /// page, or of a register page's buffer.
+    /// The bytes of the request (PCIe 4.0, 2.2.7).
+    /// It is of 1 DW, all bytes enabled, with Tag 0, for the first DW of the page, or of a register page's buffer.
     pub fn bytes(&self, alloc: Global) -> Result<PacketBytes, NoMemory>
         ensures { IfOk result (λ bytes. bytes ≡ packet_bytes (packet_of self.now)) }
     {

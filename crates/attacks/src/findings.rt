@@ -7,8 +7,9 @@ use crate::attack::Harm;
 use crate::control::Control;
 use fab_types::{Bdf, DomainId, PacketBytes, PortId};
 
-/// A packet that was seen to harm a domain, and the clear control that let it pass.
-/// It was submitted in a fresh fabric, and nothing else was begun there but the read of the harm, if that has one.
+/// A packet that was seen to harm a domain, and what let it pass.
+/// It was submitted in a fresh fabric, and nothing else was begun there but the read of the harm, if that has one. A control
+/// that is clear let it pass.
 #[derive(Drop)]
 pub struct Witness {
     /// The domain whose function submitted it.

@@ -8,7 +8,8 @@ use fab_types::{AddressType, Bdf, NoMemory, PacketBytes};
 use std::alloc::Global;
 use tlp_view::RequestBuf;
 
-/// A read of 1 DW with Tag 0, which a function of the harmed domain submits in its own name.
+/// A read that a function of the harmed domain submits in its own name.
+/// It is of 1 DW, with Tag 0.
 #[derive(Clone, Copy, Debug, PartialEq, Eq)]
 pub struct OwnRead {
     /// The function that submits it.
@@ -20,7 +21,8 @@ pub struct OwnRead {
 }
 
 impl OwnRead {
-    /// The bytes of the read (PCIe 4.0, 2.2.7): of the page's first DW, all bytes enabled.
+    /// The bytes of the read (PCIe 4.0, 2.2.7).
+    /// It is of the page's first DW, all bytes enabled.
     ///
     /// It answers `NoMemory` where memory was refused.
     pub fn bytes(&self, alloc: Global) -> Result<PacketBytes, NoMemory>

@@ -15,10 +15,10 @@ use layout::{Layout, Start};
 use platform::{DownstreamPort, EndpointFunction, port_with_secondary};
 use std::alloc::{AllocError, Global};
 
-/// The requests that a function may try to harm a domain in this way, in the order in which they are to be tried.
+/// The requests by which a function may try to harm a domain in this way.
 ///
-/// The domain is another than the function's. A request is left out that a control of a port above the function stops
-/// whatever else there is.
+/// They stand in the order in which they are to be tried. The domain is another than the function's. A request is left out
+/// that a control of a port above the function stops whatever else there is.
 ///
 /// It answers `NoMemory` where memory was refused.
 pub fn tries(

@@ -17,12 +17,12 @@ use layout::{Layout, Start};
 use std::alloc::Global;
 use std::sync::Wait;
 
-/// Says whether the domains of a layout are kept apart, and where they aren't, what shows it.
+/// Says whether the domains of a layout are kept apart.
 ///
-/// A layout is guarded where each downstream port has all five ACS controls set. Then no domain can tell the others from
-/// none, and nothing is tried. In any other, for each two domains and each way of harm, the functions of the one try requests
-/// against the other (`attacks::tries`), each in a fresh fabric, until one is seen to land. That one is told, and none where
-/// none of them lands. That there is no other attack isn't claimed.
+/// Where they aren't, it says what shows it. A layout is guarded where each downstream port has all five ACS controls set.
+/// Then no domain can tell the others from none, and nothing is tried. In any other, for each two domains and each way of
+/// harm, the functions of the one try requests against the other (`attacks::tries`), each in a fresh fabric, until one is
+/// seen to land. That one is told, and none where none of them lands. That there is no other attack isn't claimed.
 ///
 /// It answers `NoMemory` where memory was refused.
 pub fn audit<R: Wait>(rt: &R, alloc: Global, layout: &Layout) -> Result<Findings, NoMemory>

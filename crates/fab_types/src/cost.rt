@@ -6,8 +6,8 @@ ghost use Rattle.std.specs.Option.{SomeIff};
 use crate::class::Class;
 use std::marker::Model;
 
-/// The data credits of a packet, at most 16: none has more than 256 bytes of payload.
-/// A contract sees the number.
+/// The data credits of a packet, at most 16.
+/// None has more than 256 bytes of payload. A contract sees the number.
 #[derive(Clone, Copy, Debug, PartialEq, Eq)]
 pub struct DataCredits(u16);
 

@@ -14,8 +14,8 @@ use std::alloc::Global;
 use std::io;
 use std::io::Write;
 
-/// Writes the tree of a layout, what an audit of it found, and which clear controls let nothing pass.
-/// The groups that Linux makes of the tree follow, if they are wanted.
+/// Writes the tree of a layout and what an audit of it found.
+/// Which clear controls let nothing pass comes then, and the groups that Linux makes of the tree, if they are wanted.
 /// Where memory is refused before all of it stands ready, nothing is written, and the error is of the kind `OutOfMemory`; other
 /// errors are those of the writer.
 pub fn write_explanation<W: Write>(

@@ -11,8 +11,9 @@ use std::alloc::Global;
 use std::io;
 use std::io::Write;
 
-/// Writes what an audit found: that no domain can tell the others from none, or for each two domains each witness with its
-/// script, or that none was found.
+/// Writes what an audit found.
+/// That is that no domain can tell the others from none, or for each two domains each witness with its script, or that none
+/// was found.
 pub fn write_findings<W: Write>(alloc: Global, out: &mut W, findings: &Findings) -> io::Result<()>
     ensures { OnOk result (Appends (W.contents out.old) (W.contents out.new) (findings_text findings.now)) }
 {

@@ -86,7 +86,8 @@ fn write_own<W: Write>(alloc: Global, out: &mut W, harm: &Harm) -> io::Result<()
     }
 }
 
-/// Writes the script that shows a witness: its packet, a read of the harmed domain's own if it has one, and sweeps.
+/// Writes the script that shows a witness.
+/// It has the packet, a read of the harmed domain's own if there is one, and sweeps.
 pub fn write_script<W: Write>(alloc: Global, out: &mut W, witness: &Witness) -> io::Result<()>
     ensures { OnOk result (Appends (W.contents out.old) (W.contents out.new) (script_text witness.now)) }
 {

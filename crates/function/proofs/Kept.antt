@@ -1,11 +1,10 @@
 -- What is written to the program and to the buffer is kept there.
-use Rattle.std.proofs.Common.{◌≡◌, ◌⊎◌, inl, inr, ⊎_elim, ℕ, ◌+◌, ◌≤◌, ◌<◌, Bool, true, false, List, [], ◌∷◌, ◌++◌, length, take, drop, set, get_or, Option, Some, refl, sym, ap, ◌∙◌, arith, rules, length-set, append_assoc}
+use Rattle.std.proofs.Common.{◌≡◌, ◌⊎◌, inl, inr, ⊎_elim, ℕ, ◌+◌, ◌≤◌, ◌<◌, Bool, true, false, List, [], ◌∷◌, ◌++◌, length, take, drop, set, Some, refl, sym, ap, ◌∙◌, arith, rules, length-set, append_assoc}
 use Rattle.std.specs.Prelude.{◌&&◌, ◌||◌, nat_le}
 use Rattle.std.proofs.lemmas.Bool.{cases_lt, le-ltb, lt-ltb, leb-true, le-leb}
 use Rattle.std.proofs.Math.Seq.{drop-drop}
 use Rattle.std.proofs.lemmas.List.{same_lists, places, take_more_set, drop-set-lt}
 use borrow.Rule.Slice.PartMut.{put_mid}
-use Rattle.function.specs.declared.registers.Register.{Register}
 use Rattle.function.specs.declared.registers.Register.TheVariants.{Program, Buffer}
 use Rattle.function.specs.Registers.{are_kept, register_at, write_byte, write_bytes, write_register}
 

@@ -93,7 +93,7 @@ impl Functions {
         if self.functions[at].id() == id {
             Some(at)
         } else {
-            // (below a port stands one function alone, so that this is some other's ID)
+            // (in a layout no two functions share a bus, so that nothing has this ID)
             position_of(&self.functions, id)
         }
     }
@@ -107,7 +107,7 @@ impl Functions {
         let _ = self.functions[at].access(request);
     }
 
-    /// Does to the page of the function at this place what a tick with this plan does.
+    /// A tick with this plan of the function at this place.
     pub fn perform(&mut self, at: usize, plan: &Plan)
         requires there { at < length self.old }
         requires fits { PlanFits plan.now (page_at self.old at) }

@@ -25,7 +25,8 @@ fn tell_remark(alloc: Global, draft: &mut Draft, space: &ConfigSpace<'_>) -> Res
     }
 }
 
-/// Tells which device the line is of that was added last, and of a port what has to be told of its controls.
+/// Tells which device the line is of that was added last.
+/// Of a port it tells what there is to say of its controls.
 pub fn tell_device(
     alloc: Global,
     draft: &mut Draft,

@@ -39,7 +39,8 @@ fn domain_above(ports: &[DownstreamPort], function: Bdf) -> Option<DomainId>
     port_with_secondary(ports, function.bus()).map(|port| port.owner)
 }
 
-/// The devices of a layout: upstream ports, downstream ports and functions, each in the order of their lines.
+/// The devices of a layout.
+/// These are upstream ports, downstream ports and functions, each in the order of their lines.
 pub fn members_of(alloc: Global, layout: &Layout) -> Result<Vec<Member>, AllocError>
     ensures { IfOk result (λ members. members.items ≡ members_of layout.now) }
 {
@@ -76,7 +77,7 @@ fn is_with(members: &[Member], domain: DomainId, one: &Member) -> bool
     members.iter().any(|member| is_of(domain, member) && member.group == one.group)
 }
 
-/// Is a function of the one domain in a group with a function of the other?
+/// Is a function of the one domain in one group with another's?
 pub fn have_common_group(members: &[Member], one: DomainId, other: DomainId) -> bool
     ensures { result ≡ have_common_group members.now one other }
 {

@@ -1,13 +1,13 @@
 -- Where a bus leads, and that nothing goes directly where no port above controls egress.
 use Rattle.std.proofs.Common.{◌≡◌, ℕ, ◌==◌, Bool, true, false, cond, List, [], ◌∷◌, Option, Some, None, refl, ap}
-use Rattle.std.specs.Prelude.{◌&&◌, ◌||◌, not, option_map}
-use Rattle.std.specs.List.{find, list_any}
+use Rattle.std.specs.Prelude.{◌&&◌, ◌||◌, option_map}
+use Rattle.std.specs.List.{find}
 use Rattle.std.proofs.lemmas.Bool.{eq-eqb, eqb-true}
 use Rattle.std.specs.Option.{option_eq}
 use Rattle.fab_types.specs.Controls.{controls_egress}
 use Rattle.platform.specs.declared.parts.DownstreamPort.{DownstreamPort}
 use Rattle.platform.specs.declared.parts.EndpointFunction.{EndpointFunction}
-use Rattle.platform.specs.Egress.{direct_above, direct_among, direct_at, holder_beside, let_to, lets_through, or_else}
+use Rattle.platform.specs.Egress.{direct_above, direct_among, direct_at, holder_beside, let_to}
 use Rattle.platform.specs.Owners.{holds_address, holds_bus, is_function}
 use Rattle.layout.specs.Buses.{controls_egress_above}
 use Rattle.layout.proofs.Bools.{or-first, or-second}

@@ -24,7 +24,8 @@ impl DownstreamPort {
     }
 }
 
-/// The owner of the first port whose buses have this one, which is the nearest to the root.
+/// The owner of the first port whose buses have this one.
+/// That port is the nearest to the root.
 pub fn owner_of_bus(ports: &[DownstreamPort], bus: u8) -> Option<DomainId>
     ensures { result ≡ owner_of_bus ports.now bus }
 {

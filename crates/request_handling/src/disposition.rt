@@ -38,9 +38,10 @@ pub enum Disposition {
     Stored(u16, usize),
     /// The host answers with what stands in this frame.
     Shown(u16),
-    /// The host adds the operand to the bytes of this frame, from this byte on, and answers with what stood there.
+    /// The host adds the operand to the bytes of this frame, from this byte on.
+    /// It answers with what stood there.
     Added(u16, usize),
-    /// The host sends the same request to this function, whose register page is at this address.
+    /// The host sends the same request to this function's page, at this address.
     Forwarded(Bdf, u32),
     /// This function's register page is written, or answers a read.
     Accessed(Bdf),

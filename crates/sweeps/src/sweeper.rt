@@ -113,8 +113,8 @@ fn sweep_up_to<R: Wait>(
 }
 
 impl Sweeper {
-    /// The fabric of a layout, in which nothing was begun, and all of whose stations are awake. What `Fabric::new` says of
-    /// it holds.
+    /// The fabric of a layout, in which nothing was begun.
+    /// All of its stations are awake, and what `Fabric::new` says of it holds.
     pub fn new(alloc: Global, layout: &Layout) -> Result<Sweeper, NoMemory>
         ensures start { IfOk result (λ swept. swept.world ≡ world_of layout.now) }
         ensures sweep { IfOk result (λ swept. IsSweep layout.now (world_of layout.now).agents.domains (flat_map events_at swept.stations)) }

@@ -122,7 +122,8 @@ impl Reach {
         }
     }
 
-    /// May a packet that is taken at a station of this reach, and sent or put from there, wake one of the other?
+    /// May a packet that is taken at this reach wake the other?
+    /// It is taken at a station of this one, and sent or put from there.
     pub fn wakes_by_taking(&self, other: &Reach) -> bool
         ensures { result ≡ is_woken_by_taking self.now other.now }
     {
@@ -133,14 +134,14 @@ impl Reach {
             || is_at_node(other.puts, self.sends)
     }
 
-    /// May credits that the sender of the direction of this reach is told wake a station of the other?
+    /// May credits that this reach's sender is told wake the other?
     pub fn wakes_by_telling(&self, other: &Reach) -> bool
         ensures { result ≡ is_woken_by_credits self.now other.now }
     {
         is_same_end(self.sends, other.sends)
     }
 
-    /// May a packet that is received in the direction of this reach wake a station of the other?
+    /// May a packet that is received in this reach's direction wake the other?
     pub fn wakes_by_receiving(&self, other: &Reach) -> bool
         ensures { result ≡ is_woken_by_receiving self.now other.now }
     {
@@ -180,7 +181,8 @@ fn is_host_outbox(station: &Station) -> bool
     matches!(station, Station::HostOutbox(_))
 }
 
-/// May what happens at the one station put a packet into the outbox that the other is, or take one from there?
+/// May the one station put packets into the outbox that the other is?
+/// Or may it take one from there?
 pub fn changes_outbox(one: &Station, other: &Station) -> bool
     ensures { result ≡ changes_outbox one.now other.now }
 {
