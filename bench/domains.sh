@@ -3,8 +3,9 @@
 # with what follows from it, and how many entries of the journal a second are replayed, by processor time, in the
 # slowest and the fastest of 20 rounds. The begins are submits, ticks of a running program, or requests of the host
 # for registers. The domain has one function and one map line, or it is the largest: 57 functions with 64 map lines
-# each, of which the last function acts, by its last map line. It builds the program in a temporary folder, from the
-# sources of this repository, and proves what no check has proved there before.
+# each, of which the last function acts, by its last map line. Each is measured twice: as it is, and with the memory of
+# earlier rounds kept, which leaves out what the system takes for fresh pages. It builds the program in a temporary
+# folder, from the sources of this repository, and proves what no check has proved there before.
 set -euo pipefail
 here=$(cd "$(dirname "$0")/.." && pwd)
 work=$(mktemp -d)
@@ -372,21 +373,30 @@ mkdir "$work/largest"
 "$here/bench/layouts.sh" "$work/largest"
 mv "$work/largest/one domain, frames in turn, map lines: 64" "$work/texts/57 functions"
 
-# rates WORD DWS NAME: with each layout, the slowest and the fastest of the program's rounds
+# The allocator gives no memory back to the system.
+keeping=glibc.malloc.mmap_threshold=1073741824:glibc.malloc.trim_threshold=2000000000
+
+# rate TEXT WORD DWS NAME: the slowest and the fastest of the program's rounds with this layout
+rate() {
+    "$work/crates/begins/out/begins" "$work/texts/$1" "$2" "$3" > "$work/rounds"
+    awk -v name="$1, $4" '
+        { begins = $1 / $2 * 1e3; entries = $3 / $4 * 1e3 }
+        NR == 1 || begins < slow { slow = begins }
+        NR == 1 || entries < slowest { slowest = entries }
+        begins > fast { fast = begins }
+        entries > fastest { fastest = entries }
+        END {
+            printf "%s: %.2f to %.2f million a second (%d); replay %.2f to %.2f million entries a second (%d)\n",
+                name, slow, fast, $1, slowest, fastest, $3
+        }' "$work/rounds"
+}
+
+# rates WORD DWS NAME: with each layout, as it is and with memory kept
 rates() {
     local text
     for text in 'one function' '57 functions'; do
-        "$work/crates/begins/out/begins" "$work/texts/$text" "$1" "$2" > "$work/rounds"
-        awk -v name="$text, $3" '
-            { begins = $1 / $2 * 1e3; entries = $3 / $4 * 1e3 }
-            NR == 1 || begins < slow { slow = begins }
-            NR == 1 || entries < slowest { slowest = entries }
-            begins > fast { fast = begins }
-            entries > fastest { fastest = entries }
-            END {
-                printf "%s: %.2f to %.2f million a second (%d); replay %.2f to %.2f million entries a second (%d)\n",
-                    name, slow, fast, $1, slowest, fastest, $3
-            }' "$work/rounds"
+        rate "$text" "$1" "$2" "$3"
+        GLIBC_TUNABLES=$keeping rate "$text" "$1" "$2" "$3, memory kept"
     done
 }
 

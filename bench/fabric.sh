@@ -130,9 +130,10 @@ use fab_types::NoMemory;
 use fabric_core::{Event, Station};
 use layout::Layout;
 use script::{Command, Line, Script};
+use std::alloc::Global;
 use std::io::Write;
 use std::sync::Wait;
-use std::time::CpuClock;
+use std::time::{CpuClock, Duration};
 use std::{env, fs, io};
 use sweeps::{Sweeper, stations};
 
@@ -140,7 +141,11 @@ use sweeps::{Sweeper, stations};
 fn events_of(stations: &[Station]) -> u64 {
     let mut events: u64 = 0;
     for station in stations {
-        let more = if matches!(station, Station::Link(_)) { 5 } else { 3 };
+        let more = if matches!(station, Station::Link(_)) {
+            5
+        } else {
+            3
+        };
         events = events.wrapping_add(more);
     }
     events
@@ -196,44 +201,58 @@ fn most_memory(status: &str) -> &str {
     }
 }
 
+/// A fabric of this layout, in which nothing was begun.
+fn counter_of(alloc: Global, layout: &str) -> Option<Counter> {
+    let layout = Layout::read(alloc, layout).ok()?;
+    let sweeper = Sweeper::new(alloc, &layout).ok()?;
+    let stations = stations(alloc, &layout, sweeper.fabric().domains()).ok()?;
+    let events = events_of(&stations);
+    Some(Counter {
+        sweeper,
+        events,
+        all: 0,
+    })
+}
+
+/// How long the lines take, unless memory is refused.
+fn time<R: Wait + CpuClock>(rt: &R, counter: &mut Counter, lines: Vec<Line>) -> Option<Duration> {
+    let before = rt.process_cpu_time().ok()?;
+    counter.run(rt, lines).ok()?;
+    let after = rt.process_cpu_time().ok()?;
+    Some(after.saturating_sub(before))
+}
+
+/// The nanoseconds that the script takes over the layout, and how many events it makes.
+fn counted<R: Wait + CpuClock>(
+    rt: &R,
+    alloc: Global,
+    layout: &str,
+    script: &str,
+) -> Option<(u128, u64)> {
+    let mut counter = counter_of(alloc, layout)?;
+    let script = Script::read(alloc, script).ok()?;
+    let taken = time(rt, &mut counter, script.into_lines())?;
+    Some((taken.as_nanos(), counter.all))
+}
+
 /// Runs the script that the second word names over the layout that the first one names. It prints the nanoseconds,
 /// all events, and the memory.
 fn main(rt: HostRuntime) -> io::Result<()> {
     let alloc = rt.alloc();
-    let mut out = rt.stdout();
-    let Some(path) = env::args(&rt)?.nth(1) else {
-        return Ok(());
-    };
-    let Some(name) = env::args(&rt)?.nth(2) else {
+    let mut words = env::args(&rt)?;
+    let (Some(path), Some(name)) = (words.nth(1), words.next()) else {
         return Ok(());
     };
     let layout = fs::read_to_string(&rt, path.as_str())?;
     let script = fs::read_to_string(&rt, name.as_str())?;
-    let Ok(layout) = Layout::read(alloc, layout.as_str()) else {
-        return writeln!(out, "the layout is refused");
-    };
-    let Ok(script) = Script::read(alloc, script.as_str()) else {
-        return writeln!(out, "the script is refused");
-    };
-    let Ok(sweeper) = Sweeper::new(alloc, &layout) else {
-        return writeln!(out, "no memory");
-    };
-    let Ok(stations) = stations(alloc, &layout, sweeper.fabric().domains()) else {
-        return writeln!(out, "no memory");
-    };
-    let mut counter = Counter {
-        sweeper,
-        events: events_of(&stations),
-        all: 0,
-    };
-    let before = rt.process_cpu_time()?;
-    let Ok(()) = counter.run(&rt, script.into_lines()) else {
-        return writeln!(out, "no memory");
-    };
-    let time = rt.process_cpu_time()?.saturating_sub(before);
+    let counted = counted(&rt, alloc, layout.as_str(), script.as_str());
     let status = fs::read_to_string(&rt, "/proc/self/status")?;
     let memory = most_memory(status.as_str());
-    writeln!(out, "{} {} {memory}", time.as_nanos(), counter.all)
+    let mut out = rt.stdout();
+    match counted {
+        Some((nanoseconds, events)) => writeln!(out, "{nanoseconds} {events} {memory}"),
+        None => writeln!(out, "a text is refused, or memory"),
+    }
 }
 PROGRAM
 # Not by rt try, whose build tests each access and is far slower.
