@@ -1,46 +1,36 @@
 -- What is written to the program and to the buffer is kept there.
 use Rattle.std.proofs.Common.{◌≡◌, ◌⊎◌, inl, inr, ⊎_elim, ℕ, ◌+◌, ◌≤◌, ◌<◌, Bool, true, false, List, [], ◌∷◌, ◌++◌, length, take, drop, set, Some, refl, sym, ap, ◌∙◌, arith, rules, length-set, append_assoc}
-use Rattle.std.specs.Prelude.{◌&&◌, ◌||◌, nat_le}
+use Rattle.std.specs.Prelude.{◌&&◌, ◌||◌, nat_le, option_map}
+use Rattle.std.specs.List.{find}
 use Rattle.std.proofs.lemmas.Bool.{cases_lt, le-ltb, lt-ltb, leb-true, le-leb}
 use Rattle.std.proofs.Math.Seq.{drop-drop}
 use Rattle.std.proofs.lemmas.List.{same_lists, places, take_more_set, drop-set-lt}
 use borrow.Rule.Slice.PartMut.{put_mid}
 use Rattle.function.specs.declared.registers.Register.TheVariants.{Program, Buffer}
-use Rattle.function.specs.Registers.{are_kept, register_at, write_byte, write_bytes, write_register}
+use Rattle.function.specs.Registers.{are_kept, has_byte, register_at, table, write_byte, write_bytes, write_register}
+
+-- from byte 16 on only the program and the buffer are left
+behind_counter : (offset : ℕ) → 16 ≤ offset → register_at offset ≡ option_map (λ row. row.register) (find (has_byte offset) (drop 4 table))
+unfolding register_at
+behind_counter offset low =
+    rw (
+      le-ltb offset 4 (omega (arith, low)),
+      le-ltb offset 5 (omega (arith, low)),
+      le-ltb offset 12 (omega (arith, low)),
+      le-ltb offset 16 low,
+      le-leb 0 offset (omega arith),
+      le-leb 4 offset (omega (arith, low)),
+      le-leb 8 offset (omega (arith, low)),
+      le-leb 12 offset (omega (arith, low)),
+    ) refl
 
 program_at : (offset : ℕ) → 256 ≤ offset → offset < 512 → register_at offset ≡ Some Program
-unfolding register_at
-program_at offset low high =
-    rw (
-      le-ltb offset 4 (omega (arith, low)),
-      le-ltb offset 5 (omega (arith, low)),
-      le-ltb offset 12 (omega (arith, low)),
-      le-ltb offset 16 (omega (arith, low)),
-      lt-ltb offset 512 high,
-      le-leb 0 offset (omega arith),
-      le-leb 4 offset (omega (arith, low)),
-      le-leb 8 offset (omega (arith, low)),
-      le-leb 12 offset (omega (arith, low)),
-      le-leb 256 offset low,
-    ) refl
+program_at offset low high = behind_counter offset (omega (arith, low)) ∙ rw (lt-ltb offset 512 high, le-leb 256 offset low) refl
 
 buffer_at : (offset : ℕ) → 1024 ≤ offset → offset < 2048 → register_at offset ≡ Some Buffer
-unfolding register_at
 buffer_at offset low high =
-    rw (
-      le-ltb offset 4 (omega (arith, low)),
-      le-ltb offset 5 (omega (arith, low)),
-      le-ltb offset 12 (omega (arith, low)),
-      le-ltb offset 16 (omega (arith, low)),
-      le-ltb offset 512 (omega (arith, low)),
-      lt-ltb offset 2048 high,
-      le-leb 0 offset (omega arith),
-      le-leb 4 offset (omega (arith, low)),
-      le-leb 8 offset (omega (arith, low)),
-      le-leb 12 offset (omega (arith, low)),
-      le-leb 256 offset (omega (arith, low)),
-      le-leb 1024 offset low,
-    ) refl
+    behind_counter offset (omega (arith, low))
+    ∙ rw (le-leb 256 offset (omega (arith, low)), le-ltb offset 512 (omega (arith, low)), le-leb 1024 offset low, lt-ltb offset 2048 high) refl
 
 -- of these bytes each keeps what is written
 abbrev Keeps : ℕ → ℕ → Type 0
