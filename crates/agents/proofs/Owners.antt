@@ -13,7 +13,7 @@ use Rattle.layout.specs.Laws.{IsPlatform, are_apart, each_pair, is_hung, is_hung
 use Rattle.platform.specs.Platform.{Platform}
 use Rattle.platform.specs.Tree.{is_on_bus}
 use Rattle.platform.specs.Tree.{id_below, internal_bus, port_above, port_at, switch_on}
-use Rattle.layout.proofs.Bools.{all-found, and-both, and-first, and-second}
+use Rattle.platform.proofs.Bools.{all-found, and-both, and-first, and-second}
 
 -- ---- elements of a list
 

@@ -17,7 +17,8 @@ use Rattle.fab_types.specs.declared.origin.Origin.{Origin}
 use Rattle.fab_types.specs.declared.origin.Origin.TheVariants.{Function, Host}
 use Rattle.fab_types.specs.Id.{bus_of}
 use Rattle.fab_types.specs.Origins.{same_origin}
-use Rattle.layout.proofs.Bools.{and-first, and-second, any-missing}
+use Rattle.platform.proofs.Bools.{and-first, and-second}
+use Rattle.layout.proofs.Bools.{any-missing}
 use Rattle.platform.specs.declared.parts.EndpointFunction.{EndpointFunction}
 use Rattle.platform.specs.declared.parts.DownstreamPort.{DownstreamPort}
 use Rattle.layout.specs.Laws.{IsPlatform}

@@ -9,7 +9,7 @@ use Rattle.platform.specs.declared.parts.Switch.{Switch}
 use Rattle.layout.specs.Laws.{is_nested, is_nested_on}
 use Rattle.platform.specs.Tree.{is_on_bus}
 use Rattle.platform.specs.Tree.{port_at, internal_bus, switch_on}
-use Rattle.layout.proofs.Bools.{all-found}
+use Rattle.platform.proofs.Bools.{all-found}
 use Rattle.bridge.specs.declared.route.Route.TheVariants.{Up, OwnEgress, Nobody}
 use Rattle.bridge.specs.declared.target.Target.{Target}
 use Rattle.bridge.specs.Routes.{port_to_bus, bus_table, holds, holder_on, to_holder, switch_at, route_below, route_from}

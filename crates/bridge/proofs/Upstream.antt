@@ -8,7 +8,7 @@ use Rattle.platform.specs.declared.parts.DownstreamPort.{DownstreamPort}
 use Rattle.platform.specs.declared.parts.Switch.{Switch}
 use Rattle.platform.specs.Tree.{port_at, id_below, internal_bus}
 use Rattle.layout.specs.Laws.{is_hung, is_hung_by, is_hung_below}
-use Rattle.layout.proofs.Bools.{all-found}
+use Rattle.platform.proofs.Bools.{all-found}
 use Rattle.bridge.specs.Groups.{Group, group_on, group_at, group_below, is_first_on_bus}
 use Rattle.bridge.proofs.Finding.{found-none, find-passes, find-same, find-equal, find-and}
 

@@ -27,9 +27,9 @@ use Rattle.platform.specs.declared.parts.Access.TheVariants.{Read, Write}
 use Rattle.platform.specs.declared.parts.MapTarget.{MapTarget}
 use Rattle.platform.specs.declared.parts.MapTarget.TheVariants.{Frame, Peer}
 use Rattle.platform.specs.declared.parts.DownstreamPort.{DownstreamPort}
-use Rattle.platform.specs.Owners.{first_port, is_own_function, owner_of}
+use Rattle.platform.specs.Owners.{bar_of, first_port, is_own_function, owner_of}
 use Rattle.platform.specs.Share.{Share}
-use Rattle.layout.specs.Tables.{target_of}
+use Rattle.domain_start.specs.Tables.{target_of}
 use Rattle.function.specs.declared.plan.Plan.{Plan}
 use Rattle.function.specs.declared.plan.Plan.TheVariants.{Nothing, Halt, Fault, Pass, Emit}
 use Rattle.function.specs.Accesses.{answer as page_answer}
@@ -59,7 +59,7 @@ use Rattle.request_handling.specs.AtFunctions.{is_access, lies_in, or_discarded,
 use Rattle.request_handling.specs.Requests.{at_frame_if, at_port, by_number, frame_at, request_at_host, unserved_by_host}
 use Rattle.domain.specs.Aliens.{answerer_of, at_function_with, at_host_with, is_excluded, received_if, reception_at, reception_by, reception_of, reception_unless}
 use Rattle.domain.specs.Receptions.{received}
-use Rattle.request_handling.specs.Answers.{address_of, answered_by, bar_of, function_answer, function_refusal, host_refusal}
+use Rattle.request_handling.specs.Answers.{address_of, answered_by, function_answer, function_refusal, host_refusal}
 use Rattle.request_handling.specs.AtFunctions.{access_of, discarded}
 use Rattle.request_handling.specs.Carries.{add_if, carriage_by, carriage_of, forward, frame_for, from_frame, is_carried, is_owner, port_id, read_from, refusal_by, refusal_of, refused_by_host, serve, serve_add, serve_read, to_frame, write_to}
 use Rattle.domain.specs.Deliveries.{Arrival, arrival_by, arrival_of, arriving_at, arrived, recorded, unexpected}

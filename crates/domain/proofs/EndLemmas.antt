@@ -9,9 +9,9 @@ use Rattle.platform.specs.declared.parts.Access.TheVariants.{Read, Write}
 use Rattle.platform.specs.declared.parts.MapTarget.{MapTarget}
 use Rattle.platform.specs.declared.parts.MapTarget.TheVariants.{Frame, Peer}
 use Rattle.platform.specs.declared.parts.DownstreamPort.{DownstreamPort}
-use Rattle.platform.specs.Owners.{first_port}
+use Rattle.platform.specs.Owners.{bar_of, first_port}
 use Rattle.platform.specs.Share.{Share}
-use Rattle.layout.specs.Tables.{target_of}
+use Rattle.domain_start.specs.Tables.{target_of}
 use Rattle.tlp_view.specs.Bytes.{packet_of}
 use Rattle.tlp_view.specs.Malformed.{malformed}
 use Rattle.tlp_view.specs.Packet.{Packet, dw_count, status_in}
@@ -25,7 +25,7 @@ use Rattle.domain.specs.declared.entry.Entry.TheVariants.{Carry, Deliver, Refuse
 use Rattle.request_handling.specs.declared.fate.Fate.{Fate}
 use Rattle.request_handling.specs.declared.fate.Fate.TheVariants.{Vanish, Refused, ToHost, Direct}
 use Rattle.tlp_view.specs.Kinds.{is_fetch_add}
-use Rattle.request_handling.specs.Answers.{address_of, bar_of, function_answer, host_refusal}
+use Rattle.request_handling.specs.Answers.{address_of, function_answer, host_refusal}
 use Rattle.request_handling.specs.AtFunctions.{request_at_function}
 use Rattle.domain.proofs.FunctionFits.{at_function_fits, effect_fits}
 use Rattle.request_handling.specs.Carries.{add_if, carriage_by, carriage_end, carriage_of, forward, frame_for, is_carried, port_id, read_from, refusal_by, refusal_end, refusal_of, serve, serve_add, serve_read, write_to}

@@ -6,13 +6,14 @@ use Rattle.fab_types.specs.declared.class.Class.TheVariants.{Posted, NonPosted, 
 use Rattle.function.specs.Accesses.{IsAccess}
 use Rattle.host_memory.specs.Pages.{page_of}
 use Rattle.platform.specs.Share.{Share}
+use Rattle.platform.specs.Owners.{bar_of}
 use Rattle.tlp_view.specs.Bytes.{packet_of}
 use Rattle.tlp_view.specs.Kinds.{class_of_kind}
 use Rattle.tlp_view.specs.Malformed.{malformed}
 use Rattle.request_handling.specs.declared.handling.Effect.{Effect}
 use Rattle.request_handling.specs.declared.handling.Effect.TheVariants.{Leave, Block, Store, Add, Access}
 use Rattle.request_handling.specs.declared.handling.Handling.{Handling}
-use Rattle.request_handling.specs.Answers.{address_of, bar_of, function_answer, function_refusal}
+use Rattle.request_handling.specs.Answers.{address_of, function_answer, function_refusal}
 use Rattle.request_handling.specs.AtFunctions.{access_of, is_access, lies_in, or_discarded, request_at_function, unserved}
 use Rattle.request_handling.specs.Emissions.{Emission}
 use Rattle.request_handling.proofs.WellMadeLemmas.{is_an_access}

@@ -5,12 +5,13 @@ use Rattle.fab_types.specs.declared.head.Parties.TheVariants.{Downward}
 use Rattle.frame_log.specs.Descriptor.{Descriptor}
 use Rattle.function.specs.declared.tags.OpenTag.{OpenTag}
 use Rattle.platform.specs.Share.{Share}
+use Rattle.platform.specs.Owners.{bar_of}
 use Rattle.tlp_view.specs.Packet.{Packet}
 use Rattle.tlp_view.specs.Requests.{packet_bytes}
 use Rattle.fab_types.specs.declared.host_access.HostAccess.{HostAccess}
 use Rattle.domain.specs.declared.entry.Entry.{Entry}
 use Rattle.domain.specs.declared.entry.Entry.TheVariants.{Mmio}
-use Rattle.request_handling.specs.Answers.{bar_of, page_at}
+use Rattle.request_handling.specs.Answers.{page_at}
 use Rattle.domain.specs.Domains.{DomainView, Makes}
 use Rattle.request_handling.specs.Heads.{descriptor_of}
 use Rattle.domain_parts.specs.HostAccesses.{host_emission, host_request, mmio_fault, mmio_unless, mmio_with, opened_for, tag_for}

@@ -6,9 +6,9 @@ use Rattle.fab_types.specs.declared.faults.begin.TickFault.{TickFault}
 use Rattle.function.specs.Plans.{plan_of}
 use Rattle.host_memory.specs.Pages.{page_of}
 use Rattle.platform.specs.Share.{Share}
+use Rattle.platform.specs.Owners.{bar_of}
 use Rattle.fab_types.specs.declared.host_access.HostAccess.{HostAccess}
 use Rattle.domain.specs.declared.entry.Entry.TheVariants.{Submit, Tick, Mmio}
-use Rattle.request_handling.specs.Answers.{bar_of}
 use Rattle.domain_parts.specs.HostAccesses.{mmio_fault, mmio_unless, mmio_with, tag_for}
 use Rattle.domain.specs.Machine.{change}
 use Rattle.domain_parts.specs.State.{Alone, Change}

@@ -19,7 +19,7 @@ use Rattle.function.specs.Plans.{page_after, plan_of}
 use Rattle.function.specs.Registers.{first_page}
 use Rattle.host_memory.specs.Pages.{page_of}
 use Rattle.platform.specs.declared.parts.EndpointFunction.{EndpointFunction}
-use Rattle.platform.specs.Owners.{is_function, is_own_function}
+use Rattle.platform.specs.Owners.{bar_of, is_function, is_own_function}
 use Rattle.platform.specs.Share.{Share}
 use Rattle.tlp_view.specs.Bytes.{packet_of}
 use Rattle.fab_types.specs.declared.host_access.HostAccess.{HostAccess}
@@ -31,7 +31,6 @@ use Rattle.domain.specs.declared.entry.Entry.TheVariants.{Submit, Tick, Mmio, Re
 use Rattle.domain.specs.declared.receive.Reception.{Reception}
 use Rattle.domain.specs.declared.receive.Reception.TheVariants.{Ends, Arrives}
 use Rattle.domain.specs.Aliens.{received_if, reception_of}
-use Rattle.request_handling.specs.Answers.{bar_of}
 use Rattle.request_handling.specs.Carries.{carriage_end, refusal_end}
 use Rattle.domain.specs.Deliveries.{Arrival, arrival, arrival_by, arrived, recorded, unexpected}
 use Rattle.domain_parts.specs.Closings.{completed}
@@ -195,10 +194,10 @@ absurd_page None f tags some none = cc
 absurd_page (Some page) f tags some none = cc
 
 -- so a function that the domain owns is never without one
-pub own_bar_none : (share : Share) (f : ℕ) (owns : Bool) (lines : List EndpointFunction) {r : Option ℕ} → owns ≡ is_own_function share f → owns ≡ true → lines ≡ share.functions → r ≡ bar_of lines f → r ≡ None → ⊥
-own_bar_none share f owns lines is own same found none =
+pub own_bar_none : (share : Share) (f : ℕ) (owns : Bool) {r : Option ℕ} → owns ≡ is_own_function share f → owns ≡ true → r ≡ bar_of share.functions f → r ≡ None → ⊥
+own_bar_none share f owns is own found none =
     let bar = own_bar share f (sym is ∙ own) in
-    let nothing : is_some (bar_of share.functions f) ≡ false = ap is_some (ap (λ (ls : List EndpointFunction). bar_of ls f) (sym same) ∙ sym found ∙ none) in
+    let nothing : is_some (bar_of share.functions f) ≡ false = ap is_some (sym found ∙ none) in
     cc
 
 -- nor without a page

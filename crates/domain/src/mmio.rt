@@ -3,7 +3,7 @@
 ghost use Rattle.std.specs.Prelude.{◌≡◌, IfErr, IfOk, None, OnErr, Some, true};
 ghost use Rattle.std.specs.Result.{IsOkUnless};
 ghost use Rattle.fab_types.specs.declared.faults.begin.MmioFault.{MmioFault};
-ghost use Rattle.request_handling.specs.Answers.{bar_of};
+ghost use Rattle.platform.specs.Owners.{bar_of};
 ghost use Rattle.domain_parts.specs.HostAccesses.{is_in_page, mmio_fault, size_of, tag_for};
 
 use crate::domain::Domain;
@@ -11,7 +11,6 @@ use crate::entry::Entry;
 use domain_parts::{host_request, is_in_page, opened_for, register_address, size_of, tag_for};
 use fab_types::{HostAccess, MmioFault, Parties};
 use frame_log::Frame;
-use request_handling::bar_of;
 use std::sync::Wait;
 
 impl Domain {
@@ -43,7 +42,7 @@ impl Domain {
         if self.state.counts().begins >= self.start.budget() {
             return Err(MmioFault::BudgetSpent);
         }
-        let Some(bar) = bar_of(self.start.functions(), access.function) else {
+        let Some(bar) = self.start.bar_of(access.function) else {
             unreachable!();
         };
         Ok((tag, bar))

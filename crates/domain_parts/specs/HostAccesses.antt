@@ -10,7 +10,7 @@ use Rattle.fab_types.specs.declared.head.Parties.TheVariants.{Downward}
 use Rattle.fab_types.specs.declared.origin.Origin.TheVariants.{Host}
 use Rattle.function.specs.declared.tags.OpenTag.{OpenTag}
 use Rattle.function.specs.declared.tags.TagUse.TheVariants.{Raw}
-use Rattle.platform.specs.Owners.{is_own_function}
+use Rattle.platform.specs.Owners.{bar_of, is_own_function}
 use Rattle.platform.specs.Share.{Share}
 use Rattle.tlp_view.specs.declared.request.RequestHead.{RequestHead}
 use Rattle.tlp_view.specs.Packet.{Packet}
@@ -18,7 +18,7 @@ use Rattle.tlp_view.specs.Requests.{all_enabled, packet_bytes, read_request, wri
 use Rattle.fab_types.specs.declared.host_access.HostAccess.{HostAccess}
 use Rattle.fab_types.specs.declared.host_access.Operation.{Operation}
 use Rattle.fab_types.specs.declared.host_access.Operation.TheVariants.{Read, Write}
-use Rattle.request_handling.specs.Answers.{bar_of, page_at}
+use Rattle.request_handling.specs.Answers.{page_at}
 use Rattle.request_handling.specs.Emissions.{Emission}
 use Rattle.domain_parts.specs.State.{Alone, Change, begun, emits}
 use Rattle.domain_parts.specs.Tags.{is_open}

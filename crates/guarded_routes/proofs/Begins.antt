@@ -25,7 +25,7 @@ use Rattle.host_memory.specs.Pages.{page_of}
 use Rattle.platform.specs.declared.parts.EndpointFunction.{EndpointFunction}
 use Rattle.platform.specs.declared.parts.DownstreamPort.{DownstreamPort}
 use Rattle.layout.specs.Laws.{ends_low}
-use Rattle.platform.specs.Owners.{first_port, holds_bus, is_own_function}
+use Rattle.platform.specs.Owners.{bar_of, first_port, holds_bus, is_own_function}
 use Rattle.platform.specs.Platform.{Platform}
 use Rattle.platform.specs.Share.{Share}
 use Rattle.layout.specs.Views.{share_of_domain}
@@ -40,7 +40,7 @@ use Rattle.fab_types.specs.declared.host_access.HostAccess.{HostAccess}
 use Rattle.fab_types.specs.declared.host_access.Operation.{Operation as Access}
 use Rattle.fab_types.specs.declared.host_access.Operation.TheVariants as access
 use Rattle.domain.specs.declared.entry.Entry.TheVariants.{Submit, Tick, Mmio}
-use Rattle.request_handling.specs.Answers.{bar_of, page_at}
+use Rattle.request_handling.specs.Answers.{page_at}
 use Rattle.request_handling.specs.Heads.{descriptor_of, header_unless, packet_header}
 use Rattle.domain_parts.specs.HostAccesses.{host_emission, host_request, is_in_page, mmio_fault, mmio_unless, mmio_with, size_of, tag_for}
 use Rattle.domain.specs.Machine.{change}

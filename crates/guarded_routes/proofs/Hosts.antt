@@ -18,10 +18,10 @@ use Rattle.platform.specs.declared.parts.EndpointFunction.{EndpointFunction}
 use Rattle.platform.specs.declared.parts.MapTarget.{MapTarget}
 use Rattle.platform.specs.declared.parts.MapTarget.TheVariants.{Frame, Peer}
 use Rattle.platform.specs.Egress.{direct_to}
-use Rattle.platform.specs.Owners.{owner_of, is_function}
+use Rattle.platform.specs.Owners.{bar_of, owner_of, is_function}
 use Rattle.platform.specs.Platform.{Platform}
 use Rattle.platform.specs.Share.{Share}
-use Rattle.layout.specs.Tables.{target_of}
+use Rattle.domain_start.specs.Tables.{target_of}
 use Rattle.layout.specs.Views.{share_of_domain}
 use Rattle.tlp_view.specs.Bytes.{packet_of}
 use Rattle.tlp_view.specs.Packet.{Packet, dw_count, status_in}
@@ -29,7 +29,7 @@ use Rattle.tlp_view.specs.Runs.{is_write}
 use Rattle.domain.specs.declared.entry.Entry.TheVariants.{Carry, Deliver}
 use Rattle.request_handling.specs.declared.handling.Handling.{Handling}
 use Rattle.tlp_view.specs.Kinds.{is_fetch_add}
-use Rattle.request_handling.specs.Answers.{address_of, bar_of}
+use Rattle.request_handling.specs.Answers.{address_of}
 use Rattle.request_handling.specs.AtFunctions.{request_at_function}
 use Rattle.request_handling.specs.Carries.{carriage_by, carriage_of, forward, is_carried, is_owner, read_from, refused_by_host, serve, serve_add, serve_read, write_to}
 use Rattle.domain.specs.Deliveries.{arrival_at, arrival_of}

@@ -22,11 +22,11 @@ use Rattle.host_memory.specs.Pages.{page_of}
 use Rattle.platform.specs.declared.parts.Access.TheVariants.{Read, Write}
 use Rattle.platform.specs.declared.parts.MapTarget.{MapTarget}
 use Rattle.platform.specs.declared.parts.MapTarget.TheVariants.{Frame, Peer}
-use Rattle.platform.specs.Owners.{first_port, holds_bus, is_function}
+use Rattle.platform.specs.Owners.{bar_of, first_port, holds_bus, is_function}
 use Rattle.platform.specs.Platform.{Platform}
-use Rattle.layout.specs.Reach.{reach}
+use Rattle.domain_start.specs.Reach.{reach}
 use Rattle.platform.specs.Share.{Share}
-use Rattle.layout.specs.Tables.{target_of as mapped_to}
+use Rattle.domain_start.specs.Tables.{target_of as mapped_to}
 use Rattle.layout.specs.Views.{share_of_domain}
 use Rattle.tlp_view.specs.Bytes.{address_at, enables_at, packet_of}
 use Rattle.tlp_view.specs.Completions.{atomic_completion, completion_bytes, read_completion, refusal}
@@ -36,7 +36,7 @@ use Rattle.tlp_view.specs.Packet.{Body, Memory, Packet, dw_count}
 use Rattle.tlp_view.specs.Requests.{is_high, moved, moved_body, packet_bytes}
 use Rattle.tlp_view.specs.Runs.{is_write}
 use Rattle.tlp_view.proofs.Again.{body_memory}
-use Rattle.request_handling.specs.Answers.{address_of, answered_by, bar_of, forwarded, function_answer, function_refusal, host_data, host_operand, host_refusal, page_at, port_answer, shown}
+use Rattle.request_handling.specs.Answers.{address_of, answered_by, forwarded, function_answer, function_refusal, host_data, host_operand, host_refusal, page_at, port_answer, shown}
 use Rattle.request_handling.specs.AtFunctions.{access_of, is_access, lies_in, or_discarded, request_at_function, unserved}
 use Rattle.request_handling.specs.declared.handling.Handling.{Handling}
 use Rattle.request_handling.specs.Carries.{add_if, carriage_of, forward, port_id, read_from, refusal_by, refusal_of, refused_by_host, serve, serve_add, serve_read, write_to}

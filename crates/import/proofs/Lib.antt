@@ -1,10 +1,5 @@
 pub mod PageSteps
 pub mod FreeSteps
-pub mod Grown
-pub mod Added
-pub mod Hex
-pub mod Begins
-pub mod Joined
 pub mod Naming
 pub mod Printed
 pub mod PartByPart

@@ -9,7 +9,7 @@ use Rattle.std.proofs.lemmas.List.Folds.{list_all-append}
 use Rattle.fab_types.specs.Id.{bus_of, device_of, function_of}
 use Rattle.fab_types.specs.Texts.{byte_text, id_text}
 use Rattle.lspci.specs.declared.lines.Location.{Location}
-use Rattle.import.specs.Comments.{IsPrintable, is_printable}
+use Rattle.layout_draft.specs.Comments.{IsPrintable, is_printable}
 use Rattle.import.specs.Names.{location_text}
 
 pub joined : (front back : List ℕ) → IsPrintable front → IsPrintable back → IsPrintable (front ++ back)

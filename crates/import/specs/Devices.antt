@@ -14,7 +14,7 @@ use Rattle.import.specs.declared.fault.Reason.TheVariants as reason
 use Rattle.import.specs.declared.owners.Owner.{Owner}
 use Rattle.import.specs.declared.tree.Tree.{Tree}
 use Rattle.import.specs.DeviceViews.{Imported}
-use Rattle.import.specs.Drafts.{start, start_text, unless_faulty, with_line}
+use Rattle.layout_draft.specs.Drafts.{start, start_text, unless_faulty, with_line}
 use Rattle.import.specs.Names.{name_of}
 use Rattle.import.specs.Roles.{has_further_controls, has_further_window}
 use Rattle.import.specs.Statements.{statement_of}

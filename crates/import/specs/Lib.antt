@@ -4,15 +4,10 @@ pub mod Owners
 pub mod Trees
 pub mod Domains
 pub mod Statements
-pub mod Stated
-pub mod Fields
 pub mod Refusals
-pub mod Comments
 pub mod Reasons
 pub mod NameViews
 pub mod Names
-pub mod DraftViews
-pub mod Drafts
 pub mod DeviceViews
 pub mod Devices
 pub mod Told

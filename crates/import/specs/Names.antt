@@ -7,7 +7,7 @@ use Rattle.lspci.specs.declared.acs.Acs.{Acs}
 use Rattle.lspci.specs.declared.acs.Acs.TheVariants.{Absent, Unknown, Standard, Wide}
 use Rattle.lspci.specs.declared.lines.Location.{Location}
 use Rattle.text.specs.Text.{pieces}
-use Rattle.import.specs.Comments.{is_printable}
+use Rattle.layout_draft.specs.Comments.{is_printable}
 
 -- the line of this number, counted from 1
 abbrev pub line_at : List ℕ → ℕ → Option (List ℕ)

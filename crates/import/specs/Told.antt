@@ -6,10 +6,10 @@ use Rattle.lspci.specs.declared.dump.Device.{Device}
 use Rattle.lspci.specs.Acs.{acs_of}
 use Rattle.lspci.specs.Dumps.{DumpText}
 use Rattle.import.specs.declared.fault.LeftOut.{LeftOut}
-use Rattle.import.specs.Comments.{IsPrintable}
+use Rattle.layout_draft.specs.Comments.{IsPrintable}
 use Rattle.import.specs.DeviceViews.{Imported}
-use Rattle.import.specs.DraftViews.{Written}
-use Rattle.import.specs.Drafts.{noted}
+use Rattle.layout_draft.specs.DraftViews.{Written}
+use Rattle.layout_draft.specs.Drafts.{noted}
 use Rattle.import.specs.Names.{name_of, remark_of}
 use Rattle.import.specs.Reasons.{AreWordsOf}
 use Rattle.import.specs.Trees.{space_of}

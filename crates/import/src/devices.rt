@@ -2,10 +2,9 @@
 
 ghost use Rattle.std.specs.Prelude.{◌≡◌, ◌≤◌, IfOk};
 ghost use Rattle.import.specs.Devices.{first_map, leaving_out, no_devices, with_device, with_extras, with_map, with_more, with_statement};
-ghost use Rattle.import.specs.Stated.{IsStated};
+ghost use Rattle.layout_draft.specs.Stated.{IsStated};
 ghost use Rattle.import.specs.Told.{IsTold};
 
-use crate::draft::Draft;
 use crate::fault::{LeftOut, Reason};
 use crate::names::Names;
 use crate::owners::Owner;
@@ -14,6 +13,7 @@ use crate::statements::statement_of;
 use crate::telling::{tell_device, tell_left_out};
 use crate::tree::Tree;
 use fab_types::NoMemory;
+use layout_draft::Draft;
 use layout_line::{FunctionText, LayoutLine, MapText, RightsText, TargetText};
 use lspci::{Device, Dump};
 use std::alloc::Global;

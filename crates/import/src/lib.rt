@@ -4,10 +4,8 @@
 mod comments;
 mod devices;
 mod domains;
-mod draft;
 mod fault;
 mod imports;
-mod line;
 mod names;
 mod owners;
 mod pages;

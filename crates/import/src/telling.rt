@@ -2,15 +2,15 @@
 
 ghost use Rattle.std.specs.Prelude.{◌≡◌, IfOk};
 ghost use Rattle.lspci.specs.Acs.{acs_of};
-ghost use Rattle.import.specs.Comments.{IsPrintable};
+ghost use Rattle.layout_draft.specs.Comments.{IsPrintable};
 ghost use Rattle.import.specs.Told.{IsToldOf, TellEach, with_name, with_remark};
 ghost use Rattle.import.specs.Names.{remark_of};
 
 use crate::comments::words_of;
-use crate::draft::Draft;
 use crate::fault::LeftOut;
 use crate::names::{Names, remark_on};
 use fab_types::NoMemory;
+use layout_draft::Draft;
 use layout_line::LayoutLine;
 use lspci::{ConfigSpace, Device, Dump};
 use std::alloc::Global;

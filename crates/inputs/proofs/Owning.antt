@@ -8,7 +8,7 @@ use Rattle.platform.specs.Platform.{Platform}
 use Rattle.layout.specs.Laws.{IsPlatform, has_domain}
 use Rattle.layout.specs.Rules.{is_within}
 use Rattle.layout.specs.Views.{share_of_owner}
-use Rattle.layout.proofs.Bools.{and-first, and-second}
+use Rattle.platform.proofs.Bools.{and-first, and-second}
 use Rattle.journal_text.specs.Legible.{IsDomain}
 
 is_domain : (number : ℕ) → is_within 1 31 number ≡ true → IsDomain number

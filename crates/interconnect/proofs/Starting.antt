@@ -12,7 +12,7 @@ use Rattle.platform.specs.Platform.{Platform}
 use Rattle.layout.specs.Rules.{is_within}
 use Rattle.platform.specs.Tree.{is_taken}
 use Rattle.layout.specs.Views.{credits_of, limits_or_usual}
-use Rattle.layout.proofs.Bools.{all-found, and-first, and-second}
+use Rattle.platform.proofs.Bools.{all-found, and-first, and-second}
 use Rattle.interconnect.specs.Starts.{AreFew, counters_of}
 
 pub few_may_start : (limits : CreditLimits) → AreFew limits → MayStart (counters_of limits)

@@ -11,7 +11,8 @@ use Rattle.platform.specs.Tree.{id_below, is_switch, is_taken, port_leading_to, 
 use Rattle.platform.specs.Owners.{is_function}
 use Rattle.platform.specs.Tree.{is_on_bus}
 use Rattle.layout.specs.Laws.{is_nested, is_used, AreAlone}
-use Rattle.layout.proofs.Bools.{any-stays, any-last, all-weaker, some-weaker, count-more, or-weaker, or-here, or-last}
+use Rattle.platform.proofs.Bools.{all-weaker}
+use Rattle.layout.proofs.Bools.{any-stays, any-last, some-weaker, count-more, or-weaker, or-here, or-last}
 use Rattle.layout.proofs.Counts.{all-counted, sum-most, count-weaker, count-grows}
 use Rattle.layout.proofs.Nesting.{nested-some}
 

@@ -3,7 +3,7 @@ use Rattle.std.proofs.Common.{◌≡◌, ℕ, ◌+◌, ◌*◌, ◌≤◌, ◌<�
 use Rattle.std.specs.Prelude.{count_by, is_some}
 use Rattle.std.specs.List.{list_all, find, sum_by}
 use Rattle.std.proofs.lemmas.List.Sums.{sum_by-cons}
-use Rattle.layout.proofs.Bools.{and-first, and-second}
+use Rattle.platform.proofs.Bools.{and-first, and-second}
 
 count-first : {X : Type 0} (p : X → Bool) (x : X) (xs : List X) → count_by p (x ∷ xs) ≡ cond (p x) 1 0 + count_by p xs
 count-first p x xs = sum_by-cons (λ x. cond (p x) 1 0) x xs

@@ -9,7 +9,7 @@ use Rattle.platform.specs.declared.parts.Mapping.{Mapping}
 use Rattle.platform.specs.Tree.{domain_of}
 use Rattle.layout.specs.Rules.{is_mapping_of, is_foreign_frame}
 use Rattle.layout.specs.Laws.{each_pair, is_own_frame, share_no_frame}
-use Rattle.layout.proofs.Bools.{and-first, and-second}
+use Rattle.platform.proofs.Bools.{and-first, and-second}
 
 -- is the first mapping that was found of another domain?
 abbrev pub is_foreign_line : List DownstreamPort → ℕ → Option Mapping → Bool

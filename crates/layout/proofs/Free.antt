@@ -8,7 +8,8 @@ use Rattle.platform.specs.declared.parts.EndpointFunction.{EndpointFunction}
 use Rattle.platform.specs.Owners.{is_function}
 use Rattle.platform.specs.Tree.{is_switch, is_taken}
 use Rattle.layout.specs.Laws.{is_no_switch}
-use Rattle.layout.proofs.Bools.{or-first, or-second, not-true, true-not, all-not, any-not_last, all-weaker-among}
+use Rattle.platform.proofs.Bools.{or-first, or-second}
+use Rattle.layout.proofs.Bools.{not-true, true-not, all-not, any-not_last, all-weaker-among}
 
 -- a function where nothing stood
 pub free-function : (switches : List Switch) (functions : List EndpointFunction) (function : EndpointFunction) → is_taken switches functions function.id ≡ false → is_no_switch switches function ≡ true

@@ -31,7 +31,8 @@ use Rattle.layout.proofs.MapsOnce.{once-more}
 use Rattle.layout.proofs.Vectors.{vectors-more, vectors-new, no-vectors, vectors-given}
 use Rattle.layout.proofs.Given.{all-given, count-map, home-given, hung-given, levels-given, nested-given, pair-mapped, placed-given, unshared-given}
 use Rattle.layout.proofs.NoFault.{none-first, none-rest, three-none, four-none}
-use Rattle.layout.proofs.Bools.{and-second, and-both, or-first, or-second, not-false, all-more, all-weaker, all-weaker-among, all-found, all-none, pair-more, pair-weaker, count-kept}
+use Rattle.platform.proofs.Bools.{and-second, and-both, or-first, or-second, all-weaker, all-found}
+use Rattle.layout.proofs.Bools.{not-false, all-more, all-weaker-among, all-none, pair-more, pair-weaker, count-kept}
 
 room : (requester : ℕ) (maps : List Mapping) (map : MapText) → has_full_table maps map.requester ≡ false → is_of_requester requester (map_line map) ≡ true → count_by (is_of_requester requester) maps < 64
 unfolding has_full_table

@@ -7,7 +7,8 @@ use Rattle.platform.specs.declared.parts.Switch.{Switch}
 use Rattle.platform.specs.declared.parts.DownstreamPort.{DownstreamPort}
 use Rattle.platform.specs.Tree.{port_at, port_above, switch_on, port_above_bus, is_third_level}
 use Rattle.layout.specs.Laws.{is_nested, is_hung, is_level, is_level_below}
-use Rattle.layout.proofs.Bools.{all-found, find-stays}
+use Rattle.platform.proofs.Bools.{all-found}
+use Rattle.layout.proofs.Bools.{find-stays}
 use Rattle.layout.proofs.Nesting.{above-stays, nested-some}
 
 above-on-stays : (ports more : List DownstreamPort) (on : Option Switch) → ((switch : Switch) → on ≡ Some switch → is_hung ports switch ≡ true)

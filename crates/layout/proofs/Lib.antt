@@ -12,8 +12,6 @@ pub mod Alone
 pub mod Free
 pub mod MapsOnce
 pub mod Keeping
-pub mod Noted
 pub mod Places
 pub mod Ranges
 pub mod Reached
-pub mod Led

@@ -7,8 +7,9 @@ use Rattle.platform.specs.declared.parts.Mapping.{Mapping}
 use Rattle.layout_line.specs.declared.lines.MapText.{MapText}
 use Rattle.layout.specs.Rules.{is_mapped, is_of_requester}
 use Rattle.layout.specs.Additions.{map_line}
-use Rattle.layout.specs.Tables.{MapsOnce}
-use Rattle.layout.proofs.Bools.{and-both, none-at}
+use Rattle.domain_start.specs.Tables.{MapsOnce}
+use Rattle.platform.proofs.Bools.{and-both}
+use Rattle.layout.proofs.Bools.{none-at}
 
 -- a page that is not mapped is the page of no line
 unmapped : (maps : List Mapping) (requester page : ℕ) → is_mapped maps requester page ≡ false → (k : ℕ) (d : Mapping) → k < length maps → (get_or maps k d).requester ≡ requester → (get_or maps k d).page ≡ page → ⊥

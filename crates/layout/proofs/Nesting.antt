@@ -14,7 +14,8 @@ use Rattle.layout.specs.Rules.{port_fault_below, has_bad_fields, buses_meet, win
 use Rattle.platform.specs.Tree.{is_on_bus}
 use Rattle.layout.specs.Additions.{port_line}
 use Rattle.layout.specs.Laws.{is_inside, is_nested_on, is_nested, is_hung_below, is_hung_by, is_hung, is_placed_below, is_placed, are_apart}
-use Rattle.layout.proofs.Bools.{and-first, and-second, and-both, or-first, or-second, not-false, all-not, all-and, any-missing, find-stays, some-weaker, all-found}
+use Rattle.platform.proofs.Bools.{and-first, and-second, and-both, or-first, or-second, all-found}
+use Rattle.layout.proofs.Bools.{not-false, all-not, all-and, any-missing, find-stays, some-weaker}
 use Rattle.layout.proofs.NoFault.{good-port}
 
 pub le-test : (a b : ℕ) → nat_lt b a ≡ false → nat_le a b ≡ true

@@ -7,7 +7,7 @@ use Rattle.platform.specs.declared.parts.DownstreamPort.{DownstreamPort}
 use Rattle.layout_line.specs.declared.lines.PortText.{PortText}
 use Rattle.platform.specs.declared.parts.LayoutVersion.{LayoutVersion}
 use Rattle.fab_types.specs.Id.{bus_of}
-use Rattle.layout.proofs.Bools.{or-first, or-second}
+use Rattle.platform.proofs.Bools.{or-first, or-second}
 use Rattle.layout.specs.Rules.{port_fault_below, has_bad_fields, has_vectors, last_controls, is_past_port_limits, buses_meet, buses_are_outside, windows_meet, window_is_outside, owner_differs}
 
 pub none-first : (b : Bool) (refusal : LayoutCause) (rest : Option LayoutCause) → None ≡ cond b (Some refusal) rest → b ≡ false

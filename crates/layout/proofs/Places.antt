@@ -17,7 +17,8 @@ use Rattle.layout.specs.Places.{IsWellPlaced, have_other_ids, are_other_function
 use Rattle.layout.proofs.Nesting.{nested-some}
 use Rattle.layout.proofs.Keeping.{no-switches}
 use Rattle.layout.proofs.NoFault.{none-first}
-use Rattle.layout.proofs.Bools.{or-first, or-second, all-not, all-none, all-found, pair-more}
+use Rattle.platform.proofs.Bools.{or-first, or-second, all-found}
+use Rattle.layout.proofs.Bools.{all-not, all-none, pair-more}
 
 -- where nothing stood, no switch and no function has the ID
 other-switches : (switches : List Switch) (functions : List EndpointFunction) (switch : Switch) → is_taken switches functions switch.id ≡ false → list_all (λ one. have_other_ids one switch) switches ≡ true

@@ -13,7 +13,8 @@ use Rattle.platform.specs.Tree.{domain_of}
 use Rattle.layout.specs.Rules.{is_mapping_of, is_foreign, is_foreign_frame, is_known_target, is_past_frames}
 use Rattle.layout.specs.Additions.{target_of_text}
 use Rattle.layout.specs.Laws.{is_placed, is_known, is_known_map, is_home_target, is_home_map, is_own_frame, share_no_frame}
-use Rattle.layout.proofs.Bools.{and-first, and-second, and-both, not-false, all-not, any-stays}
+use Rattle.platform.proofs.Bools.{and-first, and-second, and-both}
+use Rattle.layout.proofs.Bools.{not-false, all-not, any-stays}
 use Rattle.layout.proofs.Nesting.{domain-stays, lt-test}
 
 home-target-stays : (ports more : List DownstreamPort) (functions : List EndpointFunction) (frames domain other : ℕ) (t : MapTarget) → list_all (is_placed ports) functions ≡ true → is_known functions frames t ≡ true → other ≡ domain → is_home_target ports domain t ≡ true → is_home_target (ports ++ more) other t ≡ true

@@ -20,7 +20,8 @@ use Rattle.platform.specs.Tree.{id_below, is_on_bus}
 use Rattle.layout.specs.Additions.{port_line, with_vector}
 use Rattle.layout.specs.Laws.{keeps_home}
 use Rattle.layout.specs.Rules.{has_foreign_bit, has_vectors, is_let_abroad, lets_abroad, port_fault_below}
-use Rattle.layout.proofs.Bools.{all-more, all-not, all-weaker, all-weaker-among, any-not_last, any-stays, not-true, or-first, or-second, true-not}
+use Rattle.platform.proofs.Bools.{all-weaker, or-first, or-second}
+use Rattle.layout.proofs.Bools.{all-more, all-not, all-weaker-among, any-not_last, any-stays, not-true, true-not}
 use Rattle.layout.proofs.NoFault.{good-port}
 
 neither : (b c rest : Bool) → (b ≡ true → c ≡ true) → c ≡ false → rest ≡ false → (b || rest) ≡ false

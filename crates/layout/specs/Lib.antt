@@ -5,9 +5,4 @@ pub mod Views
 pub mod Laws
 pub mod Places
 pub mod Layouts
-pub mod Reach
-pub mod Buses
-pub mod Tables
-pub mod Starts
-pub mod First
 pub use Rattle.layout_line.specs.LayoutLines

@@ -1,15 +1,11 @@
-//! The lines of a platform layout, who owns what, and what a domain starts from.
+//! The lines of a platform layout, and what it gives each domain.
 #![tactic(auto)]
 
 mod additions;
-mod buses;
 mod layout;
-mod owners;
-mod reach;
 mod read;
 mod rules;
-mod start;
 mod views;
 
+pub use domain_start::Start;
 pub use layout::Layout;
-pub use start::Start;

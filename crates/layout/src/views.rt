@@ -11,11 +11,11 @@ ghost use Rattle.layout.specs.Views.{usual_limits, limits_or_usual, credits_of, 
 
 use crate::layout::Layout;
 use crate::rules::mappings::is_mapping_of;
-use crate::start::Start;
+use domain_start::{Grant, Start};
 use fab_types::{Bdf, DomainId, NoMemory};
 use platform::{
-    BudgetLine, CreditLimits, CreditLine, DownstreamPort, Mapping, domain_of, is_taken, owner_of,
-    owns_port, port_with_secondary,
+    BudgetLine, CreditLimits, CreditLine, DownstreamPort, Mapping, are_guarded, domain_of,
+    is_taken, owner_of, owns_port, port_with_secondary,
 };
 use std::alloc::Global;
 
@@ -93,24 +93,6 @@ fn rising_frames_of(alloc: Global, frames: u16, maps: &[Mapping]) -> Result<Vec<
     Ok(numbers)
 }
 
-fn is_guarded_port(port: &DownstreamPort) -> bool
-    ensures { result ≡ is_guarded_port port.now }
-{
-    let controls = port.controls;
-    controls.validates_source()
-        && controls.blocks_translated()
-        && controls.redirects_requests()
-        && controls.redirects_completions()
-        && controls.forwards_upstream()
-}
-
-/// Are all five controls set on each port?
-pub(crate) fn are_guarded(ports: &[DownstreamPort]) -> bool
-    ensures { result ≡ list_all is_guarded_port ports.now }
-{
-    ports.iter().all(|port| is_guarded_port(port))
-}
-
 impl Layout {
     /// Are all five ACS controls set on each downstream port?
     pub fn is_guarded(&self) -> bool
@@ -171,8 +153,19 @@ impl Layout {
         }
         let maps = self.maps_of(alloc, domain)?;
         let frames = rising_frames_of(alloc, self.frames(), &maps)?;
-        let budget = self.budget(domain);
-        Ok(Some(Start::of(alloc, self, domain, budget, frames, maps)?))
+        let grant = Grant {
+            budget: self.budget(domain),
+            frames,
+            maps,
+        };
+        Ok(Some(Start::of(
+            alloc,
+            domain,
+            grant,
+            self.switches(),
+            self.ports(),
+            self.functions(),
+        )?))
     }
 
     /// How many begins a domain has: what its `budget` line says, or 256 without one.

@@ -6,7 +6,7 @@ use Rattle.std.proofs.lemmas.List.Sums.{sum_by-append}
 use Rattle.std.proofs.lemmas.List.{get_or_append_left}
 use Rattle.std.proofs.Math.Seq.{get_or-append_seam}
 use Rattle.layout.specs.Laws.{each_pair}
-use Rattle.layout.proofs.Bools.{and-first, and-second, and-both}
+use Rattle.platform.proofs.Bools.{and-first, and-second, and-both}
 
 any-not-here : (a b : Bool) → a ≡ false → b ≡ false → (a || b) ≡ false
 any-not-here true b h k = absurd cc

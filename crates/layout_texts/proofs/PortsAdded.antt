@@ -21,7 +21,7 @@ use Rattle.layout_texts.proofs.Lists.{all-at, any-map, count-room, none-found, n
 use Rattle.layout_texts.proofs.Prefixes.{above-same, hang-more, hangs_from, on-same}
 use Rattle.layout_texts.proofs.Rules.{IsPortRow, above-most, apart-parts, no-not, not-less, not-most, or-no, port-row, skip}
 use Rattle.layout_texts.proofs.Stripped.{above-stripped, at-stripped, no-vectors, stage, stripped}
-use Rattle.layout.proofs.Bools.{all-found}
+use Rattle.platform.proofs.Bools.{all-found}
 
 abbrev pub tree : Platform → List Switch → List DownstreamPort → Platform
 tree p switches ports = stage p switches (map stripped ports) [] [] [] []

@@ -6,7 +6,8 @@ use Rattle.fab_types.specs.Id.{bus_of}
 use Rattle.platform.specs.declared.parts.Switch.{Switch}
 use Rattle.platform.specs.declared.parts.DownstreamPort.{DownstreamPort}
 use Rattle.platform.specs.Tree.{is_third_level, port_above, port_above_bus, port_at, switch_on}
-use Rattle.layout.proofs.Bools.{all-weaker, find-stays}
+use Rattle.platform.proofs.Bools.{all-weaker}
+use Rattle.layout.proofs.Bools.{find-stays}
 use Rattle.layout_texts.proofs.Lists.{find-front}
 
 abbrev pub hangs_by : List DownstreamPort → Option ℕ → Bool

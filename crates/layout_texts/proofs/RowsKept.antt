@@ -25,7 +25,8 @@ use Rattle.layout_line.specs.declared.lines.PortText.{PortText}
 use Rattle.layout.specs.Additions.{budget_line, credit_line, map_line, port_line, with_vector}
 use Rattle.layout.specs.Laws.{IsPlatform, are_apart, each_pair, is_hung, is_hung_below, is_hung_by, is_nested}
 use Rattle.layout.specs.Rules.{budget_fault, buses_are_outside, buses_meet, credit_fault, egress_fault, has_bad_fields, has_vectors, is_past_port_limits, owner_differs, window_is_outside, windows_meet, is_first_version, last_controls, port_fault, port_fault_below, port_fault_on, takes_vector}
-use Rattle.layout.proofs.Bools.{all-more, all-not, all-weaker, any-stays, not-false, or-first, or-second, or-weaker, pair-more}
+use Rattle.platform.proofs.Bools.{all-weaker, or-first, or-second}
+use Rattle.layout.proofs.Bools.{all-more, all-not, any-stays, not-false, or-weaker, pair-more}
 use Rattle.layout.proofs.Nesting.{nested-some}
 use Rattle.layout.proofs.NoFault.{good-port, none-first, none-rest}
 use Rattle.line_texts.specs.Ranges.{IsMapLine, IsPortLine}

@@ -11,7 +11,8 @@ use Rattle.platform.specs.Platform.{Platform}
 use Rattle.platform.specs.Tree.{port_at, switch_on}
 use Rattle.layout.specs.Laws.{IsPlatform, is_hung, is_hung_below, is_hung_by, is_nested}
 use Rattle.layout.specs.Places.{IsWellPlaced}
-use Rattle.layout.proofs.Bools.{all-more, all-weaker}
+use Rattle.platform.proofs.Bools.{all-weaker}
+use Rattle.layout.proofs.Bools.{all-more}
 use Rattle.layout.proofs.Nesting.{nested-some}
 use Rattle.layout_texts.specs.HasLines.{HasLines, is_port_of}
 use Rattle.layout_texts.specs.PlatformLines.{parts_or, port_says, ports_before, split_behind, switch_says, tree_lines}

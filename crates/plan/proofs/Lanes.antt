@@ -7,7 +7,7 @@ use Rattle.std.proofs.lemmas.List.Sums.{list_all-from_AllPass}
 use Rattle.fab_types.specs.Id.{bus_of}
 use Rattle.layout.specs.Laws.{IsPlatform, are_apart, each_pair}
 use Rattle.layout.specs.Places.{IsWellPlaced, have_other_ids}
-use Rattle.layout.proofs.Bools.{and-both, and-first}
+use Rattle.platform.proofs.Bools.{and-both, and-first}
 use Rattle.platform.specs.declared.parts.DownstreamPort.{DownstreamPort}
 use Rattle.platform.specs.declared.parts.Switch.{Switch}
 use Rattle.platform.specs.Platform.{Platform}

@@ -5,7 +5,7 @@ use Rattle.std.specs.List.{flat_map, list_all}
 use Rattle.std.proofs.lemmas.List.{append-nil}
 use Rattle.std.proofs.lemmas.List.Elements.{filter-append}
 use Rattle.layout.specs.Laws.{each_pair}
-use Rattle.layout.proofs.Bools.{and-first, and-second}
+use Rattle.platform.proofs.Bools.{and-first, and-second}
 use Rattle.topology.proofs.Members.{cases_contained, here, later, nothing_contained, passes}
 
 pub both_tests : (b : Bool) → b ≡ true → not b ≡ true → ⊥

@@ -4,7 +4,7 @@ use Rattle.std.specs.Prelude.{Contains}
 use Rattle.std.proofs.lemmas.List.{get_or_append_left, length-append, length-map}
 use Rattle.layout.specs.Laws.{IsPlatform, are_apart, each_pair}
 use Rattle.layout.specs.Places.{IsWellPlaced, have_other_ids}
-use Rattle.layout.proofs.Bools.{and-first}
+use Rattle.platform.proofs.Bools.{and-first}
 use Rattle.platform.specs.declared.parts.DownstreamPort.{DownstreamPort}
 use Rattle.platform.specs.declared.parts.Switch.{Switch}
 use Rattle.platform.specs.Platform.{Platform}

@@ -39,6 +39,10 @@ owner_of ports id = owner_of_parts ports (bus_of id) (device_of id) (function_of
 abbrev pub is_function : List EndpointFunction → ℕ → Bool
 is_function functions id = list_any (λ line. line.id == id) functions
 
+-- the BAR of a function (PCIe 4.0, 7.5.1.2.1)
+abbrev pub bar_of : List EndpointFunction → ℕ → Option ℕ
+bar_of functions id = option_map (λ line. line.bar) (find (λ line. line.id == id) functions)
+
 -- is it a function of this domain?
 abbrev pub is_own_function : Share → ℕ → Bool
 is_own_function share id = is_function share.functions id && list_any (λ port. (port.owner == share.domain) && (port.secondary == bus_of id)) share.ports

@@ -3,12 +3,14 @@
 #![tactic(auto)]
 
 mod egress;
+mod guarded;
 mod owners;
 mod parts;
 mod tree;
 
 pub use egress::{direct_to, goes_directly, holder_beside};
-pub use owners::{is_function, owner_of, owner_of_bus, owns_port, port_with_secondary};
+pub use guarded::are_guarded;
+pub use owners::{bar_of, is_function, owner_of, owner_of_bus, owns_port, port_with_secondary};
 pub use parts::{
     Access, BudgetLine, CreditLimits, CreditLine, DownstreamPort, EndpointFunction, LayoutVersion,
     MapTarget, Mapping, Rights, Switch,

@@ -3,7 +3,7 @@
 ghost use Rattle.std.specs.Prelude.{◌≡◌, ◌==◌, ◌&&◌, option_map};
 ghost use Rattle.std.specs.List.{find, list_any};
 ghost use Rattle.std.specs.Option.{option_copied};
-ghost use Rattle.platform.specs.Owners.{first_port, holds_address, holds_bus, is_function, is_own_function, owner_of, owner_of_bus, owner_of_parts, owns_port};
+ghost use Rattle.platform.specs.Owners.{bar_of, first_port, holds_address, holds_bus, is_function, is_own_function, owner_of, owner_of_bus, owner_of_parts, owns_port};
 
 use crate::parts::{DownstreamPort, EndpointFunction};
 use fab_types::{Bdf, DomainId};
@@ -47,6 +47,16 @@ pub fn is_function(functions: &[EndpointFunction], id: Bdf) -> bool
     ensures { result ≡ is_function functions.now id }
 {
     functions.iter().any(|line| line.id == id)
+}
+
+/// The BAR of the function of this ID, if it is one of these (PCIe 4.0, 7.5.1.2.1).
+pub fn bar_of(functions: &[EndpointFunction], id: Bdf) -> Option<u32>
+    ensures { result ≡ bar_of functions.now id }
+{
+    functions
+        .iter()
+        .find(|line| line.id == id)
+        .map(|line| line.bar)
 }
 
 /// Does the domain own one of these ports?

@@ -1,7 +1,6 @@
 -- The completions by which ports and the host answer (PCIe 4.0, 2.2.9 and 2.3.1). That a locked read (MRdLk) is refused by a
 -- Cpl, where the standard has CplLk, is this project's own choice.
 use Rattle.std.specs.Prelude.{◌≡◌, ℕ, ◌+◌, ◌*◌, ◌/◌, ◌%◌, ◌==◌, Bool, false, ◌&&◌, List, Option, Some, None, option_map, unwrap_or, replicate, if◌then◌else◌}
-use Rattle.std.specs.List.{find}
 use Rattle.fab_types.specs.declared.head.Answerer.{Answerer}
 use Rattle.fab_types.specs.declared.head.Answerer.TheVariants as by
 use Rattle.fab_types.specs.declared.head.Parties.{Parties}
@@ -12,14 +11,13 @@ use Rattle.fab_types.specs.declared.origin.Origin.TheVariants.{Function}
 use Rattle.fab_types.specs.declared.status.Status.{Status}
 use Rattle.fab_types.specs.declared.status.Status.TheVariants.{UR}
 use Rattle.host_memory.specs.Pages.{part_of}
-use Rattle.layout.specs.Reach.{reach}
+use Rattle.domain_start.specs.Reach.{reach}
 use Rattle.platform.specs.Share.{Share}
 use Rattle.tlp_view.specs.declared.enables.Enables.{Enables}
 use Rattle.tlp_view.specs.Bytes.{packet_of}
 use Rattle.tlp_view.specs.Completions.{atomic_completion, completion_bytes, read_completion, refusal}
 use Rattle.tlp_view.specs.Packet.{Packet, address_in, dw_count, enables_in}
 use Rattle.tlp_view.specs.Requests.{moved, packet_bytes}
-use Rattle.platform.specs.declared.parts.EndpointFunction.{EndpointFunction}
 use Rattle.request_handling.specs.declared.handling.Made.{Made}
 use Rattle.request_handling.specs.declared.handling.Made.TheVariants as made
 use Rattle.request_handling.specs.Emissions.{Emission}
@@ -100,9 +98,6 @@ function_answer share function page t = option_map (answered_by share function t
 -- the address at which a function's register page begins; every BAR is the address of a page
 abbrev pub page_at : ℕ → ℕ
 page_at bar = bar / 4096 * 4096
-
-abbrev pub bar_of : List EndpointFunction → ℕ → Option ℕ
-bar_of functions function = option_map (λ line. line.bar) (find (λ line. line.id == function) functions)
 
 -- the request goes on to the same place in the function's page, with all else kept
 abbrev pub forwarded : ℕ → ℕ → Packet → Emission

@@ -4,12 +4,13 @@ use Rattle.fab_types.specs.declared.class.Class.{Class}
 use Rattle.fab_types.specs.declared.class.Class.TheVariants.{Posted, NonPosted, Completion}
 use Rattle.host_memory.specs.Pages.{page_of}
 use Rattle.platform.specs.Share.{Share}
+use Rattle.platform.specs.Owners.{bar_of}
 use Rattle.tlp_view.specs.Kinds.{class_of_kind, is_memory}
 use Rattle.tlp_view.specs.Packet.{Packet, dw_count}
 use Rattle.tlp_view.specs.Runs.{is_write}
 use Rattle.request_handling.specs.declared.handling.Effect.TheVariants.{Access, Leave}
 use Rattle.request_handling.specs.declared.handling.Handling.{Handling}
-use Rattle.request_handling.specs.Answers.{address_of, bar_of, function_answer, function_refusal}
+use Rattle.request_handling.specs.Answers.{address_of, function_answer, function_refusal}
 use Rattle.request_handling.specs.Emissions.{Emission}
 
 -- nothing happens, and nothing answers

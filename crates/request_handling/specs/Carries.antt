@@ -7,8 +7,8 @@ use Rattle.platform.specs.declared.parts.Access.{Access as AccessLetter}
 use Rattle.platform.specs.declared.parts.Access.TheVariants.{Read, Write}
 use Rattle.platform.specs.declared.parts.DownstreamPort.{DownstreamPort}
 use Rattle.platform.specs.Share.{Share}
-use Rattle.platform.specs.Owners.{first_port, owner_of}
-use Rattle.layout.specs.Tables.{target_of}
+use Rattle.platform.specs.Owners.{bar_of, first_port, owner_of}
+use Rattle.domain_start.specs.Tables.{target_of}
 use Rattle.fab_types.specs.declared.head.Answerer.{Answerer}
 use Rattle.fab_types.specs.declared.head.Answerer.TheVariants as by
 use Rattle.fab_types.specs.declared.head.Parties.{Parties}
@@ -22,7 +22,7 @@ use Rattle.fab_types.specs.declared.faults.malformed.Malformed.{Malformed}
 use Rattle.request_handling.specs.declared.handling.Effect.TheVariants.{Leave, Block, Store, Add}
 use Rattle.request_handling.specs.declared.handling.Handling.{Handling}
 use Rattle.request_handling.specs.Emissions.{Emission}
-use Rattle.request_handling.specs.Answers.{address_of, bar_of, forwarded, host_data, host_operand, host_refusal, port_answer, shown}
+use Rattle.request_handling.specs.Answers.{address_of, forwarded, host_data, host_operand, host_refusal, port_answer, shown}
 use Rattle.request_handling.specs.declared.fate.Fate.{Fate}
 use Rattle.request_handling.specs.declared.fate.Fate.TheVariants.{Vanish, Refused, ToHost, Direct}
 use Rattle.request_handling.specs.AtFunctions.{access_of, discarded, request_at_function}

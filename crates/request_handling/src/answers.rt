@@ -7,7 +7,7 @@ ghost use Rattle.tlp_view.specs.Completions.{HeadFits, atomic_completion, comple
 ghost use Rattle.tlp_view.specs.Kinds.{has_address, is_fetch_add};
 ghost use Rattle.tlp_view.specs.declared.kind.Kind.TheVariants.{MRd};
 ghost use Rattle.tlp_view.specs.Packet.{dw_count};
-ghost use Rattle.request_handling.specs.Answers.{address_of, bar_of, blank, forwarded, function_answer, function_refusal, host_data, host_operand, host_refusal, port_answer, reads_nothing, shown};
+ghost use Rattle.request_handling.specs.Answers.{address_of, blank, forwarded, function_answer, function_refusal, host_data, host_operand, host_refusal, port_answer, reads_nothing, shown};
 ghost use Rattle.function.specs.Accesses.{IsAccess};
 
 use crate::handling::Reply;
@@ -15,7 +15,6 @@ use fab_types::{Answerer, Bdf, Origin, PortId, Status};
 use function::Function;
 use host_memory::HostMemory;
 use layout::Start;
-use platform::EndpointFunction;
 use tlp_view::{CompletionHead, CplBuf, RequestBuf, TlpView};
 
 /// A port refuses a request of this function.
@@ -75,16 +74,6 @@ pub(crate) fn host_operand(start: &Start, memory: &HostMemory, frame: u16, view:
         start.reach(view.requester()),
         completed_atomic(view, part_read(memory, frame, view)),
     )
-}
-
-/// The BAR of this function, if the layout has it.
-pub fn bar_of(functions: &[EndpointFunction], function: Bdf) -> Option<u32>
-    ensures { result ≡ bar_of functions.now function }
-{
-    functions
-        .iter()
-        .find(|line| line.id == function)
-        .map(|line| line.bar)
 }
 
 /// The address of a request that has one.

@@ -12,12 +12,13 @@ ghost use Rattle.function.specs.Accesses.{IsAccess};
 ghost use Rattle.request_handling.specs.AtFunctions.{access_of, request_at_function};
 ghost use Rattle.request_handling.specs.Carries.{carriage_by, forward, frame_for, is_carried, is_owner, serve, serve_add, serve_read, write_to};
 ghost use Rattle.request_handling.specs.Dispositions.{IsServed, Suits, handling};
-ghost use Rattle.layout.specs.Tables.{target_of};
+ghost use Rattle.domain_start.specs.Tables.{target_of};
 ghost use Rattle.platform.specs.declared.parts.Access.TheVariants as access;
-ghost use Rattle.request_handling.specs.Answers.{address_of, bar_of};
+ghost use Rattle.request_handling.specs.Answers.{address_of};
+ghost use Rattle.platform.specs.Owners.{bar_of};
 ghost use Rattle.request_handling.specs.Fates.{fate, fate_at};
 
-use crate::answers::{address_of, bar_of};
+use crate::answers::address_of;
 use crate::disposition::Disposition;
 use crate::fate::{Fate, is_untranslated, packet_fate};
 use crate::page::place;
@@ -79,7 +80,7 @@ fn forward(start: &Start, function: Bdf) -> Option<Disposition>
     ensures value { (frames registers : List (ℕ × List ℕ)) (t : Packet) → option_map (handling start.now frames registers t) result ≡ forward function t (bar_of start.now.functions function) }
     ensures served { IfSome result (λ d. (t : Packet) → IsAccess t → IsServed t d) }
 {
-    match bar_of(start.functions(), function) {
+    match start.bar_of(function) {
         Some(bar) => Some(Disposition::Forwarded(function, bar)),
         None => None,
     }

@@ -12,7 +12,6 @@ mod refusal;
 mod requests;
 mod taker;
 
-pub use answers::bar_of;
 pub use carriage::{access_of, carriage_up};
 pub use disposition::Disposition;
 pub use fate::{Fate, first_port_fate};

@@ -12,7 +12,7 @@ ghost use Rattle.request_handling.specs.AtFunctions.{is_access, lies_in, request
 ghost use Rattle.request_handling.specs.Dispositions.{IsServed, Suits, handling};
 ghost use Rattle.request_handling.specs.Requests.{at_frame, at_port, by_number, by_table, frame_at, request_at_host, unserved_by_host};
 
-use crate::answers::{address_of, bar_of};
+use crate::answers::address_of;
 use crate::carriage::{access_of, is_owner, is_write, serve, to_frame};
 use crate::disposition::Disposition;
 use crate::refusal::refusal_at;
@@ -147,7 +147,7 @@ pub fn request_at_function(
     ensures value { (frames : List (ℕ × List ℕ)) → handling start.now frames functions.now view.now result ≡ request_at_function start.now functions.now id view.now }
     ensures served { IsServed view.now result }
 {
-    let bar = bar_of(start.functions(), id);
+    let bar = start.bar_of(id);
     if is_access(view) && lies_in(bar, address_of(view)) {
         match access_of(functions, id) {
             Some(disposition) => disposition,

@@ -167,21 +167,20 @@ module _ (kind : Kind) (head : RequestHead) (count : ℕ) (payload : List ℕ) (
   request_again requester tag small = packet_of-header (request kind head count payload) [] (request_fits requester tag small) refl
 
   -- what a buffer keeps of its bytes
-  pub buffer_from : (len : ℕ) (cells : List ℕ) → head.requester < 2 ^ 16 → head.tag < 2 ^ 8 → head.address < 2 ^ 64 → len ≤ 272 → length cells ≡ 272
-      → take len cells ≡ packet_bytes (request kind head count payload) → IsRequestBuffer len cells
-  buffer_from len cells requester tag address small long whole = record {
+  pub buffer_from : (bytes : List ℕ) → head.requester < 2 ^ 16 → head.tag < 2 ^ 8 → head.address < 2 ^ 64 → length bytes ≤ 272
+      → bytes ≡ packet_bytes (request kind head count payload) → IsRequestBuffer bytes
+  buffer_from bytes requester tag address small whole = record {
     small = small;
-    long = long;
-    spelled = let again : packet_of (take len cells) ≡ request kind head count payload = ap packet_of whole ∙ request_again requester tag address in
-        subst (λ bs. Spells bs (packet_of (take len cells))) (sym whole) (subst (Spells (packet_bytes (request kind head count payload))) (sym again) (request_spelled requester tag address));
+    spelled = let again : packet_of bytes ≡ request kind head count payload = ap packet_of whole ∙ request_again requester tag address in
+        subst (λ bs. Spells bs (packet_of bytes)) (sym whole) (subst (Spells (packet_bytes (request kind head count payload))) (sym again) (request_spelled requester tag address));
     plain = whole ∙ sym (ap (λ bs. packet_bytes (packet_of bs)) whole ∙ ap packet_bytes (request_again requester tag address));
   }
 
 -- the parts of a packet, one after another
-pub made_bytes : (kind : Kind) (head : RequestHead) (count : ℕ) (payload front one two all : List ℕ) → front ≡ take 8 (header (request kind head count []) []) → one ≡ front → two ≡ one ++ address_bytes (is_high head.address) head.address
+pub made_bytes : (kind : Kind) (head : RequestHead) (count : ℕ) (payload front none one two all : List ℕ) → front ≡ take 8 (header (request kind head count []) []) → none ≡ [] → one ≡ none ++ front → two ≡ one ++ address_bytes (is_high head.address) head.address
     → all ≡ two ++ payload → all ≡ packet_bytes (request kind head count payload)
-made_bytes kind head count payload front one two all is_front is_one is_two is_all =
-    is_all ∙ ap (λ part. part ++ payload) (is_two ∙ ap (λ part. part ++ address_bytes (is_high head.address) head.address) (is_one ∙ is_front))
+made_bytes kind head count payload front none one two all is_front is_none is_one is_two is_all =
+    is_all ∙ ap (λ part. part ++ payload) (is_two ∙ ap (λ part. part ++ address_bytes (is_high head.address) head.address) (is_one ∙ ap (λ part. part ++ front) is_none ∙ is_front))
 
 len_small : (high : Bool) (start end len n : ℕ) → start ≡ 8 → end ≡ start + cond high 8 4 → len ≡ end + n → n ≤ 256 → len ≤ 272
 len_small true start end len n s e l small = omega (arith, s, e, l)

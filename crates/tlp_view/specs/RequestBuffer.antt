@@ -1,17 +1,16 @@
 -- What a request's buffer keeps of its bytes.
-use Rattle.std.specs.Prelude.{◌≡◌, ◌≤◌, ◌*◌, ℕ, Bool, true, false, List, length, take, if◌then◌else◌}
+use Rattle.std.specs.Prelude.{◌≡◌, ◌≤◌, ◌*◌, ℕ, Bool, true, false, List, length, if◌then◌else◌}
 use Rattle.tlp_view.specs.declared.kind.Kind.{Kind}
 use Rattle.tlp_view.specs.Kinds.{is_memory, is_one_dw, has_data, has_form, type_of}
 use Rattle.tlp_view.specs.Bytes.{packet_of}
 use Rattle.tlp_view.specs.Spelling.{Spells}
 use Rattle.tlp_view.specs.Requests.{packet_bytes}
 
--- the first len bytes are a well-formed packet, with 0 in each bit that has no field
-pub record IsRequestBuffer (len : ℕ) (bytes : List ℕ) : Type 0 where
-  pub small : len ≤ 272
-  pub long : length bytes ≡ 272
-  pub spelled : Spells (take len bytes) (packet_of (take len bytes))
-  pub plain : take len bytes ≡ packet_bytes (packet_of (take len bytes))
+-- the bytes are a well-formed packet, with 0 in each bit that has no field
+pub record IsRequestBuffer (bytes : List ℕ) : Type 0 where
+  pub small : length bytes ≤ 272
+  pub spelled : Spells bytes (packet_of bytes)
+  pub plain : bytes ≡ packet_bytes (packet_of bytes)
 
 -- a request of this kind for so many DW has this payload
 pub record IsMade (kind : Kind) (count : ℕ) (payload : List ℕ) : Type 0 where

@@ -10,6 +10,7 @@ use crate::completion::be_u16;
 use crate::enables::Enables;
 use crate::kind::Kind;
 use crate::view::TlpView;
+use arrayvec::ArrayVec;
 use byteorder::{BigEndian, ByteOrder};
 use fab_types::{AddressType, Bdf};
 use std::marker::Model;
@@ -35,13 +36,10 @@ pub struct RequestHead {
 /// It is at most 272 bytes long. A contract sees the packet.
 #[derive(Drop)]
 pub struct RequestBuf {
-    cells: [u8; 272],
-    // how many bytes of them
-    len: usize,
+    packet: ArrayVec<u8, 272>,
 }
 
 impl Model for RequestBuf {
-    ghost use Rattle.std.specs.Prelude.{take};
     ghost use Rattle.tlp_view.specs.Packet.{Packet};
 
     ghost Value = { Packet };
@@ -49,9 +47,9 @@ impl Model for RequestBuf {
     ghost use Rattle.tlp_view.specs.Bytes.{packet_of};
     ghost use Rattle.tlp_view.specs.RequestBuffer.{IsRequestBuffer};
 
-    ghost view = { λ b. packet_of (take b.len b.cells) };
+    ghost view = { λ b. packet_of b.packet.items };
 
-    ghost invariant = { λ b. IsRequestBuffer b.len b.cells };
+    ghost invariant = { λ b. IsRequestBuffer b.packet.items };
 }
 
 impl RequestBuf {
@@ -96,11 +94,11 @@ impl RequestBuf {
     {
         let address = head.address;
         let front = front_bytes(kind, head, length);
-        let mut cells = [0; 272];
-        let start = append(&mut cells, 0, &front);
-        let end = append_address(&mut cells, start, address);
-        let len = append(&mut cells, end, payload);
-        RequestBuf { cells, len }
+        let mut packet = ArrayVec::new();
+        append(&mut packet, &front);
+        append_address(&mut packet, address);
+        append(&mut packet, payload);
+        RequestBuf { packet }
     }
 
     /// The bytes of the whole packet, which are read back as this packet.
@@ -109,32 +107,32 @@ impl RequestBuf {
         ensures value { result.now ≡ packet_bytes self.now }
         ensures small { length result.now ≤ 272 }
     {
-        &self.cells[..self.len]
+        self.packet.as_slice()
     }
 }
 
-/// Puts a part behind the first `len` bytes, and answers how many they are then.
-fn append(cells: &mut [u8], len: usize, part: &[u8]) -> usize
-    requires { len + length part.now ≤ length cells.old }
-    ensures len { result ≡ len + length part.now }
-    ensures value { take result cells.new ≡ take len cells.old ++ part.now }
+/// Puts a part behind what stands there.
+fn append(packet: &mut ArrayVec<u8, 272>, part: &[u8])
+    requires { length packet.old.items + length part.now ≤ 272 }
+    ensures value { packet.new.items ≡ packet.old.items ++ part.now }
+    ensures len { length packet.new.items ≡ length packet.old.items + length part.now }
 {
-    let end = len + part.len();
-    cells[len..end].copy_from_slice(part);
-    end
+    if packet.try_extend_from_slice(part).is_err() {
+        unreachable!();
+    }
 }
 
-/// Puts an address behind them, of one DW below 4 GB and of two from there on.
-fn append_address(cells: &mut [u8], len: usize, address: u64) -> usize
-    requires { len + 8 ≤ length cells.old }
-    ensures len { result ≡ len + (if is_high address then 8 else 4) }
-    ensures value { take result cells.new ≡ take len cells.old ++ address_bytes (is_high address) address }
+/// Puts an address there, of one DW below 4 GB and of two from there on.
+fn append_address(packet: &mut ArrayVec<u8, 272>, address: u64)
+    requires { length packet.old.items + 8 ≤ 272 }
+    ensures value { packet.new.items ≡ packet.old.items ++ address_bytes (is_high address) address }
+    ensures len { length packet.new.items ≡ length packet.old.items + (if is_high address then 8 else 4) }
     ensures small { address < 2 ^ 64 }
 {
     if address < 1 << 32 {
-        append(cells, len, &low_address(address as u32))
+        append(packet, &low_address(address as u32));
     } else {
-        append(cells, len, &high_address(address))
+        append(packet, &high_address(address));
     }
 }
 

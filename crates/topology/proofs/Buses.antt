@@ -10,7 +10,7 @@ use Rattle.layout.specs.Laws.{IsPlatform, are_apart, is_hung, is_hung_below, is_
 use Rattle.platform.specs.Platform.{Platform}
 use Rattle.platform.specs.Tree.{is_on_bus}
 use Rattle.platform.specs.Tree.{id_below, internal_bus, port_above, port_at, switch_on}
-use Rattle.layout.proofs.Bools.{and-both, and-first, and-second}
+use Rattle.platform.proofs.Bools.{and-both, and-first, and-second}
 use Rattle.topology.proofs.Members.{found, paired, passes}
 
 -- ---- switches

@@ -9,7 +9,7 @@ use Rattle.layout.specs.Laws.{IsPlatform, are_apart, each_pair}
 use Rattle.layout.specs.Places.{IsWellPlaced, have_other_ids}
 use Rattle.platform.specs.Platform.{Platform}
 use Rattle.platform.specs.Tree.{port_above}
-use Rattle.layout.proofs.Bools.{and-first}
+use Rattle.platform.proofs.Bools.{and-first}
 use Rattle.topology.specs.declared.places.PortPlace.{PortPlace}
 use Rattle.topology.specs.Links.{end_above}
 use Rattle.topology.specs.Nodes.{upstream_end}

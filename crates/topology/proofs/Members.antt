@@ -9,7 +9,7 @@ use Rattle.std.proofs.lemmas.List.Elements.{All-append, All-contains, All-contai
 use Rattle.std.proofs.lemmas.List.Folds.{Any-from_list_any, list_any_at}
 use Rattle.std.proofs.lemmas.List.Sums.{AllPass-from_list_all, list_all-from_AllPass, fails_before_first, position_or_len_is}
 use Rattle.layout.specs.Laws.{each_pair}
-use Rattle.layout.proofs.Bools.{and-both, and-first, and-second}
+use Rattle.platform.proofs.Bools.{and-both, and-first, and-second}
 
 -- ---- what a list has
 

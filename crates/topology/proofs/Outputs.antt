@@ -13,7 +13,7 @@ use Rattle.layout.specs.Laws.{IsPlatform, are_apart}
 use Rattle.platform.specs.Platform.{Platform}
 use Rattle.platform.specs.Tree.{is_on_bus}
 use Rattle.platform.specs.Tree.{id_below, internal_bus, is_taken}
-use Rattle.layout.proofs.Bools.{and-first}
+use Rattle.platform.proofs.Bools.{and-first}
 use Rattle.topology.specs.declared.nodes.LinkEnd.{LinkEnd}
 use Rattle.topology.specs.Links.{link_at, links_of, sender_of, sending_end}
 use Rattle.topology.specs.Nodes.{downstream_end, end_of_port, output_of, ports_on, upstream_end, upstream_end_at}

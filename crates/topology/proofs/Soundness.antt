@@ -13,7 +13,7 @@ use Rattle.platform.specs.declared.parts.EndpointFunction.{EndpointFunction}
 use Rattle.layout.specs.Laws.{IsPlatform, is_hung, is_hung_by, is_hung_below, is_inside, is_nested, is_nested_on}
 use Rattle.platform.specs.Platform.{Platform}
 use Rattle.platform.specs.Tree.{id_below, internal_bus, is_taken, port_above, port_at, port_leading_to, switch_on}
-use Rattle.layout.proofs.Bools.{all-found, and-first, and-second}
+use Rattle.platform.proofs.Bools.{all-found, and-first, and-second}
 use Rattle.topology.specs.Nodes.{outputs_of, downstream_end, upstream_end, upstream_end_at, end_of_port, function_end}
 use Rattle.topology.specs.Links.{end_above, link_of_switch, link_of_function}
 use Rattle.topology.specs.Places.{upstream_place, downstream_place}

@@ -5,11 +5,10 @@ use Rattle.std.specs.List.{find, list_any}
 use Rattle.std.specs.Option.{IsSome, is_none, is_some, option_map}
 use Rattle.fab_types.specs.declared.faults.begin.MmioFault.TheVariants as mmio
 use Rattle.layout.proofs.Bools.{any-missing}
-use Rattle.platform.specs.Owners.{is_own_function}
+use Rattle.platform.specs.Owners.{bar_of, is_own_function}
 use Rattle.platform.specs.Share.{Share}
 use Rattle.fab_types.specs.declared.host_access.HostAccess.{HostAccess}
 use Rattle.domain.specs.declared.entry.Entry.TheVariants as entry
-use Rattle.request_handling.specs.Answers.{bar_of}
 use Rattle.domain.specs.Domains.{DomainView}
 use Rattle.domain_parts.specs.HostAccesses.{is_in_page, mmio_fault, mmio_with, size_of, tag_for}
 use Rattle.domain.specs.Machine.{change}

@@ -9,9 +9,9 @@ use Rattle.fab_types.specs.declared.head.Parties.{Parties}
 use Rattle.fab_types.specs.declared.place.Place.{Place}
 use Rattle.function.specs.Plans.{plan_of}
 use Rattle.platform.specs.Share.{Share}
+use Rattle.platform.specs.Owners.{bar_of}
 use Rattle.fab_types.specs.declared.host_access.HostAccess.{HostAccess}
 use Rattle.domain.specs.declared.entry.Entry.TheVariants.{Alien, Carry, Deliver, Mmio, Refuse, Submit, Tick}
-use Rattle.request_handling.specs.Answers.{bar_of}
 use Rattle.domain.specs.Deliveries.{arrival, arrived}
 use Rattle.domain_parts.specs.Ends.{replied}
 use Rattle.domain_parts.specs.HostAccesses.{mmio_fault, mmio_unless, mmio_with, tag_for}

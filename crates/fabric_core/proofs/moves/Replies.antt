@@ -16,7 +16,7 @@ use Rattle.function.specs.Accesses.{read_data}
 use Rattle.host_memory.specs.Pages.{page_of}
 use Rattle.platform.specs.declared.parts.DownstreamPort.{DownstreamPort}
 use Rattle.platform.specs.Egress.{direct_to, goes_directly, is_peer}
-use Rattle.platform.specs.Owners.{first_port}
+use Rattle.platform.specs.Owners.{bar_of, first_port}
 use Rattle.platform.specs.Share.{Share}
 use Rattle.tlp_view.specs.Bytes.{packet_of}
 use Rattle.tlp_view.specs.Kinds.{class_of_kind, has_address, is_completion}
@@ -28,7 +28,7 @@ use Rattle.request_handling.specs.declared.fate.Fate.{Fate}
 use Rattle.request_handling.specs.declared.fate.Fate.TheVariants.{Vanish, Refused, ToHost, Direct}
 use Rattle.request_handling.specs.declared.handling.Effect.TheVariants.{Access}
 use Rattle.request_handling.specs.declared.handling.Handling.{Handling}
-use Rattle.request_handling.specs.Answers.{address_of, answered_by, bar_of, function_answer, function_refusal}
+use Rattle.request_handling.specs.Answers.{address_of, answered_by, function_answer, function_refusal}
 use Rattle.request_handling.specs.AtFunctions.{access_of, is_access, lies_in, or_discarded, request_at_function, unserved}
 use Rattle.request_handling.specs.Carries.{carriage_by, carriage_of, is_carried}
 use Rattle.request_handling.specs.Emissions.{Emission}

@@ -17,7 +17,7 @@ use Rattle.platform.specs.declared.parts.Switch.{Switch}
 use Rattle.layout.specs.Laws.{IsPlatform, are_apart}
 use Rattle.platform.specs.Platform.{Platform}
 use Rattle.platform.specs.Tree.{is_on_bus}
-use Rattle.layout.proofs.Bools.{and-first}
+use Rattle.platform.proofs.Bools.{and-first}
 use Rattle.platform.specs.Tree.{id_below, is_taken, internal_bus, port_at}
 use Rattle.bridge.specs.Routes.{switch_at}
 use Rattle.port.specs.Configs.{Config, downstream_config, exit_of, is_of_port, upstream_config}

@@ -29,11 +29,11 @@ use Rattle.platform.specs.declared.parts.MapTarget.{MapTarget}
 use Rattle.platform.specs.declared.parts.MapTarget.TheVariants.{Frame, Peer}
 use Rattle.platform.specs.declared.parts.DownstreamPort.{DownstreamPort}
 use Rattle.platform.specs.Egress.{direct_to}
-use Rattle.platform.specs.Owners.{first_port, is_own_function}
+use Rattle.platform.specs.Owners.{bar_of, first_port, is_own_function}
 use Rattle.platform.specs.Platform.{Platform}
-use Rattle.layout.specs.Reach.{reach}
+use Rattle.domain_start.specs.Reach.{reach}
 use Rattle.platform.specs.Share.{Share}
-use Rattle.layout.specs.Tables.{target_of}
+use Rattle.domain_start.specs.Tables.{target_of}
 use Rattle.layout.specs.Views.{share_of_domain}
 use Rattle.tlp_view.specs.Bytes.{packet_of}
 use Rattle.tlp_view.specs.Completions.{read_completion}
@@ -48,7 +48,7 @@ use Rattle.domain.specs.declared.entry.Entry.TheVariants.{Alien, Carry, Deliver,
 use Rattle.request_handling.specs.declared.fate.Fate.{Fate}
 use Rattle.request_handling.specs.declared.fate.Fate.TheVariants.{Vanish, Refused, ToHost, Direct}
 use Rattle.request_handling.specs.declared.handling.Handling.{Handling}
-use Rattle.request_handling.specs.Answers.{address_of, answered_by, bar_of, forwarded, function_answer, function_refusal, host_data, host_operand, host_refusal, page_at, port_answer, shown}
+use Rattle.request_handling.specs.Answers.{address_of, answered_by, forwarded, function_answer, function_refusal, host_data, host_operand, host_refusal, page_at, port_answer, shown}
 use Rattle.request_handling.specs.AtFunctions.{access_of, discarded, is_access, lies_in, or_discarded, request_at_function, unserved}
 use Rattle.request_handling.specs.Carries.{add_if, answer_refusal, carriage_by, carriage_of, forward, frame_for, is_carried, port_id, read_from, refusal_by, refusal_of, refused_by_host, serve, serve_add, serve_read, write_to}
 use Rattle.domain.specs.Deliveries.{arrival_at, arrival_of, arrived, is_awaited, recorded, unexpected}

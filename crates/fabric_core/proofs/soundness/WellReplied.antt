@@ -14,7 +14,7 @@ use Rattle.function.specs.Accesses.{IsAccess, IsAccessKind, is_empty_read, place
 use Rattle.function.specs.Registers.{read_page}
 use Rattle.function.proofs.Accessing.{read_inside}
 use Rattle.host_memory.specs.Pages.{page_of, part_of, range_of}
-use Rattle.layout.proofs.Bools.{and-first, and-second}
+use Rattle.platform.proofs.Bools.{and-first, and-second}
 use Rattle.tlp_view.specs.declared.kind.Kind.{Kind}
 use Rattle.tlp_view.specs.declared.kind.Kind.TheVariants.{MRd, MWr}
 use Rattle.tlp_view.specs.Bytes.{address_at, length_at, packet_of, packet_of_kind}

@@ -1,6 +1,6 @@
 use Rattle.std.proofs.Common.{◌==◌, sym, leb-true}
 use Rattle.layout.specs.Laws.{is_good_budget}
-use Rattle.layout.proofs.Bools.{and-first, and-second, all-found}
+use Rattle.platform.proofs.Bools.{and-first, and-second, all-found}
 use Rattle.layout.proofs.views.budget_of.Goals as goal
 
 pub returns-in-Some-clause-least : goal.returns-in-Some-clause-least

@@ -1,6 +1,7 @@
 use Rattle.std.proofs.Common.{rules}
 use Rattle.request_handling.specs.AtFunctions.{access_of, is_access, lies_in, unserved}
-use Rattle.request_handling.specs.Answers.{address_of, bar_of, function_refusal}
+use Rattle.platform.specs.Owners.{bar_of}
+use Rattle.request_handling.specs.Answers.{address_of, function_refusal}
 use Rattle.tlp_view.specs.Kinds.{class_of_kind}
 use Rattle.request_handling.proofs.Choices.{both_discarded}
 use Rattle.request_handling.proofs.requests.request_at_function.Goals as goal

@@ -1,7 +1,7 @@
 use Rattle.std.proofs.Common.{◌≡◌, subst, sym}
 use Rattle.std.specs.Prelude.{string_bytes}
 use Rattle.std.proofs.lemmas.Result.{IfOk-weaker}
-use Rattle.import.specs.Comments.{IsPrintable}
+use Rattle.layout_draft.specs.Comments.{IsPrintable}
 use Rattle.import.specs.Names.{location_text}
 use Rattle.import.proofs.Printed.{location_printable}
 use Rattle.import.proofs.names.Names.name_of.Goals as goal

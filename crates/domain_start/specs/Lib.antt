@@ -1,0 +1,5 @@
+pub mod Reach
+pub mod Buses
+pub mod Tables
+pub mod Starts
+pub mod First

@@ -1,0 +1,218 @@
+//! What a domain starts from.
+
+ghost use Rattle.std.specs.Prelude.{◌≡◌, ◌≤◌, IfOk, [], ◌∷◌};
+ghost use Rattle.std.specs.List.Sorted.{IsStrictlyIncreasing};
+ghost use Rattle.platform.specs.Share.{Share, IsShare, is_guarded};
+ghost use Rattle.domain_start.specs.First.{first_share};
+ghost use Rattle.domain_start.specs.Buses.{bus_entry};
+ghost use Rattle.domain_start.specs.Tables.{MapsOnce};
+
+use crate::buses::{BusEntry, bus_table};
+use fab_types::{AcsControl, Bdf, DomainId, NoMemory, PortId};
+use platform::{DownstreamPort, EndpointFunction, MapTarget, Mapping, Rights, Switch, are_guarded};
+use std::alloc::Global;
+use std::marker::Model;
+
+/// What a layout gives one domain alone.
+#[derive(Drop)]
+pub struct Grant {
+    /// How many begins the domain may make, 1 to 16,384.
+    pub budget: u32,
+    /// The numbers of the domain's frames of memory, rising.
+    pub frames: Vec<u16>,
+    /// The mappings of the domain's functions, in the order of their lines.
+    pub maps: Vec<Mapping>,
+}
+
+/// What a layout gives one domain.
+/// That is its budget, frames and mappings; and the whole tree of ports.
+#[derive(Drop)]
+pub struct Start {
+    domain: DomainId,
+    budget: u32,
+    frames: Vec<u16>,
+    maps: Vec<Mapping>,
+    switches: Vec<Switch>,
+    ports: Vec<DownstreamPort>,
+    functions: Vec<EndpointFunction>,
+    // by bus number: what that leads to
+    buses: Vec<BusEntry>,
+}
+
+impl Model for Start {
+    ghost use Rattle.platform.specs.Share.{Share};
+
+    ghost Value = { Share };
+
+    ghost use Rattle.domain_start.specs.Starts.{share_of, IsStart};
+
+    ghost view = { share_of };
+
+    ghost invariant = { IsStart };
+}
+
+impl Start {
+    /// The start of domain 1 in the smallest platform.
+    /// That has a port with all controls set, above it one switch, below it function 03:00.0, whose page 1 is
+    /// mapped to frame 0 for reads and writes. The budget is 256 begins. It answers `NoMemory` where memory was
+    /// refused.
+    pub fn first(alloc: Global) -> Result<Start, NoMemory>
+        ensures { IfOk result (λ start. start ≡ first_share) }
+    {
+        let port = DownstreamPort {
+            id: PortId::new(Bdf::from_bits(0x0200)),
+            secondary: 3,
+            subordinate: 3,
+            base: 0x9000_0000,
+            limit: 0x900f_ffff,
+            controls: AcsControl::from_register(0x1f).unwrap(),
+            owner: DomainId::new(1).unwrap(),
+            egress_vector: None,
+        };
+        let function = EndpointFunction {
+            id: Bdf::from_bits(0x0300),
+            bar: 0x9000_0000,
+        };
+        let map = Mapping {
+            requester: function.id,
+            page: 1,
+            target: MapTarget::Frame(0),
+            rights: Rights {
+                read: true,
+                write: true,
+            },
+        };
+        let switch = Switch {
+            id: Bdf::from_bits(0x0100),
+            above: None,
+        };
+        let ports = vec![in alloc; port]?;
+        let functions = vec![in alloc; function]?;
+        let buses = bus_table(alloc, &ports, &functions, port.owner)?;
+        Ok(Start {
+            domain: port.owner,
+            budget: 256,
+            frames: vec![in alloc; 0]?,
+            maps: vec![in alloc; map]?,
+            switches: vec![in alloc; switch]?,
+            ports,
+            functions,
+            buses,
+        })
+    }
+
+    /// The start of a domain to which a layout of these switches, ports and functions grants this.
+    /// It answers `NoMemory` where memory was refused.
+    pub fn of(
+        alloc: Global,
+        domain: DomainId,
+        grant: Grant,
+        switches: &[Switch],
+        ports: &[DownstreamPort],
+        functions: &[EndpointFunction],
+    ) -> Result<Start, NoMemory>
+        requires least { 1 ≤ grant.budget }
+        requires most { grant.budget ≤ 16384 }
+        requires rising { IsStrictlyIncreasing grant.frames.items }
+        requires once { MapsOnce grant.maps.items }
+        ensures { IfOk result (λ start. start ≡ record { domain = domain; budget = grant.budget; frames = grant.frames.items; maps = grant.maps.items; switches = switches.now; ports = ports.now; functions = functions.now }) }
+    {
+        let Grant {
+            budget,
+            frames,
+            maps,
+        } = grant;
+        Ok(Start {
+            domain,
+            budget,
+            frames,
+            maps,
+            switches: Vec::from_slice(alloc, switches)?,
+            ports: Vec::from_slice(alloc, ports)?,
+            functions: Vec::from_slice(alloc, functions)?,
+            buses: bus_table(alloc, ports, functions, domain)?,
+        })
+    }
+
+    /// The same start once more. It answers `NoMemory` where memory was refused.
+    pub fn try_clone(&self, alloc: Global) -> Result<Start, NoMemory>
+        ensures { IfOk result (λ start. start ≡ self.now) }
+    {
+        Ok(Start {
+            domain: self.domain,
+            budget: self.budget,
+            frames: Vec::from_slice(alloc, &self.frames)?,
+            maps: Vec::from_slice(alloc, &self.maps)?,
+            switches: Vec::from_slice(alloc, &self.switches)?,
+            ports: Vec::from_slice(alloc, &self.ports)?,
+            functions: Vec::from_slice(alloc, &self.functions)?,
+            buses: Vec::from_slice(alloc, &self.buses)?,
+        })
+    }
+
+    /// The domain to which the layout gives this.
+    pub fn domain(&self) -> DomainId
+        ensures { result ≡ self.now.domain }
+    {
+        self.domain
+    }
+
+    /// How many begins the domain may make, 1 to 16,384.
+    pub fn budget(&self) -> u32
+        ensures value { result ≡ self.now.budget }
+        ensures limits { IsShare self.now }
+    {
+        self.budget
+    }
+
+    /// The numbers of the domain's frames of memory, rising.
+    pub fn frames(&self) -> &[u16]
+        ensures value { result.now ≡ self.now.frames }
+        ensures limits { IsShare self.now }
+    {
+        &self.frames
+    }
+
+    /// The mappings of the domain's functions, in the order of their lines.
+    pub fn maps(&self) -> &[Mapping]
+        ensures value { result.now ≡ self.now.maps }
+        ensures once { MapsOnce result.now }
+    {
+        &self.maps
+    }
+
+    /// Are all five ACS controls set on each downstream port of the layout?
+    pub fn is_guarded(&self) -> bool
+        ensures { result ≡ is_guarded self.now }
+    {
+        are_guarded(&self.ports)
+    }
+
+    /// All switches of the layout.
+    pub fn switches(&self) -> &[Switch]
+        ensures { result.now ≡ self.now.switches }
+    {
+        &self.switches
+    }
+
+    /// All downstream ports of the layout.
+    pub fn ports(&self) -> &[DownstreamPort]
+        ensures { result.now ≡ self.now.ports }
+    {
+        &self.ports
+    }
+
+    /// What a bus number leads to.
+    pub(crate) fn bus(&self, bus: u8) -> &BusEntry
+        ensures { result.now ≡ bus_entry self.now.ports self.now.functions self.now.domain bus }
+    {
+        &self.buses[usize::from(bus)]
+    }
+
+    /// All functions of the layout.
+    pub fn functions(&self) -> &[EndpointFunction]
+        ensures { result.now ≡ self.now.functions }
+    {
+        &self.functions
+    }
+}

@@ -1,0 +1,5 @@
+pub mod Grown
+pub mod Added
+pub mod Hex
+pub mod Begins
+pub mod Joined
