@@ -1,8 +1,10 @@
 -- Stations that are asleep, through the visit of a station.
-use Rattle.std.proofs.Common.{◌≡◌, ◌⊎◌, inl, inr, ℕ, ◌+◌, ◌<◌, ◌≤◌, Bool, true, false, List, [], ◌∷◌, ◌++◌, length, map, replicate, take, slice_get, Option, Some, None, refl, sym, ap, ◌∙◌, subst, arith, eqb-true}
+use Rattle.std.proofs.Common.{◌≡◌, ◌⊎◌, inl, inr, ℕ, zero, suc, ◌+◌, ◌-◌, ◌<◌, ◌≤◌, Bool, true, false, List, [], ◌∷◌, ◌++◌, length, map, replicate, take, slice_get, Option, Some, None, refl, sym, ap, ◌∙◌, subst, arith, eqb-true}
 use Rattle.std.specs.Prelude.{All, Contains, ◌||◌, option_map, slice_index_or}
 use Rattle.std.specs.List.{flat_map, list_all, list_any}
-use Rattle.std.proofs.lemmas.Option.{get_or_from_slice_get, same_Some, slice_get-map, slice_get_within}
+use Rattle.std.proofs.Math.Bool.{or-false}
+use Rattle.std.proofs.Math.Nat.{add-zero}
+use Rattle.std.proofs.lemmas.Option.{get_or_from_slice_get, same_Some, slice_get-map, slice_get_cases, slice_get_within}
 use Rattle.std.proofs.lemmas.List.Elements.{All-append, All-cons, All-head, All-nil, All-tail}
 use Rattle.std.proofs.lemmas.Bool.{false≢true, or_parts}
 use Rattle.std.proofs.lemmas.List.{length-map}
@@ -306,6 +308,29 @@ sweep_next w v u stops i stop m n b at both so_far now =
     let stations = map station_of stops in
     let there : slice_get stations i ≡ Some stop.station = slice_get-map station_of stops i ∙ ap (option_map station_of) at in
     stations_next w v u stations i stop.station m n b (slice_get_within stations i stop.station there) (sym (get_or_from_slice_get stations i stop.station stop.station there)) both so_far now
+
+-- nor do those of stops in a row, all of which are
+pub asleep_row : (w v : World) (stops : List Stop) (awake : Awake) (i n : ℕ) (m : Bool) → AreAsleep stops v awake → i + n ≤ length stops
+    → ((place : ℕ) → i ≤ place → place < i + n → slice_get awake.flags.items place ≡ Some false)
+    → Sweeps (flat_map events_at (take i (map station_of stops))) w m v → Sweeps (flat_map events_at (take (i + n) (map station_of stops))) w m v
+asleep_row w v stops awake i zero m asleep within row so_far = subst (λ (k : ℕ). Sweeps (flat_map events_at (take k (map station_of stops))) w m v) (sym (add-zero i)) so_far
+asleep_row w v stops awake i (suc n) m asleep within row so_far =
+    let before = asleep_row w v stops awake i n m asleep (omega (arith, within)) (λ place least less. row place least (omega (arith, less))) so_far in
+    let one_more : i + n + 1 ≡ i + suc n = omega arith in
+    elim (slice_get_cases stops (i + n)).1 [
+      | inl there ↦ subst (λ (k : ℕ). Sweeps (flat_map events_at (take k (map station_of stops))) w m v) one_more
+          (sweep_next w v v stops (i + n) there.0 m false m there.2 (sym (or-false m)) before (asleep_sweep stops v awake (i + n) there.0 asleep there.2 (row (i + n) (omega arith) (omega arith))))
+      | inr past ↦ absurd (omega (arith, within, past.0))
+    ]
+
+-- up to a place before which all are
+pub asleep_up_to : (w v : World) (stops : List Stop) (awake : Awake) (i next : ℕ) (m : Bool) → AreAsleep stops v awake → i ≤ next → next ≤ length awake.flags.items
+    → ((place : ℕ) → i ≤ place → place < next → slice_get awake.flags.items place ≡ Some false)
+    → Sweeps (flat_map events_at (take i (map station_of stops))) w m v → Sweeps (flat_map events_at (take next (map station_of stops))) w m v
+asleep_up_to w v stops awake i next m asleep least most row so_far =
+    let there : i + (next - i) ≡ next = omega (arith, least) in
+    subst (λ (k : ℕ). Sweeps (flat_map events_at (take k (map station_of stops))) w m v) there
+    (asleep_row w v stops awake i (next - i) m asleep (omega (arith, least, most, asleep.all)) (λ place from less. row place from (omega (arith, less, least))) so_far)
 
 pub sweep_whole : (w v : World) (stops : List Stop) (m : Bool) (i : ℕ) → length stops ≤ i → Sweeps (flat_map events_at (take i (map station_of stops))) w m v → Sweeps (flat_map events_at (map station_of stops)) w m v
 sweep_whole w v stops m i most so_far = let long = length-map stops station_of in stations_whole w v (map station_of stops) m i (omega (arith, most, long)) so_far

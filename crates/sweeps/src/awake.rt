@@ -1,6 +1,6 @@
 //! Which stations of a sweep are awake.
 
-ghost use Rattle.std.specs.Prelude.{◌≡◌, ◌<◌, All, IfOk, IfSome, false, if◌then◌else◌, length, map, replicate, slice_set, true};
+ghost use Rattle.std.specs.Prelude.{◌≡◌, ◌<◌, ◌≤◌, ℕ, All, IfOk, IfSome, Some, false, if◌then◌else◌, length, map, replicate, slice_get, slice_set, true};
 ghost use Rattle.std.specs.List.{position};
 ghost use Rattle.waking.specs.Waking.{changes_outbox};
 ghost use Rattle.sweeps.specs.Asleep.{AreWithin, AreWoken, AreWokenBy, IsBegunAt, IsOutboxAt, IsSettledAt, outbox_begun};
@@ -59,6 +59,20 @@ fn settle_flags(stop: &Stop, place: usize, moves: Moves, may_sleep: bool, flags:
     wake_if(moves.received, flags, &stop.by_receiving);
     wake_if(moves.told, flags, &stop.by_telling);
     sleep_if(may_sleep && !moves.any(), flags, place);
+}
+
+/// The first place from this one on whose station is awake, or how many places there are.
+pub(crate) fn next_awake(flags: &[bool], from: usize) -> usize
+    requires { from ≤ length flags.now }
+    ensures low { from ≤ result }
+    ensures high { result ≤ length flags.now }
+    ensures asleep { (place : ℕ) → from ≤ place → place < result → slice_get flags.now place ≡ Some false }
+{
+    let mut place = from;
+    while place < flags.len() && !flags[place] {
+        place += 1;
+    }
+    place
 }
 
 /// The outbox in which waits what a begin sends.

@@ -1,12 +1,19 @@
 //! The stops of a sweep.
 
 ghost use Rattle.std.specs.Prelude.{◌≡◌, ℕ, All, IfOk, Some, length, map, slice_get};
+ghost use Rattle.std.specs.List.{flat_map};
+ghost use Rattle.topology.specs.Topologies.{tree_of};
+ghost use Rattle.fabric_core.specs.Stations.{events_at};
 ghost use Rattle.sweeps.specs.declared.stop.Stop.{Stop};
 ghost use Rattle.sweeps.specs.Asleep.{AreStops, AreWithin, HasSite, IsStop, site_station, station_of};
+ghost use Rattle.sweeps.specs.Sweeps.{IsSweep};
 
+use crate::order::stations;
 use crate::site::{How, Site, sites_of, woken_by};
+use domain::Domain;
 use fab_types::NoMemory;
 use fabric_core::Station;
+use layout::Layout;
 use std::alloc::Global;
 use topology::Topology;
 
@@ -46,16 +53,28 @@ fn stops_among(alloc: Global, sites: &[Site]) -> Result<Vec<Stop>, NoMemory>
 }
 
 /// The stops of a sweep of these stations in a tree.
-pub(crate) fn stops_of(
-    alloc: Global,
-    topology: &Topology,
-    stations: &[Station],
-) -> Result<Vec<Stop>, NoMemory>
+fn stops_of(alloc: Global, topology: &Topology, stations: &[Station]) -> Result<Vec<Stop>, NoMemory>
     ensures stations { IfOk result (λ stops. map station_of stops.items ≡ stations.now) }
     ensures wake { IfOk result (λ stops. AreStops topology.now stops.items) }
     ensures within { IfOk result (λ stops. All (AreWithin (length stops.items)) stops.items) }
 {
     let sites = sites_of(alloc, topology, stations)?;
     let stops = stops_among(alloc, &sites)?;
+    Ok(stops)
+}
+
+/// The stops of a sweep of a layout with these domains, in its order.
+pub(crate) fn stops_in(
+    alloc: Global,
+    layout: &Layout,
+    domains: &[Domain],
+) -> Result<Vec<Stop>, NoMemory>
+    ensures sweep { IfOk result (λ stops. IsSweep layout.now domains.now (flat_map events_at (map station_of stops.items))) }
+    ensures wake { IfOk result (λ stops. AreStops (tree_of layout.now) stops.items) }
+    ensures within { IfOk result (λ stops. All (AreWithin (length stops.items)) stops.items) }
+{
+    let topology = Topology::new(alloc, layout)?;
+    let stations = stations(alloc, layout, domains)?;
+    let stops = stops_of(alloc, &topology, &stations)?;
     Ok(stops)
 }

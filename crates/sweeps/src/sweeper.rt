@@ -11,9 +11,8 @@ ghost use Rattle.fabric_core.specs.World.{is_guarded, world_of};
 ghost use Rattle.sweeps.specs.Asleep.{AreAsleep, AreWithin, station_of};
 ghost use Rattle.sweeps.specs.Sweeps.{CutShort, IsSweep, Sweeps, SweepsCutShort, SweepsUpTo};
 
-use crate::awake::Awake;
-use crate::order::stations;
-use crate::stop::{Stop, stops_of};
+use crate::awake::{Awake, next_awake};
+use crate::stop::{Stop, stops_in};
 use crate::visit::visit;
 use fab_types::{NoMemory, Outcome};
 use fabric_core::{Event, Fabric};
@@ -21,7 +20,6 @@ use layout::Layout;
 use std::alloc::Global;
 use std::marker::Model;
 use std::sync::Wait;
-use topology::Topology;
 
 /// A fabric that is swept. In a guarded layout a sweep passes over the stations that are asleep: nothing moved when they were
 /// visited last, and no event since may have woken them. A contract sees a `Swept`.
@@ -44,29 +42,6 @@ impl Model for Sweeper {
     ghost invariant = { IsSweeper };
 }
 
-/// Visits the station at a place, unless it is asleep.
-#[inline(always)]
-fn visit_awake<R: Wait>(
-    rt: &R,
-    fabric: &mut Fabric,
-    stops: &[Stop],
-    stop: &Stop,
-    place: usize,
-    awake: &mut Awake,
-) -> Result<bool, NoMemory>
-    requires stop { slice_get stops.now place ≡ Some stop.now }
-    requires within { All (AreWithin (length stops.now)) stops.now }
-    requires asleep { AreAsleep stops.now fabric.old awake.old }
-    ensures made { IfOk result (λ moved. Sweeps (events_at stop.now.station) fabric.old moved fabric.new) }
-    ensures cut_short { OnErr result (CutShort (events_at stop.now.station) fabric.old fabric.new) }
-    ensures asleep { AreAsleep stops.now fabric.new awake.new }
-{
-    if !awake.flags[place] {
-        return Ok(false);
-    }
-    visit(rt, fabric, stops, stop, place, awake)
-}
-
 /// Makes the events of these stations in turn, but for those of sleeping ones, which would move nothing. Did any of them
 /// move something?
 fn sweep<R: Wait>(
@@ -82,9 +57,11 @@ fn sweep<R: Wait>(
     ensures asleep { AreAsleep stops.now fabric.new awake.new }
 {
     let mut moved = false;
-    for place in 0..stops.len() {
-        let moves = visit_awake(rt, fabric, stops, &stops[place], place, awake)?;
+    let mut place = next_awake(&awake.flags, 0);
+    while place < stops.len() {
+        let moves = visit(rt, fabric, stops, &stops[place], place, awake)?;
         moved = moved || moves;
+        place = next_awake(&awake.flags, place + 1);
     }
     Ok(moved)
 }
@@ -125,9 +102,7 @@ impl Sweeper {
         // for the proof: what holds of every platform
         let _ = layout.ports();
         let fabric = Fabric::new(alloc, layout)?;
-        let topology = Topology::new(alloc, layout)?;
-        let stations = stations(alloc, layout, fabric.domains())?;
-        let stops = stops_of(alloc, &topology, &stations)?;
+        let stops = stops_in(alloc, layout, fabric.domains())?;
         let awake = Awake::all(alloc, &stops, layout.is_guarded())?;
         Ok(Sweeper {
             fabric,

@@ -1,9 +1,8 @@
 use Rattle.std.proofs.Common.{◌≡◌, ◌∙◌, List, ap, map, subst, sym}
 use Rattle.std.specs.Prelude.{true}
-use Rattle.topology.specs.Topologies.{Tree}
 use Rattle.fabric_core.specs.World.{World}
 use Rattle.sweeps.specs.declared.stop.Stop.{Stop}
-use Rattle.sweeps.specs.Asleep.{AreAsleep, AreStops}
+use Rattle.sweeps.specs.Asleep.{AreAsleep}
 use Rattle.sweeps.proofs.Sleeping.{awake_new}
 use Rattle.sweeps.proofs.sweeper.Sweeper.new.Goals as goal
 
@@ -12,6 +11,6 @@ invariant_of-result c = record {
   within = c.in_ok-stops.ensures.within;
   asleep = subst (λ (w : World). AreAsleep c.in_ok-stops.stops.items w c.in_ok-awake.awake) (sym c.in_ok-fabric.ensures.start)
       (awake_new c.in_ok-stops.stops.items c.args.layout.now c.in_ok-awake.awake c.is_guarded.result c.ports.ensures.laws c.is_guarded.ensures
-      (subst (λ (tree : Tree). AreStops tree c.in_ok-stops.stops.items) c.in_ok-topology.ensures c.in_ok-stops.ensures.wake) c.in_ok-awake.ensures.may
-      (c.in_ok-awake.ensures.flags ∙ ap (map (λ (stop : Stop). true)) c.deref-2.ensures.value));
+      c.in_ok-stops.ensures.wake c.in_ok-awake.ensures.may
+      (c.in_ok-awake.ensures.flags ∙ ap (map (λ (stop : Stop). true)) c.deref.ensures.value));
 }
