@@ -4,7 +4,7 @@ use Rattle.std.specs.Prelude.{Contains, ◌&&◌, ◌||◌, not, slice_get, slic
 use Rattle.std.proofs.lemmas.Bool.{and_parts, false≢true}
 use Rattle.std.proofs.lemmas.List.{get_or-replicate, length-map, length-replicate, length-set}
 use Rattle.std.proofs.lemmas.List.Elements.{Contains-append_cases}
-use Rattle.std.proofs.lemmas.Option.{get_or_from_slice_get, same_Some, slice_get_read, slice_get_within}
+use Rattle.std.proofs.lemmas.Option.{get_or_from_slice_get, same_Some, slice_get_within}
 use Rattle.fabric_core.proofs.invariant.Settling.{either_there, replaced}
 use Rattle.topology.proofs.Members.{cases_contained, nothing_contained}
 use Rattle.reports.proofs.Taking.{take_all, take_next}
@@ -99,8 +99,3 @@ all_mapped stops flags is = ap (length {A = Bool}) is ∙ length-map stops (λ (
 
 pub none_mapped : (stops : List Stop) (flags : List Bool) → flags ≡ map (λ (stop : Stop). true) stops → (j : ℕ) → slice_get flags j ≡ Some false → ⊥
 none_mapped stops flags is j at = mapped_none stops j (ap (λ (bs : List Bool). slice_get bs j) (sym is) ∙ at)
-
--- ---- a flag that is read
-
-pub flag_read : (flags : List Bool) (place : ℕ) (b : Bool) → place < length flags → b ≡ slice_index_or flags place b → b ≡ false → slice_get flags place ≡ Some false
-flag_read flags place b less is none = slice_get_read flags (length flags) place b refl less is ∙ ap (λ (x : Bool). Some x) none

@@ -7,7 +7,6 @@ use Rattle.std.proofs.Math.Nat.{add-zero}
 use Rattle.std.proofs.lemmas.Option.{get_or_from_slice_get, same_Some, slice_get-map, slice_get_cases, slice_get_within}
 use Rattle.std.proofs.lemmas.List.Elements.{All-append, All-cons, All-head, All-nil, All-tail}
 use Rattle.std.proofs.lemmas.Bool.{false≢true, or_parts}
-use Rattle.std.proofs.lemmas.List.{length-map}
 use Rattle.fab_types.specs.declared.class.Class.{Class}
 use Rattle.fab_types.specs.declared.class.Class.TheVariants.{Posted, NonPosted, Completion}
 use Rattle.fab_types.specs.declared.outcome.Outcome.{Outcome}
@@ -44,7 +43,7 @@ use Rattle.sweeps.specs.declared.stop.Stop.{Stop}
 use Rattle.sweeps.specs.Asleep.{AreAsleep, AreStops, AreWithin, AreWoken, AreWokenBy, IsBegunAt, MaySleep, IsSettledAt, IsUnwoken, IsVisit, IsWokenByBegin, Wakes, has_moved, outbox_begun, receiving_at, site_of, station_of, telling_at, wakes_by}
 use Rattle.sweeps.specs.Sweeps.{Sweeps, is_moved, lacks_memory}
 use Rattle.sweeps.proofs.Flags.{all_filled, all_mapped, none_filled, none_mapped}
-use Rattle.sweeps.proofs.Running.{quiet_sweep, stations_next, stations_whole, sweep_then}
+use Rattle.sweeps.proofs.Running.{quiet_sweep, stations_next, sweep_then}
 use Rattle.sweeps.proofs.Settling.{IsIdle, NeverRefused, all_unmoved, classes_never, station_never}
 
 -- ---- what stays through events
@@ -270,10 +269,7 @@ module _ (stops : List Stop) (w v : World) (place : ℕ) (stop : Stop) (moves : 
     idle = λ other t there is. idle_by other t there (settled.still other is);
   }
 
--- a stop is at a place that has a flag, and so are those that it lists
-pub place_within : (stops : List Stop) (w : World) (awake : Awake) (place : ℕ) (stop : Stop) → slice_get stops place ≡ Some stop → AreAsleep stops w awake → place < length awake.flags.items
-place_within stops w awake place stop at asleep = let less = slice_get_within stops place stop at in let all = asleep.all in omega (arith, less, all)
-
+-- what a stop lists are places that have a flag
 pub listed_within : (stops : List Stop) (w : World) (awake : Awake) (place : ℕ) (stop : Stop) → slice_get stops place ≡ Some stop → All (AreWithin (length stops)) stops → AreAsleep stops w awake → AreWithin (length awake.flags.items) stop
 listed_within stops w awake place stop at within asleep =
     subst (λ (n : ℕ). AreWithin n stop) (sym asleep.all)
@@ -331,9 +327,6 @@ asleep_up_to w v stops awake i next m asleep least most row so_far =
     let there : i + (next - i) ≡ next = omega (arith, least) in
     subst (λ (k : ℕ). Sweeps (flat_map events_at (take k (map station_of stops))) w m v) there
     (asleep_row w v stops awake i (next - i) m asleep (omega (arith, least, most, asleep.all)) (λ place from less. row place from (omega (arith, less, least))) so_far)
-
-pub sweep_whole : (w v : World) (stops : List Stop) (m : Bool) (i : ℕ) → length stops ≤ i → Sweeps (flat_map events_at (take i (map station_of stops))) w m v → Sweeps (flat_map events_at (map station_of stops)) w m v
-sweep_whole w v stops m i most so_far = let long = length-map stops station_of in stations_whole w v (map station_of stops) m i (omega (arith, most, long)) so_far
 
 -- ---- all awake
 

@@ -1,6 +1,6 @@
 //! Sweeps of a fabric that pass over the stations at which nothing can move.
 
-ghost use Rattle.std.specs.Prelude.{◌≡◌, ◌≢◌, All, IfOk, OnErr, OnOk, Some, length, map, slice_get, true};
+ghost use Rattle.std.specs.Prelude.{◌≡◌, ◌≢◌, All, IfOk, OnErr, OnOk, length, map, true};
 ghost use Rattle.std.specs.List.{flat_map};
 ghost use Rattle.fab_types.specs.declared.outcome.Outcome.TheVariants.{Idle};
 ghost use Rattle.fabric_core.specs.Events.{StepsTo, is_begin};
