@@ -2,10 +2,10 @@
 
 ghost use Rattle.std.specs.Prelude.{◌≡◌, if◌then◌else◌, Some, None};
 ghost use Rattle.tlp_view.specs.Bytes.{packet_of};
-ghost use Rattle.domain_parts.specs.Tags.{completes, opens_tag, same_origin};
+ghost use Rattle.domain_parts.specs.Tags.{completes, opens_tag};
 ghost use Rattle.domain_parts.specs.Closings.{closed, use_of};
 
-use fab_types::{Class, Origin, same_origin};
+use fab_types::{Class, Origin};
 use function::{OpenTag, TagUse};
 use tlp_view::ReadPacket;
 
@@ -13,17 +13,14 @@ use tlp_view::ReadPacket;
 pub fn close(tags: &mut Vec<OpenTag>, owner: Origin, tag: u8)
     ensures { tags.new.items ≡ closed tags.old.items owner tag }
 {
-    tags.retain(|open| !(same_origin(open.owner, owner) && open.tag == tag));
+    tags.retain(|open| !open.is_of(owner, tag));
 }
 
 /// What this Tag of this owner was opened for.
 pub fn use_of(tags: &[OpenTag], owner: Origin, tag: u8) -> TagUse
     ensures { result ≡ use_of tags.now owner tag }
 {
-    match tags
-        .iter()
-        .find(|open| same_origin(open.owner, owner) && open.tag == tag)
-    {
+    match tags.iter().find(|open| open.is_of(owner, tag)) {
         Some(open) => open.usage,
         None => TagUse::Raw,
     }

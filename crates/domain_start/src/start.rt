@@ -24,8 +24,7 @@ pub struct Grant {
     pub maps: Vec<Mapping>,
 }
 
-/// What a layout gives one domain.
-/// That is its budget, frames and mappings; and the whole tree of ports.
+/// What a domain starts from: its grant, and all switches, ports and functions of the layout.
 #[derive(Drop)]
 pub struct Start {
     domain: DomainId,

@@ -12,3 +12,4 @@ pub mod Passages
 pub mod Misrouted
 pub mod Numbers
 pub mod QuietStations
+pub mod Waiting

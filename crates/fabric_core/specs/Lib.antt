@@ -23,3 +23,4 @@ pub mod Comparisons
 pub mod Purging
 pub mod Still
 pub mod MovesLeft
+pub mod Waits

@@ -21,6 +21,7 @@ ghost use Rattle.fabric_core.specs.Stations.{events_at, is_quiet, taking};
 ghost use Rattle.fabric_core.specs.Still.{Concludes, NeverBlocks};
 ghost use Rattle.fabric_core.specs.TakenOut.{NoneCanTell};
 ghost use Rattle.fabric_core.specs.Trails.{standing_at};
+ghost use Rattle.fabric_core.specs.Waits.{waits};
 ghost use Rattle.fabric_core.specs.World.{is_guarded, world_of};
 
 use crate::event::Event;
@@ -32,11 +33,12 @@ use crate::leaving::leaving;
 use crate::quiet::is_quiet;
 use crate::station::Station;
 use crate::step::step;
+use crate::waits::waits;
 use crate::whose::home;
 use agents::Agents;
 use credit::Limits;
 use domain::Domain;
-use fab_types::{Direction, DomainId, NoMemory, Outcome, Place, PlacesFault, Violation};
+use fab_types::{Class, Direction, DomainId, NoMemory, Outcome, Place, PlacesFault, Violation};
 use frame_log::Frame;
 use interconnect::Interconnect;
 use layout::Layout;
@@ -190,6 +192,17 @@ impl Fabric {
         ensures idle { (class : Class) → has result class ≡ false → StepsTo self.now (taking station.now class) Idle self.now }
     {
         leaving(&self.interconnect, &self.agents, station)
+    }
+
+    /// Does the packet of a class that may leave this port wait for a place?
+    /// It goes on by a lane of the port's switch that has none for its class, so an event that takes it there would answer
+    /// `Idle`. At other stations, and where the layout has no such port, the answer is false.
+    pub fn waits(&mut self, station: &Station, class: Class) -> bool
+        ensures value { result ≡ waits self.old station.now class }
+        ensures idle { result ≡ true → StepsTo self.old (taking station.now class) Idle self.old }
+        ensures same { self.new ≡ self.old }
+    {
+        waits(&mut self.interconnect, station, class)
     }
 
     /// Can nothing move at this station, before something is put there? No packet may leave it, whatever its class, and

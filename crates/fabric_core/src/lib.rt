@@ -16,6 +16,7 @@ mod receipt;
 mod receivers;
 mod station;
 mod step;
+mod waits;
 mod whose;
 mod wires;
 

@@ -1,6 +1,7 @@
 //! Tags that wait for completions.
 
-ghost use Rattle.std.specs.Prelude.{◌≡◌};
+ghost use Rattle.std.specs.Prelude.{◌≡◌, ◌==◌, ◌&&◌};
+ghost use Rattle.fab_types.specs.Origins.{same_origin};
 ghost use Rattle.function.specs.Tags.{awaits_line, free_tag, is_line, is_open};
 
 use fab_types::{Bdf, Origin, same_origin};
@@ -27,12 +28,21 @@ pub struct OpenTag {
     pub usage: TagUse,
 }
 
+impl OpenTag {
+    /// Is it this Tag of this owner?
+    pub fn is_of(&self, owner: Origin, tag: u8) -> bool
+        ensures { result ≡ (same_origin self.now.owner owner && (self.now.tag == tag)) }
+    {
+        // (the number first, which tells most of a domain's Tags apart)
+        self.tag == tag && same_origin(self.owner, owner)
+    }
+}
+
 /// Does this owner have this Tag open?
 pub fn is_open(tags: &[OpenTag], owner: Origin, tag: u8) -> bool
     ensures { result ≡ is_open tags.now owner tag }
 {
-    tags.iter()
-        .any(|open| same_origin(open.owner, owner) && open.tag == tag)
+    tags.iter().any(|open| open.is_of(owner, tag))
 }
 
 fn is_line(usage: TagUse) -> bool

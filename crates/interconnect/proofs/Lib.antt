@@ -4,3 +4,4 @@ pub mod Keeping
 pub mod Passing
 pub mod Turning
 pub mod Room
+pub mod Waiting

@@ -5,3 +5,4 @@ pub mod Starts
 pub mod Kept
 pub mod Passes
 pub mod Lost
+pub mod Waits

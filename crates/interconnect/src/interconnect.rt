@@ -26,6 +26,7 @@ use crate::outputs::{
 };
 use crate::pass::{index_of, turn_at};
 use crate::start::{nodes_of, ports_of};
+use crate::waits::{KnownCourse, none_known};
 use bridge::Bridge;
 use fab_types::{Bdf, Class, Direction, DomainId, NoMemory, Outcome, PortId};
 use layout::Layout;
@@ -40,10 +41,12 @@ use topology::{Link, LinkEnd, Topology};
 /// a `InterconnectView`.
 #[derive(Drop)]
 pub struct Interconnect {
-    topology: Topology,
-    bridge: Bridge,
+    pub(crate) topology: Topology,
+    pub(crate) bridge: Bridge,
     pub(crate) nodes: Vec<Node>,
-    ports: Vec<Port>,
+    pub(crate) ports: Vec<Port>,
+    // by port: the course of the packet that it was last asked for
+    pub(crate) courses: Vec<Option<KnownCourse>>,
 }
 
 impl Model for Interconnect {
@@ -51,11 +54,11 @@ impl Model for Interconnect {
 
     ghost Value = { InterconnectView };
 
-    ghost use Rattle.interconnect.specs.Kept.{IsInterconnect, interconnect_view};
+    ghost use Rattle.interconnect.specs.Kept.{IsKept, interconnect_view};
 
     ghost view = { interconnect_view };
 
-    ghost invariant = { λ h. IsInterconnect (interconnect_view h) };
+    ghost invariant = { IsKept };
 }
 
 impl Interconnect {
@@ -66,11 +69,13 @@ impl Interconnect {
     {
         // for the proof: what holds of every platform
         let _ = layout.ports();
+        let ports = ports_of(alloc, layout)?;
         Ok(Interconnect {
             topology: Topology::new(alloc, layout)?,
             bridge: Bridge::new(alloc, layout)?,
             nodes: nodes_of(alloc, layout)?,
-            ports: ports_of(alloc, layout)?,
+            courses: none_known(alloc, &ports)?,
+            ports,
         })
     }
 

@@ -9,6 +9,7 @@ mod node;
 mod outputs;
 mod pass;
 mod start;
+mod waits;
 
 pub use credits::first_credits;
 pub use interconnect::Interconnect;

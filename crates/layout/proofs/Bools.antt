@@ -48,10 +48,6 @@ pub all-none : {X : Type 0} (p : X → Bool) (xs : List X) → length xs ≡ 0 �
 all-none p [] h = refl
 all-none p (x ∷ xs) h = absurd (omega arith)
 
-pub pair-none : {X : Type 0} (r : X → X → Bool) (xs : List X) → length xs ≡ 0 → each_pair r xs ≡ true
-pair-none r [] h = refl
-pair-none r (x ∷ xs) h = absurd (omega arith)
-
 missing-here : {X : Type 0} (b : Bool) (x : X) (further : Option X) (rest : Bool) → is_some (cond b (Some x) further) ≡ false → (is_some further ≡ false → rest ≡ false) → (b || rest) ≡ false
 missing-here true x further rest e later = absurd cc
 missing-here false x further rest e later = later e

@@ -70,6 +70,10 @@ sweep_then w v u es fs m n first second = record {
 pub none_may : (w : World) (s : Station) (class : Class) (leaving : LeavingClasses) → AreLeaving w s leaving → has leaving class ≡ false → Sweeps (taking s class ∷ []) w false w
 none_may w s class leaving are none = one_event w w (taking s class) Idle false (refl, refl) (none_leaves w s class (sym (are class) ∙ none))
 
+-- a class of which the packet waits for a place; to ask that changed nothing
+pub none_goes_on : (w v : World) (s : Station) (class : Class) → v ≡ w → StepsTo w (taking s class) Idle w → Sweeps (taking s class ∷ []) w false v
+none_goes_on w v s class same idle = subst (λ (x : World). Sweeps (taking s class ∷ []) w false x) (sym same) (one_event w w (taking s class) Idle false (refl, refl) idle)
+
 -- the events of three classes
 pub three : (w v u x : World) (a b c : Event) (l m n : Bool) → Sweeps (a ∷ []) w l v → Sweeps (b ∷ []) v m u → Sweeps (c ∷ []) u n x → Sweeps (a ∷ b ∷ c ∷ []) w ((l || m) || n) x
 three w v u x a b c l m n first second third =

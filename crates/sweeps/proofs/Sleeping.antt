@@ -1,19 +1,17 @@
 -- Stations that are asleep, through the visit of a station.
-use Rattle.std.proofs.Common.{◌≡◌, ◌⊎◌, inl, inr, ℕ, zero, suc, ◌+◌, ◌-◌, ◌<◌, ◌≤◌, Bool, true, false, List, [], ◌∷◌, ◌++◌, length, map, replicate, take, slice_get, Option, Some, None, refl, sym, ap, ◌∙◌, subst, arith, eqb-true}
-use Rattle.std.specs.Prelude.{All, Contains, ◌||◌, option_map, slice_index_or}
-use Rattle.std.specs.List.{flat_map, list_all, list_any}
+use Rattle.std.proofs.Common.{◌≡◌, ◌⊎◌, inl, inr, ℕ, zero, suc, ◌+◌, ◌-◌, ◌<◌, ◌≤◌, Bool, true, false, List, [], ◌∷◌, ◌++◌, length, map, replicate, take, slice_get, Some, refl, sym, ap, ◌∙◌, subst, arith, eqb-true}
+use Rattle.std.specs.Prelude.{All, ◌||◌, option_map, slice_index_or}
+use Rattle.std.specs.List.{flat_map, list_all}
 use Rattle.std.proofs.Math.Bool.{or-false}
 use Rattle.std.proofs.Math.Nat.{add-zero}
 use Rattle.std.proofs.lemmas.Option.{get_or_from_slice_get, same_Some, slice_get-map, slice_get_cases, slice_get_within}
-use Rattle.std.proofs.lemmas.List.Elements.{All-append, All-cons, All-head, All-nil, All-tail}
+use Rattle.std.proofs.lemmas.List.Elements.{All-cons, All-head, All-nil, All-tail}
 use Rattle.std.proofs.lemmas.Bool.{false≢true, or_parts}
 use Rattle.fab_types.specs.declared.class.Class.{Class}
 use Rattle.fab_types.specs.declared.class.Class.TheVariants.{Posted, NonPosted, Completion}
 use Rattle.fab_types.specs.declared.outcome.Outcome.{Outcome}
 use Rattle.fab_types.specs.declared.outcome.Outcome.TheVariants.{Idle, Moved, Refused, NoMemory}
-use Rattle.fab_types.specs.declared.place.Direction.{Direction}
 use Rattle.bridge.specs.Bridges.{Routes}
-use Rattle.guarded_routes.specs.Guarded.{IsGuarded}
 use Rattle.layout.specs.Laws.{IsPlatform}
 use Rattle.platform.specs.Platform.{Platform}
 use Rattle.platform.specs.Share.{is_guarded_port}
@@ -22,7 +20,7 @@ use Rattle.fabric_core.specs.declared.event.Event.{Event}
 use Rattle.fabric_core.specs.declared.event.Event.TheVariants.{Arrive, Credit, Enter, Mmio, Pass, Root, Send, Submit, Take, Tick}
 use Rattle.fabric_core.specs.declared.station.Station.{Station}
 use Rattle.fabric_core.specs.declared.station.Station.TheVariants as station
-use Rattle.fabric_core.specs.Events.{StepsTo, effect}
+use Rattle.fabric_core.specs.Events.{StepsTo}
 use Rattle.fabric_core.specs.Invariant.{IsFabric}
 use Rattle.fabric_core.specs.Runs.{Run}
 use Rattle.fabric_core.specs.Stations.{classes, events_at, others_at, taking}
@@ -41,10 +39,10 @@ use Rattle.sweeps.specs.declared.site.How.{How}
 use Rattle.sweeps.specs.declared.site.How.TheVariants.{Taking, Receiving, Telling}
 use Rattle.sweeps.specs.declared.stop.Stop.{Stop}
 use Rattle.sweeps.specs.Asleep.{AreAsleep, AreStops, AreWithin, AreWoken, AreWokenBy, IsBegunAt, MaySleep, IsSettledAt, IsUnwoken, IsVisit, IsWokenByBegin, Wakes, has_moved, outbox_begun, receiving_at, site_of, station_of, telling_at, wakes_by}
-use Rattle.sweeps.specs.Sweeps.{Sweeps, is_moved, lacks_memory}
+use Rattle.sweeps.specs.Sweeps.{Sweeps}
 use Rattle.sweeps.proofs.Flags.{all_filled, all_mapped, none_filled, none_mapped}
 use Rattle.sweeps.proofs.Running.{quiet_sweep, stations_next, sweep_then}
-use Rattle.sweeps.proofs.Settling.{IsIdle, NeverRefused, all_unmoved, classes_never, station_never}
+use Rattle.sweeps.proofs.Settling.{NeverRefused, all_unmoved, classes_never, station_never}
 
 -- ---- what stays through events
 
@@ -241,7 +239,7 @@ may_still stops w v events outcomes run may = record {
   wake = subst (λ (t : Tree). AreStops t stops) (sym (run_tree w v events outcomes run)) may.wake;
 }
 
-module _ (stops : List Stop) (w v : World) (place : ℕ) (stop : Stop) (moves : Moves) (old new : Awake) (at : slice_get stops place ≡ Some stop) (asleep : AreAsleep stops w old) (visit : IsVisit stop.station w moves v) (same : new.may_sleep ≡ old.may_sleep)
+module _ (stops : List Stop) (w v : World) (place : ℕ) (stop : Stop) (moves : Moves) (old new : Awake) (at : slice_get stops place ≡ Some stop) (asleep : AreAsleep stops w old) (visit : IsVisit stop.station w moves v) (same : new.may_sleep ≡ old.may_sleep) (marks : length new.blocked.items ≡ length old.blocked.items)
     (settled : IsSettledAt stop place moves old.may_sleep old.flags.items new.flags.items) where
   abbrev Case : ℕ → Type 0
   Case other = ((other ≡ place) × (has_moved moves ≡ false) × (old.may_sleep ≡ true)) ⊎ ((slice_get old.flags.items other ≡ Some false) × IsUnwoken stop moves other)
@@ -264,6 +262,7 @@ module _ (stops : List Stop) (w v : World) (place : ℕ) (stop : Stop) (moves : 
   pub asleep_after : AreAsleep stops v new
   asleep_after = record {
     all = settled.all ∙ asleep.all;
+    blocked = marks ∙ asleep.blocked;
     may = may_after;
     asleep = λ other is. sleeps_by other (settled.still other is);
     idle = λ other t there is. idle_by other t there (settled.still other is);
@@ -330,14 +329,14 @@ asleep_up_to w v stops awake i next m asleep least most row so_far =
 
 -- ---- all awake
 
-module _ (stops : List Stop) (w : World) (awake : Awake) (all : length awake.flags.items ≡ length stops) (none : (place : ℕ) → slice_get awake.flags.items place ≡ Some false → ⊥) where
+module _ (stops : List Stop) (w : World) (awake : Awake) (all : length awake.flags.items ≡ length stops) (marked : length awake.blocked.items ≡ length stops) (none : (place : ℕ) → slice_get awake.flags.items place ≡ Some false → ⊥) where
   awake_if : (awake.may_sleep ≡ true → MaySleep stops w) → AreAsleep stops w awake
-  awake_if may = record { all = all; may = may; asleep = λ place is. absurd (none place is); idle = λ place stop at is. absurd (none place is) }
+  awake_if may = record { all = all; blocked = marked; may = may; asleep = λ place is. absurd (none place is); idle = λ place stop at is. absurd (none place is) }
 
 -- where memory was refused
-pub kept_awake : (stops : List Stop) (w v : World) (old new : Awake) → AreAsleep stops w old → new.may_sleep ≡ false → new.flags.items ≡ replicate (length old.flags.items) true → AreAsleep stops v new
-kept_awake stops w v old new asleep none flags =
-    awake_if stops v new (all_filled _ _ flags ∙ asleep.all) (none_filled _ _ flags) (λ sleeps. absurd (false≢true (sym none ∙ sleeps)))
+pub kept_awake : (stops : List Stop) (w v : World) (old new : Awake) → AreAsleep stops w old → new.may_sleep ≡ false → new.blocked.items ≡ old.blocked.items → new.flags.items ≡ replicate (length old.flags.items) true → AreAsleep stops v new
+kept_awake stops w v old new asleep none marks flags =
+    awake_if stops v new (all_filled _ _ flags ∙ asleep.all) (ap (length {A = Bool}) marks ∙ asleep.blocked) (none_filled _ _ flags) (λ sleeps. absurd (false≢true (sym none ∙ sleeps)))
 
 -- after a begin, the same but for those that it wakes
 own_function : (function : ℕ) (t : Station) → is_outbox_of function t ≡ true → t ≡ station.FunctionOutbox function
@@ -378,7 +377,10 @@ begin_wakes tree (Credit direction) outbox one t begun changes none = absurd cc
 begin_wakes tree (Root class) outbox one t begun changes none = absurd cc
 begin_wakes tree (Arrive function class) outbox one t begun changes none = absurd cc
 
-module _ (stops : List Stop) (w v : World) (event : Event) (outcome : Outcome) (old new : Awake) (asleep : AreAsleep stops w old) (step : StepsTo w event outcome v) (same : new.may_sleep ≡ old.may_sleep) where
+module _ (stops : List Stop) (w v : World) (event : Event) (outcome : Outcome) (old new : Awake) (asleep : AreAsleep stops w old) (step : StepsTo w event outcome v) (same : new.may_sleep ≡ old.may_sleep) (marks : new.blocked.items ≡ old.blocked.items) where
+  marked : length new.blocked.items ≡ length stops
+  marked = ap (length {A = Bool}) marks ∙ asleep.blocked
+
   may_again : new.may_sleep ≡ true → MaySleep stops v
   may_again sleeps = may_still stops w v (event ∷ []) (outcome ∷ []) (v, step, refl) (asleep.may (sym same ∙ sleeps))
 
@@ -397,6 +399,7 @@ module _ (stops : List Stop) (w v : World) (event : Event) (outcome : Outcome) (
     by_begin : AreAsleep stops v new
     by_begin = record {
       all = woken.woken.all ∙ asleep.all;
+      blocked = marked;
       may = may_again;
       asleep = λ q is. same ∙ asleep.asleep q (woken.woken.still q is).0;
       idle = idle_again;
@@ -404,12 +407,12 @@ module _ (stops : List Stop) (w v : World) (event : Event) (outcome : Outcome) (
 
   pub begun_after : AreWokenBy stops event old.flags.items new.flags.items → AreAsleep stops v new
   begun_after (inl woken) = by_begin woken
-  begun_after (inr all) = awake_if stops v new (all_filled _ _ all ∙ asleep.all) (none_filled _ _ all) may_again
+  begun_after (inr all) = awake_if stops v new (all_filled _ _ all ∙ asleep.all) marked (none_filled _ _ all) may_again
 
 -- at the start
-pub awake_new : (stops : List Stop) (platform : Platform) (awake : Awake) (guarded : Bool) → IsPlatform platform → guarded ≡ list_all is_guarded_port platform.ports → AreStops (tree_of platform) stops → awake.may_sleep ≡ guarded → awake.flags.items ≡ map (λ (stop : Stop). true) stops
+pub awake_new : (stops : List Stop) (platform : Platform) (awake : Awake) (guarded : Bool) → IsPlatform platform → guarded ≡ list_all is_guarded_port platform.ports → AreStops (tree_of platform) stops → awake.may_sleep ≡ guarded → length awake.blocked.items ≡ length stops → awake.flags.items ≡ map (λ (stop : Stop). true) stops
     → AreAsleep stops (world_of platform) awake
-awake_new stops platform awake guarded laws is wake same flags = awake_if stops (world_of platform) awake (all_mapped stops _ flags) (none_mapped stops _ flags) may
+awake_new stops platform awake guarded laws is wake same marked flags = awake_if stops (world_of platform) awake (all_mapped stops _ flags) marked (none_mapped stops _ flags) may
   where
     may : awake.may_sleep ≡ true → MaySleep stops (world_of platform)
     may sleeps = let controls : list_all is_guarded_port platform.ports ≡ true = sym is ∙ (sym same ∙ sleeps) in
@@ -418,7 +421,7 @@ awake_new stops platform awake guarded laws is wake same flags = awake_if stops 
 -- ---- what a visit did
 
 -- at a quiet station none of the events moved anything
-pub quiet_visit : (s : Station) (w : World) → All (λ event. StepsTo w event Idle w) (events_at s) → IsVisit s w (record { taken = false; received = false; told = false }) w
+pub quiet_visit : (s : Station) (w : World) → All (λ event. StepsTo w event Idle w) (events_at s) → IsVisit s w (record { taken = false; received = false; told = false; was_quiet = true }) w
 quiet_visit s w idle =
     let P : Event → Type 0 = λ event. StepsTo w event Idle w in
     let others = subst (All P) (sym (others_split s)) (all_back P (map (taking s) classes) (others_at s) idle) in
@@ -429,21 +432,3 @@ quiet_visit s w idle =
       received = quiet_sweep w (receiving_at s) (all_front P (receiving_at s) (telling_at s) others);
       told = quiet_sweep w (telling_at s) (all_back P (receiving_at s) (telling_at s) others);
     }
-
--- a station at which packets are only taken
-pub taking_visit : (s : Station) (w v : World) (taken : Bool) → receiving_at s ≡ [] → telling_at s ≡ [] → Sweeps (map (taking s) classes) w taken v → IsVisit s w (record { taken = taken; received = false; told = false }) v
-taking_visit s w v taken none_received none_told swept = record {
-  after_taking = v;
-  after_receiving = v;
-  taken = swept;
-  received = subst (λ (es : List Event). Sweeps es v false v) (sym none_received) (no_events v);
-  told = subst (λ (es : List Event). Sweeps es v false v) (sym none_told) (no_events v);
-}
-  where
-    no_events : (x : World) → Sweeps [] x false x
-    no_events x = record { outcomes = []; run = refl; memory = refl; moves = refl }
-
--- a direction
-pub link_visit : (direction : Direction) (w v u x : World) (taken received told : Bool) → Sweeps (map (taking (station.Link direction)) classes) w taken v → Sweeps (Take direction ∷ []) v received u → Sweeps (Credit direction ∷ []) u told x
-    → IsVisit (station.Link direction) w (record { taken = taken; received = received; told = told }) x
-link_visit direction w v u x taken received told first second third = record { after_taking = v; after_receiving = u; taken = first; received = second; told = third }

@@ -1,6 +1,5 @@
 -- Stations at which nothing can move, so that a sweep may pass them over.
 use Rattle.std.specs.Prelude.{◌≡◌, ◌⊎◌, ℕ, ◌<◌, Bool, true, false, ◌||◌, List, [], ◌∷◌, length, map, replicate, slice_get, All, Contains, Option, Some, None}
-use Rattle.fab_types.specs.declared.place.Direction.{Direction}
 use Rattle.topology.specs.Topologies.{Tree}
 use Rattle.fabric_core.specs.declared.event.Event.{Event}
 use Rattle.fabric_core.specs.declared.event.Event.TheVariants.{Submit, Tick, Mmio, Take, Credit}
@@ -80,6 +79,7 @@ pub record MaySleep (stops : List Stop) (w : World) : Type 0 where
 -- a station that isn't awake is idle
 pub record AreAsleep (stops : List Stop) (w : World) (awake : Awake) : Type 0 where
   pub all : length awake.flags.items ≡ length stops
+  pub blocked : length awake.blocked.items ≡ length stops
   pub may : awake.may_sleep ≡ true → MaySleep stops w
   pub asleep : (place : ℕ) → slice_get awake.flags.items place ≡ Some false → awake.may_sleep ≡ true
   pub idle : (place : ℕ) (stop : Stop) → slice_get stops place ≡ Some stop → slice_get awake.flags.items place ≡ Some false → IsIdleAt w stop.station

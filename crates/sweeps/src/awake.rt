@@ -18,6 +18,8 @@ pub(crate) struct Awake {
     /// May a station fall asleep? Not in a layout that isn't guarded, and no more once memory was refused to an event.
     pub(crate) may_sleep: bool,
     pub(crate) flags: Vec<bool>,
+    /// At which of them something was tried in vain when they were visited last.
+    pub(crate) blocked: Vec<bool>,
 }
 
 /// Wakes the stations at these places.
@@ -120,24 +122,34 @@ impl Awake {
     pub(crate) fn all(alloc: Global, stops: &[Stop], may_sleep: bool) -> Result<Awake, NoMemory>
         ensures may { IfOk result (λ awake. awake.may_sleep ≡ may_sleep) }
         ensures flags { IfOk result (λ awake. awake.flags.items ≡ map (λ stop. true) stops.now) }
+        ensures blocked { IfOk result (λ awake. length awake.blocked.items ≡ length stops.now) }
     {
         let flags = stops.iter().map(|_| true).collect(alloc)?;
-        Ok(Awake { may_sleep, flags })
+        let blocked = vec![in alloc; false; stops.len()]?;
+        Ok(Awake {
+            may_sleep,
+            flags,
+            blocked,
+        })
     }
 
     /// Settles who is awake after a visit of the stop at this place.
     pub(crate) fn settle(&mut self, stop: &Stop, place: usize, moves: Moves)
         requires place { place < length self.old.flags.items }
+        requires blocked { length self.old.blocked.items ≡ length self.old.flags.items }
         requires within { AreWithin (length self.old.flags.items) stop.now }
         ensures may { self.new.may_sleep ≡ self.old.may_sleep }
+        ensures blocked { length self.new.blocked.items ≡ length self.old.blocked.items }
         ensures settled { IsSettledAt stop.now place moves self.old.may_sleep self.old.flags.items self.new.flags.items }
     {
+        self.blocked[place] = moves.are_blocked();
         settle_flags(stop, place, moves, self.may_sleep, &mut self.flags);
     }
 
     /// Wakes all.
     pub(crate) fn wake_all(&mut self)
         ensures may { self.new.may_sleep ≡ self.old.may_sleep }
+        ensures blocked { self.new.blocked.items ≡ self.old.blocked.items }
         ensures flags { self.new.flags.items ≡ replicate (length self.old.flags.items) true }
     {
         self.flags.fill(true);
@@ -149,6 +161,7 @@ impl Awake {
         requires all { length self.old.flags.items ≡ length stops.now }
         requires within { All (AreWithin (length stops.now)) stops.now }
         ensures may { self.new.may_sleep ≡ self.old.may_sleep }
+        ensures blocked { self.new.blocked.items ≡ self.old.blocked.items }
         ensures woken { AreWokenBy stops.now event.now self.old.flags.items self.new.flags.items }
     {
         match begun_place(stops, event) {
@@ -160,6 +173,7 @@ impl Awake {
     /// Wakes all, and lets none fall asleep any more.
     pub(crate) fn keep_awake(&mut self)
         ensures may { self.new.may_sleep ≡ false }
+        ensures blocked { self.new.blocked.items ≡ self.old.blocked.items }
         ensures flags { self.new.flags.items ≡ replicate (length self.old.flags.items) true }
     {
         self.may_sleep = false;

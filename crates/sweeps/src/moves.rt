@@ -1,6 +1,6 @@
 //! What moved at a station.
 
-ghost use Rattle.std.specs.Prelude.{◌≡◌};
+ghost use Rattle.std.specs.Prelude.{◌≡◌, ◌&&◌, not};
 ghost use Rattle.sweeps.specs.Asleep.{has_moved};
 
 /// What moved at a station that was visited.
@@ -12,6 +12,8 @@ pub(crate) struct Moves {
     pub(crate) received: bool,
     /// The sender of a direction was told credits.
     pub(crate) told: bool,
+    /// The station was quiet, so that nothing was tried.
+    pub(crate) was_quiet: bool,
 }
 
 impl Moves {
@@ -19,11 +21,19 @@ impl Moves {
         taken: false,
         received: false,
         told: false,
+        was_quiet: true,
     };
 
     pub(crate) fn any(self) -> bool
         ensures { result ≡ has_moved self }
     {
         self.taken || self.received || self.told
+    }
+
+    /// Was something tried in vain?
+    pub(crate) fn are_blocked(self) -> bool
+        ensures { result ≡ (not (has_moved self) && not self.was_quiet) }
+    {
+        !self.any() && !self.was_quiet
     }
 }

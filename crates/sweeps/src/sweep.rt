@@ -1,10 +1,12 @@
 //! Sweeps: each event of a fabric once, in a fixed order.
 
-ghost use Rattle.std.specs.Prelude.{◌≡◌, ◌∷◌, [], IfOk, OnErr, OnOk, false, map, true};
+ghost use Rattle.std.specs.Prelude.{◌≡◌, ◌&&◌, ◌∷◌, [], IfOk, OnErr, OnOk, false, map, true};
 ghost use Rattle.std.specs.List.{flat_map};
-ghost use Rattle.fabric_core.specs.Events.{takes_packet};
+ghost use Rattle.fab_types.specs.declared.outcome.Outcome.TheVariants.{Idle};
+ghost use Rattle.fabric_core.specs.Events.{StepsTo, takes_packet};
 ghost use Rattle.fabric_core.specs.Leaving.{AreLeaving};
 ghost use Rattle.fabric_core.specs.Stations.{classes, events_at, others_at, taking};
+ghost use Rattle.fabric_core.specs.Waits.{waits};
 ghost use Rattle.sweeps.specs.Sweeps.{CutShort, Sweeps, SweepsCutShort, SweepsUpTo, is_moved, lacks_memory};
 
 use fab_types::{Class, NoMemory, Outcome};
@@ -69,12 +71,23 @@ fn take<R: Wait>(
     Ok(moved)
 }
 
-/// The same, but the event isn't made where no packet of the class may leave: mostly none may.
+/// Was the station blocked, and does its packet of the class wait for a place?
+fn waits_on(fabric: &mut Fabric, station: &Station, was_blocked: bool, class: Class) -> bool
+    ensures value { result ≡ (was_blocked && waits fabric.old station.now class) }
+    ensures idle { result ≡ true → StepsTo fabric.old (taking station.now class) Idle fabric.old }
+    ensures same { fabric.new ≡ fabric.old }
+{
+    was_blocked && fabric.waits(station, class)
+}
+
+/// The same, but the event isn't made where no packet of the class may leave: mostly none may. Where the station was
+/// blocked it isn't made either for one that waits for a place.
 #[inline(always)]
 fn take_leaving<R: Wait>(
     rt: &R,
     fabric: &mut Fabric,
     station: &Station,
+    was_blocked: bool,
     class: Class,
     leaving: &mut LeavingClasses,
 ) -> Result<bool, NoMemory>
@@ -86,6 +99,9 @@ fn take_leaving<R: Wait>(
     if !leaving.has(class) {
         return Ok(false);
     }
+    if waits_on(fabric, station, was_blocked, class) {
+        return Ok(false);
+    }
     take(rt, fabric, station, class, leaving)
 }
 
@@ -94,14 +110,36 @@ pub(crate) fn take_each<R: Wait>(
     rt: &R,
     fabric: &mut Fabric,
     station: &Station,
+    was_blocked: bool,
 ) -> Result<bool, NoMemory>
     ensures made { IfOk result (λ moved. Sweeps (map (taking station.now) classes) fabric.old moved fabric.new) }
     ensures cut_short { OnErr result (CutShort (map (taking station.now) classes) fabric.old fabric.new) }
 {
     let mut leaving = fabric.leaving(station);
-    let posted = take_leaving(rt, fabric, station, Class::Posted, &mut leaving)?;
-    let non_posted = take_leaving(rt, fabric, station, Class::NonPosted, &mut leaving)?;
-    let completion = take_leaving(rt, fabric, station, Class::Completion, &mut leaving)?;
+    let posted = take_leaving(
+        rt,
+        fabric,
+        station,
+        was_blocked,
+        Class::Posted,
+        &mut leaving,
+    )?;
+    let non_posted = take_leaving(
+        rt,
+        fabric,
+        station,
+        was_blocked,
+        Class::NonPosted,
+        &mut leaving,
+    )?;
+    let completion = take_leaving(
+        rt,
+        fabric,
+        station,
+        was_blocked,
+        Class::Completion,
+        &mut leaving,
+    )?;
     Ok(posted | non_posted | completion)
 }
 
@@ -133,7 +171,7 @@ fn visit<R: Wait>(rt: &R, fabric: &mut Fabric, station: &Station) -> Result<bool
     if fabric.is_quiet(station) {
         return Ok(false);
     }
-    let taken = take_each(rt, fabric, station)?;
+    let taken = take_each(rt, fabric, station, false)?;
     let others = make_others(rt, fabric, station)?;
     Ok(taken | others)
 }

@@ -43,21 +43,28 @@ fn tell<R: Wait>(rt: &R, fabric: &mut Fabric, station: &Station) -> Result<bool,
     }
 }
 
-/// Makes the events of a station in turn. What moved? Where the station is quiet nothing would, and none is tried.
-fn make_all<R: Wait>(rt: &R, fabric: &mut Fabric, station: &Station) -> Result<Moves, NoMemory>
+/// Makes the events of a station in turn. What moved? Where the station is quiet nothing would, and none is tried. Where
+/// nothing moved at the last visit it is asked first what waits for a place.
+fn make_all<R: Wait>(
+    rt: &R,
+    fabric: &mut Fabric,
+    station: &Station,
+    was_blocked: bool,
+) -> Result<Moves, NoMemory>
     ensures made { IfOk result (λ moves. IsVisit station.now fabric.old moves fabric.new) }
     ensures cut_short { OnErr result (CutShort (events_at station.now) fabric.old fabric.new) }
 {
     if fabric.is_quiet(station) {
         return Ok(Moves::NONE);
     }
-    let taken = take_each(rt, fabric, station)?;
+    let taken = take_each(rt, fabric, station, was_blocked)?;
     let received = receive(rt, fabric, station)?;
     let told = tell(rt, fabric, station)?;
     Ok(Moves {
         taken,
         received,
         told,
+        was_quiet: false,
     })
 }
 
@@ -78,7 +85,7 @@ pub(crate) fn visit<R: Wait>(
     ensures cut_short { OnErr result (CutShort (events_at stop.now.station) fabric.old fabric.new) }
     ensures asleep { AreAsleep stops.now fabric.new awake.new }
 {
-    match make_all(rt, fabric, &stop.station) {
+    match make_all(rt, fabric, &stop.station, awake.blocked[place]) {
         Ok(moves) => {
             awake.settle(stop, place, moves);
             Ok(moves.any())

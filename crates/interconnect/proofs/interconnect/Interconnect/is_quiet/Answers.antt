@@ -3,4 +3,4 @@ use Rattle.interconnect.specs.Kept.{interconnect_view}
 use Rattle.interconnect.proofs.interconnect.Interconnect.is_quiet.Goals as goal
 
 pub is_quiet_at-requires : goal.is_quiet_at-requires
-is_quiet_at-requires c = sender_there (interconnect_view c.self.inside) c.deref.result.now c.args.direction c.in-Some.end c.self.invariant c.deref.ensures.value c.in-Some.ensures
+is_quiet_at-requires c = sender_there (interconnect_view c.self.inside) c.deref.result.now c.args.direction c.in-Some.end c.self.invariant.kept c.deref.ensures.value c.in-Some.ensures

@@ -3,4 +3,4 @@ use Rattle.interconnect.specs.Kept.{interconnect_view}
 use Rattle.interconnect.proofs.interconnect.Interconnect.send.Goals as goal
 
 pub send_at-requires : goal.send_at-requires
-send_at-requires c = sender_there (interconnect_view c.self.inside) c.deref_mut.result.now c.args.direction c.in-Some.end c.self.invariant c.deref_mut.ensures.value c.in-Some.ensures
+send_at-requires c = sender_there (interconnect_view c.self.inside) c.deref_mut.result.now c.args.direction c.in-Some.end c.self.invariant.kept c.deref_mut.ensures.value c.in-Some.ensures

@@ -3,4 +3,4 @@ use Rattle.interconnect.specs.Kept.{interconnect_view}
 use Rattle.interconnect.proofs.interconnect.Interconnect.sender.Goals as goal
 
 pub returns-clause-end : goal.returns-clause-end
-returns-clause-end c = rw (← c.self.view_is) (sent_from (interconnect_view c.self.inside).tree c.args.direction c.sender.result c.self.invariant.sound c.sender.ensures)
+returns-clause-end c = rw (← c.self.view_is) (sent_from (interconnect_view c.self.inside).tree c.args.direction c.sender.result c.self.invariant.kept.sound c.sender.ensures)

@@ -1,4 +1,4 @@
-use Rattle.std.proofs.Common.{◌≡◌, ◌∙◌, List, ap, map, subst, sym}
+use Rattle.std.proofs.Common.{◌∙◌, ap, length, map, subst, sym}
 use Rattle.std.specs.Prelude.{true}
 use Rattle.fabric_core.specs.World.{World}
 use Rattle.sweeps.specs.declared.stop.Stop.{Stop}
@@ -11,6 +11,6 @@ invariant_of-result c = record {
   within = c.in_ok-stops.ensures.within;
   asleep = subst (λ (w : World). AreAsleep c.in_ok-stops.stops.items w c.in_ok-awake.awake) (sym c.in_ok-fabric.ensures.start)
       (awake_new c.in_ok-stops.stops.items c.args.layout.now c.in_ok-awake.awake c.is_guarded.result c.ports.ensures.laws c.is_guarded.ensures
-      c.in_ok-stops.ensures.wake c.in_ok-awake.ensures.may
+      c.in_ok-stops.ensures.wake c.in_ok-awake.ensures.may (c.in_ok-awake.ensures.blocked ∙ ap (length {A = Stop}) c.deref.ensures.value)
       (c.in_ok-awake.ensures.flags ∙ ap (map (λ (stop : Stop). true)) c.deref.ensures.value));
 }

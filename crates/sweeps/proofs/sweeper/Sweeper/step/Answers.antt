@@ -11,6 +11,6 @@ wake_begun-requires-clause-within g c = subst (λ (stops : List Stop). All (AreW
 pub invariant_of-self : goal.invariant_of-self
 invariant_of-self g c = record {
   within = c.self.invariant.within;
-  asleep = begun_after c.self.inside.stops.items c.self.inside.fabric c.step-outcome.new.self c.args.event.now c.step-outcome.result c.self.inside.awake c.wake_begun.new.self c.self.invariant.asleep c.step-outcome.ensures.steps c.wake_begun.ensures.may
+  asleep = begun_after c.self.inside.stops.items c.self.inside.fabric c.step-outcome.new.self c.args.event.now c.step-outcome.result c.self.inside.awake c.wake_begun.new.self c.self.invariant.asleep c.step-outcome.ensures.steps c.wake_begun.ensures.may c.wake_begun.ensures.blocked
       (subst (λ (stops : List Stop). AreWokenBy stops c.args.event.now c.self.inside.awake.flags.items c.wake_begun.new.self.flags.items) c.deref.ensures.value c.wake_begun.ensures.woken);
 }
