@@ -1,6 +1,6 @@
 //! Which packets wait at a port for a place in a lane.
 
-ghost use Rattle.std.specs.Prelude.{◌≡◌, ◌≤◌, IfOk, IfSome, IsTrue, None, length, replicate};
+ghost use Rattle.std.specs.Prelude.{◌≡◌, ◌≤◌, ◌↔◌, IfOk, IfSome, IsTrue, None, length, replicate};
 ghost use Rattle.port.specs.Courses.{course_of};
 ghost use Rattle.interconnect.specs.Views.{IsSameRest, channels};
 ghost use Rattle.interconnect.specs.Waits.{IsCourse, lane_of, waits_at};
@@ -41,25 +41,25 @@ fn lane_of(course: Forwarding) -> Option<usize>
 }
 
 fn same_parties(one: Parties, other: Parties) -> bool
-    ensures { IsTrue result → one ≡ other }
+    ensures { IsTrue result ↔ (one ≡ other) }
 {
     one == other
 }
 
 fn same_cost(one: Cost, other: Cost) -> bool
-    ensures { IsTrue result → one ≡ other }
+    ensures { IsTrue result ↔ (one ≡ other) }
 {
     one.class == other.class && one.data.get() == other.data.get()
 }
 
 fn same_header(one: Header, other: Header) -> bool
-    ensures { IsTrue result → one ≡ other }
+    ensures { IsTrue result ↔ (one ≡ other) }
 {
     one == other
 }
 
 fn same_head(one: &Head, other: &Head) -> bool
-    ensures { IsTrue result → one.now ≡ other.now }
+    ensures { IsTrue result ↔ (one.now ≡ other.now) }
 {
     same_header(one.header, other.header)
         && same_parties(one.parties, other.parties)
