@@ -14,7 +14,7 @@ use Rattle.request_handling.specs.declared.disposition.Disposition.{Disposition}
 use Rattle.request_handling.specs.Dispositions.{reply_of}
 use Rattle.domain.specs.Domains.{disposed}
 use Rattle.function.specs.declared.tags.OpenTag.{OpenTag}
-use Rattle.domain_parts.specs.Closings.{closed}
+use Rattle.function.specs.Tags.{closed}
 use Rattle.domain_parts.specs.Ends.{EffectFits, blocked, done, replied, with_access, with_added, with_stored}
 use Rattle.request_handling.specs.Emissions.{Emission}
 use Rattle.domain_parts.specs.State.{Alone, Delivery, item_at, without}

@@ -4,7 +4,8 @@ ghost use Rattle.std.specs.Prelude.{◌≡◌, ◌+◌, ◌<◌, ◌≤◌, ◌^
 ghost use Rattle.tlp_view.specs.Bytes.{packet_of};
 ghost use Rattle.domain.specs.Deliveries.{Arrivable, arrival_by, arrived, recorded, unexpected};
 ghost use Rattle.domain.specs.Receptions.{MayArrive};
-ghost use Rattle.domain_parts.specs.Closings.{closed, completed, use_of};
+ghost use Rattle.function.specs.Tags.{closed, use_of};
+ghost use Rattle.domain_parts.specs.Closings.{completed};
 ghost use Rattle.domain_parts.specs.Ends.{EffectFits, conclude, done, replied};
 ghost use Rattle.request_handling.specs.Heads.{descriptor_of};
 ghost use Rattle.request_handling.specs.Dispositions.{Suits, effect_of};
@@ -15,32 +16,32 @@ ghost use Rattle.domain_parts.specs.Tags.{is_open};
 
 use crate::deliver::{Arriving, Record};
 use crate::state::State;
-use domain_parts::{close, complete, use_of};
+use domain_parts::complete;
 use fab_types::{DomainId, NoMemory};
 use frame_log::Frame;
-use function::{Functions, OpenTag};
+use function::{Functions, OpenTags};
 use layout::Start;
 use request_handling::{Disposition, Effect, Reply};
 use std::sync::Wait;
 use tlp_view::TlpView;
 
 /// Closes the Tag that the completion names, and keeps the record of it.
-fn record(tags: &mut Vec<OpenTag>, records: &mut Vec<Record>, delivery: Record)
+fn record(tags: &mut OpenTags, records: &mut Vec<Record>, delivery: Record)
     requires is_open { is_open tags.old.items delivery.owner delivery.tag ≡ true }
     requires room { length tags.old.items + length records.old.items ≤ vec_capacity records.old }
     ensures tags { tags.new.items ≡ closed tags.old.items delivery.owner delivery.tag }
     ensures records { records.new.items ≡ records.old.items ++ delivery ∷ [] }
     ensures room { length tags.new.items + length records.new.items ≤ vec_capacity records.new }
 {
-    close(tags, delivery.owner(), delivery.tag());
+    tags.close(delivery.owner(), delivery.tag());
     records.push_reserved(delivery);
 }
 
 /// The data of a read line go to its function's page, where the completion closes that line's Tag.
-fn complete_line(functions: &mut Functions, tags: &[OpenTag], delivery: &Record)
-    ensures { functions.new ≡ completed functions.old (use_of tags.now delivery.now.owner delivery.now.tag) delivery.now.owner delivery.now.status (packet_of delivery.now.bytes).payload }
+fn complete_line(functions: &mut Functions, tags: &OpenTags, delivery: &Record)
+    ensures { functions.new ≡ completed functions.old (use_of tags.now.items delivery.now.owner delivery.now.tag) delivery.now.owner delivery.now.status (packet_of delivery.now.bytes).payload }
 {
-    let usage = use_of(tags, delivery.owner(), delivery.tag());
+    let usage = tags.use_of(delivery.owner(), delivery.tag());
     let view = TlpView::again(delivery.bytes());
     complete(
         functions,
@@ -101,12 +102,12 @@ impl State {
         ensures sent { IfOk result (λ sent. (e : Emission) → item_at self.old.flight number ≡ Some e → sent ≡ option_map (descriptor_of start.now.domain (length self.old.flight)) (disposed start.now self.old e disposition).reply) }
         ensures err { OnErr result ((self.new ≡ self.old) × ((e : Emission) → item_at self.old.flight number ≡ Some e → IsSome (disposed start.now self.old e disposition).reply)) }
     {
-        if !disposition.may_answer() {
-            return Ok(None);
-        }
         let Some((_, bytes)) = self.flight.item(number) else {
             unreachable!();
         };
+        if !disposition.may_answer(bytes) {
+            return Ok(None);
+        }
         let (memory, registers) = (&self.contents.memory, &self.contents.registers);
         let reply = disposition.reply(start, memory, registers, bytes);
         self.send(rt, start.domain(), reply)

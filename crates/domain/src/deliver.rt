@@ -7,7 +7,7 @@ ghost use Rattle.domain.specs.Deliveries.{arrival_by, arrival_for, arriving_at, 
 use crate::copies::copied;
 use arrayvec::ArrayVec;
 use fab_types::{Answerer, Origin, Status};
-use function::{OpenTag, is_open};
+use function::OpenTags;
 use std::marker::Model;
 use tlp_view::TlpView;
 
@@ -110,23 +110,23 @@ fn is_port(answerer: Answerer) -> bool
     matches!(answerer, Answerer::Port)
 }
 
-fn is_awaited(tags: &[OpenTag], answerer: Answerer, owner: Origin, view: &TlpView) -> bool
-    ensures { result ≡ is_awaited tags.now answerer owner view.now }
+fn is_awaited(tags: &OpenTags, answerer: Answerer, owner: Origin, view: &TlpView) -> bool
+    ensures { result ≡ is_awaited tags.now.items answerer owner view.now }
 {
     let same = owner;
     let addressee = same.id();
-    is_open(tags, owner, view.tag()) && (is_port(answerer) || view.requester() == addressee)
+    tags.is_open(owner, view.tag()) && (is_port(answerer) || view.requester() == addressee)
 }
 
 /// A well-formed completion of this status at this function or host.
 pub(crate) fn arriving_at(
-    tags: &[OpenTag],
+    tags: &OpenTags,
     view: &TlpView,
     answerer: Answerer,
     owner: Origin,
     status: Status,
 ) -> Arriving
-    ensures { result ≡ arriving_at tags.now view.now answerer owner status }
+    ensures { result ≡ arriving_at tags.now.items view.now answerer owner status }
 {
     let same = owner;
     let is_awaited = is_awaited(tags, answerer, same, view);
@@ -140,13 +140,13 @@ pub(crate) fn arriving_at(
 
 /// What a well-formed packet is to its addressee: nothing if it is no completion, which alone has a status.
 pub(crate) fn arriving_for(
-    tags: &[OpenTag],
+    tags: &OpenTags,
     bytes: &[u8],
     answerer: Answerer,
     addressee: Option<Origin>,
 ) -> Option<Arriving>
     requires { malformed bytes.now ≡ None }
-    ensures { option_map (λ a. arrival_by a bytes.now) result ≡ arrival_for tags.now bytes.now answerer addressee }
+    ensures { option_map (λ a. arrival_by a bytes.now) result ≡ arrival_for tags.now.items bytes.now answerer addressee }
 {
     let owner = addressee?;
     let view = TlpView::again(bytes);

@@ -13,7 +13,7 @@ use crate::state::State;
 use domain_parts::Counts;
 use fab_types::{Bdf, NoMemory};
 use frame_log::Log;
-use function::OpenTag;
+use function::OpenTags;
 use host_table::HostTable;
 use layout::Start;
 use std::alloc::Global;
@@ -130,9 +130,9 @@ impl Domain {
         self.state.records()
     }
 
-    /// The Tags that wait for a completion, in the order in which they were opened.
-    pub fn open_tags(&self) -> &[OpenTag]
-        ensures { result.now ≡ self.now.state.open_tags }
+    /// The Tags that wait for a completion.
+    pub fn open_tags(&self) -> &OpenTags
+        ensures { result.now.items ≡ self.now.state.open_tags }
     {
         self.state.open_tags()
     }

@@ -26,7 +26,7 @@ pub use deliver::Record;
 pub use domain::Domain;
 pub use domain_parts::Counts;
 pub use entry::Entry;
-pub use function::{OpenTag, TagUse};
+pub use function::{OpenTag, OpenTags, TagUse};
 pub use laws::{
     begins_bound_what_is_emitted, emissions_are_consumed_once, equal_journals_leave_equal_states,
     guarded_journals_have_no_alien_entry, order_is_kept_entry_by_entry,

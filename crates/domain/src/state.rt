@@ -2,7 +2,7 @@
 
 ghost use Rattle.std.specs.Prelude.{◌≡◌, ◌≤◌, ◌-◌, ℕ, List, length, IfOk, IfSome, MatchOption, None, Some, option_map, slice_get};
 ghost use Rattle.std.specs.Option.{option_copied};
-ghost use Rattle.function.specs.Plans.{PlanFits, plan_of};
+ghost use Rattle.function.specs.Plans.{OpensLineTag, PlanFits, plan_of};
 ghost use Rattle.host_memory.specs.Pages.{page_of};
 ghost use Rattle.domain.specs.Deliveries.{Arrivable, arrival};
 ghost use Rattle.domain_parts.specs.State.{item_at, start_state};
@@ -12,7 +12,7 @@ use crate::deliver::{Arriving, Record, arriving_for};
 use domain_parts::{Contents, Counts, Flight, first_registers, planned, register_page};
 use fab_types::{Bdf, NoMemory, Parties};
 use frame_log::Log;
-use function::{Functions, OpenTag, Plan};
+use function::{Functions, OpenTags, Plan};
 use host_memory::HostMemory;
 use layout::Start;
 use std::alloc::Global;
@@ -23,7 +23,7 @@ use std::sync::Arc;
 #[derive(Drop)]
 pub(crate) struct State {
     pub(crate) contents: Contents,
-    pub(crate) open_tags: Vec<OpenTag>,
+    pub(crate) open_tags: OpenTags,
     pub(crate) records: Vec<Record>,
     pub(crate) flight: Flight,
 }
@@ -57,7 +57,7 @@ impl State {
                     unexpected: 0,
                 },
             },
-            open_tags: Vec::new(alloc),
+            open_tags: OpenTags::new(alloc)?,
             records: Vec::with_capacity(alloc, start.budget() as usize)?,
             flight: Flight::new(alloc, room, log)?,
         })
@@ -76,8 +76,8 @@ impl State {
         self.contents.counts
     }
 
-    pub(crate) fn open_tags(&self) -> &[OpenTag]
-        ensures { result.now ≡ self.now.open_tags }
+    pub(crate) fn open_tags(&self) -> &OpenTags
+        ensures { result.now.items ≡ self.now.open_tags }
     {
         &self.open_tags
     }
@@ -145,6 +145,7 @@ impl State {
     pub(crate) fn planned(&self, function: Bdf) -> Option<Plan>
         ensures value { result ≡ option_map (λ page. plan_of function page self.now.open_tags) (page_of self.now.registers function) }
         ensures fits { IfSome result (λ plan. (page : List ℕ) → page_of self.now.registers function ≡ Some page → PlanFits plan page) }
+        ensures tag { IfSome result OpensLineTag }
     {
         planned(&self.contents.registers, function, &self.open_tags)
     }

@@ -13,7 +13,6 @@ use crate::entry::Entry;
 use domain_parts::{completes, tag_to_open};
 use fab_types::{Bdf, Origin, PacketBytes, SubmitFault};
 use frame_log::Frame;
-use function::is_open;
 use std::sync::Wait;
 use tlp_view::ReadPacket;
 
@@ -26,7 +25,10 @@ impl Domain {
         ensures { result ≡ opens_tag packet.now && is_open self.now.state.open_tags (Function function) (packet_of packet.now).tag }
     {
         match tag_to_open(packet) {
-            Some(tag) => is_open(self.state.open_tags(), Origin::Function(function), tag),
+            Some(tag) => self
+                .state
+                .open_tags()
+                .is_open(Origin::Function(function), tag),
             None => false,
         }
     }

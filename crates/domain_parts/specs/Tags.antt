@@ -10,7 +10,7 @@ use Rattle.tlp_view.specs.Malformed.{malformed}
 use Rattle.function.specs.declared.tags.OpenTag.{OpenTag}
 use Rattle.function.specs.declared.tags.TagUse.TheVariants.{Raw}
 pub use Rattle.fab_types.specs.Origins.{same_origin}
-pub use Rattle.function.specs.Tags.{is_open}
+pub use Rattle.function.specs.Tags.{is_open, and_open}
 
 abbrev pub is_non_posted : Class → Bool
 is_non_posted Posted = false
@@ -36,11 +36,11 @@ completes bytes = is_completion_unless (malformed bytes) bytes
 -- the open Tags with one more, if one is opened
 abbrev pub and_opened : List OpenTag → Option OpenTag → List OpenTag
 and_opened tags None = tags
-and_opened tags (Some opened) = tags ++ opened ∷ []
+and_opened tags (Some opened) = and_open tags opened
 
 -- the open Tags after a function submitted these bytes
 abbrev pub opened : List OpenTag → ℕ → List ℕ → List OpenTag
 opened tags function bytes =
     if opens_tag bytes
-    then tags ++ record { owner = Function function; tag = (packet_of bytes).tag; usage = Raw } ∷ []
+    then and_open tags (record { owner = Function function; tag = (packet_of bytes).tag; usage = Raw })
     else tags

@@ -7,7 +7,7 @@ ghost use Rattle.request_handling.specs.Answers.{page_at};
 ghost use Rattle.domain_parts.specs.HostAccesses.{free_host_tag, head_for, host_request, is_in_page, opened_for, size_of, tag_for};
 
 use fab_types::{AddressType, DomainId, Operation, Origin};
-use function::{OpenTag, TagUse, is_open};
+use function::{OpenTag, OpenTags, TagUse};
 use tlp_view::{Attributes, Enables, RequestBuf, RequestHead};
 
 /// How many Tags a host has, from 0 on (PCIe 4.0, 2.2.6.2).
@@ -33,15 +33,15 @@ pub fn is_in_page(offset: u16, size: u64) -> bool
 
 /// The lowest of the host's Tags that isn't open.
 #[tactic(auto, unfolding(crate::specs::HostAccesses::free_host_tag))]
-fn free_host_tag(open_tags: &[OpenTag], domain: DomainId) -> Option<u8>
-    ensures { result ≡ free_host_tag open_tags.now domain }
+fn free_host_tag(open_tags: &OpenTags, domain: DomainId) -> Option<u8>
+    ensures { result ≡ free_host_tag open_tags.now.items domain }
 {
-    (0..HOST_TAGS).find(|tag| !is_open(open_tags, Origin::Host(domain), *tag))
+    (0..HOST_TAGS).find(|tag| !open_tags.is_open(Origin::Host(domain), *tag))
 }
 
 /// The Tag of the request, if it needs none or one is free.
-pub fn tag_for(open_tags: &[OpenTag], domain: DomainId, operation: &Operation) -> Option<u8>
-    ensures { result ≡ tag_for open_tags.now domain operation.now }
+pub fn tag_for(open_tags: &OpenTags, domain: DomainId, operation: &Operation) -> Option<u8>
+    ensures { result ≡ tag_for open_tags.now.items domain operation.now }
 {
     match operation {
         Operation::Read(_) => free_host_tag(open_tags, domain),

@@ -16,4 +16,4 @@ pub use flight::Flight;
 pub use host_requests::{host_request, is_in_page, opened_for, register_address, size_of, tag_for};
 pub use registers::{complete, first_registers, perform, planned, register_page};
 pub use same::{same_access, same_bytes, same_parties, same_place};
-pub use tags::{close, completes, tag_to_open, use_of};
+pub use tags::{completes, tag_to_open};

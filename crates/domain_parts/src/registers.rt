@@ -1,7 +1,7 @@
 //! The functions of a domain, and their register pages.
 
 ghost use Rattle.std.specs.Prelude.{◌≡◌, ◌==◌, ℕ, List, [], Some, IfOk, IfSome, option_map, slice_index_or};
-ghost use Rattle.function.specs.Plans.{PlanFits, page_after, plan_of};
+ghost use Rattle.function.specs.Plans.{OpensLineTag, PlanFits, page_after, plan_of};
 ghost use Rattle.std.specs.List.{position};
 ghost use Rattle.std.specs.Option.{option_copied};
 ghost use Rattle.fab_types.specs.declared.origin.Origin.{Origin};
@@ -12,7 +12,7 @@ ghost use Rattle.domain_parts.specs.RegisterPages.{changed};
 ghost use Rattle.domain_parts.specs.State.{first_registers};
 
 use fab_types::{Bdf, NoMemory, Origin, Status};
-use function::{Function, Functions, OpenTag, Plan, TagUse};
+use function::{Function, Functions, OpenTag, OpenTags, Plan, TagUse};
 use layout::Start;
 use request_handling::place;
 use std::alloc::Global;
@@ -86,9 +86,10 @@ fn complete_at(
 }
 
 /// What the next tick of this function does, with these Tags open.
-pub fn planned(functions: &Functions, id: Bdf, open_tags: &[OpenTag]) -> Option<Plan>
-    ensures value { result ≡ option_map (λ page. plan_of id page open_tags.now) (page_of functions.now id) }
+pub fn planned(functions: &Functions, id: Bdf, open_tags: &OpenTags) -> Option<Plan>
+    ensures value { result ≡ option_map (λ page. plan_of id page open_tags.now.items) (page_of functions.now id) }
     ensures fits { IfSome result (λ plan. (page : List ℕ) → page_of functions.now id ≡ Some page → PlanFits plan page) }
+    ensures tag { IfSome result OpensLineTag }
 {
     match place(functions, id) {
         Some(at) => Some(functions.as_slice()[at].planned(open_tags)),

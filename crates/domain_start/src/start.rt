@@ -24,7 +24,7 @@ pub struct Grant {
     pub maps: Vec<Mapping>,
 }
 
-/// What a domain starts from: its grant, and all switches, ports and functions of the layout.
+/// What a domain starts from: its grant, and the layout's switches, ports and functions.
 #[derive(Drop)]
 pub struct Start {
     domain: DomainId,

@@ -6,4 +6,7 @@ pub mod Fixed
 pub mod LowestTag
 pub mod Kept
 pub mod FirstPlaces
+pub mod Numbers
+pub mod LineTags
+pub mod OneNumber
 mod Examples

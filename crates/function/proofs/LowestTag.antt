@@ -1,5 +1,5 @@
 -- The Tag of a read line is the lowest that is free.
-use Rattle.std.proofs.Common.{◌≡◌, ℕ, ◌+◌, ◌<◌, Bool, true, false, not, cond, List, [], ◌∷◌, Option, Some, None, refl, below_more, arith}
+use Rattle.std.proofs.Common.{◌≡◌, ℕ, ◌+◌, ◌<◌, Bool, true, false, not, cond, List, [], ◌∷◌, Option, Some, None, refl, sym, subst, below_more, arith}
 use Rattle.std.specs.List.{find}
 use Rattle.fab_types.specs.declared.origin.Origin.TheVariants.{Function}
 use Rattle.function.specs.declared.tags.OpenTag.{OpenTag}
@@ -33,3 +33,6 @@ lowest_is tags function (Some tag) h = h
 pub free_tag-lowest : (tags : List OpenTag) (function : ℕ) → IsLowest tags function (free_tag tags function)
 unfolding free_tag
 free_tag-lowest tags function = lowest_is tags function _ (lowest (λ tag. is_open tags (Function function) tag))
+
+pub free_tag-below : (tags : List OpenTag) (function tag : ℕ) → Some tag ≡ free_tag tags function → tag < 8
+free_tag-below tags function tag is = (subst (IsLowest tags function) (sym is) (free_tag-lowest tags function)).0

@@ -7,3 +7,4 @@ pub mod Accesses
 pub mod Pages
 pub mod Laws
 pub mod Functions
+pub mod OpenTags

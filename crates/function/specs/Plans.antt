@@ -1,5 +1,5 @@
 -- A tick of a function: what it does, from the page and the open Tags alone. This is the project's own.
-use Rattle.std.specs.Prelude.{◌≡◌, ℕ, ◌+◌, ◌==◌, List, Option, Some, None, slice_set, if◌then◌else◌}
+use Rattle.std.specs.Prelude.{◌≡◌, ◌<◌, ℕ, ◌+◌, ◌==◌, true, List, Option, Some, None, IfSome, slice_set, if◌then◌else◌}
 use Rattle.fab_types.specs.declared.origin.Origin.TheVariants.{Function}
 use Rattle.function.specs.declared.line.Operation.{Operation}
 use Rattle.function.specs.declared.line.Operation.TheVariants.{Halt as HaltLine, Write, Read, Fence, Unknown}
@@ -11,7 +11,7 @@ use Rattle.function.specs.declared.plan.Tick.TheVariants.{Nothing as Nothing_don
 use Rattle.function.specs.declared.tags.OpenTag.{OpenTag}
 use Rattle.function.specs.declared.tags.TagUse.TheVariants.{Line}
 use Rattle.function.specs.Registers.{status_of, counter_of, with_status}
-use Rattle.function.specs.Tags.{awaits_line, free_tag}
+use Rattle.function.specs.Tags.{awaits_line, free_tag, is_line}
 use Rattle.function.specs.Program.{is_good, line_at, read_of, write_of}
 
 abbrev pub write_plan : ℕ → List ℕ → ProgramLine → Plan
@@ -73,3 +73,11 @@ PlanFits Halt page = Unit {0}
 PlanFits Fault page = Unit {0}
 PlanFits Pass page = status_of page ≡ 1
 PlanFits (Emit packet opened) page = status_of page ≡ 1
+
+-- a Tag that is opened for a read line is one of the numbers 0 to 7
+abbrev pub OpensLineTag : Plan → Type 0
+OpensLineTag Nothing = Unit {0}
+OpensLineTag Halt = Unit {0}
+OpensLineTag Fault = Unit {0}
+OpensLineTag Pass = Unit {0}
+OpensLineTag (Emit packet opened) = IfSome opened (λ open_tag. is_line open_tag.usage ≡ true → open_tag.tag < 8)

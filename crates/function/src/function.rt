@@ -2,11 +2,12 @@
 
 ghost use Rattle.std.specs.Prelude.{◌≡◌, IfOk, length, vec_len};
 ghost use Rattle.function.specs.Registers.{first_page};
-ghost use Rattle.function.specs.Plans.{page_after, plan_of, tick_of, PlanFits};
+ghost use Rattle.function.specs.Plans.{page_after, plan_of, tick_of, OpensLineTag, PlanFits};
 ghost use Rattle.function.specs.Closings.{closed_by};
 ghost use Rattle.function.specs.Accesses.{accessed, answer, IsAccess};
 
 use crate::buffer::close;
+use crate::open_tags::OpenTags;
 use crate::plan::{Plan, Tick, advance, plan_of};
 use crate::reads::{completion_of, place_of};
 use crate::registers::{FAULT, HALTED, PAGE, STATUS, write_page};
@@ -73,9 +74,10 @@ impl Function {
     }
 
     /// What the next tick does, with these Tags open.
-    pub fn planned(&self, open_tags: &[OpenTag]) -> Plan
-        ensures value { result ≡ plan_of self.now.0 self.now.1 open_tags.now }
+    pub fn planned(&self, open_tags: &OpenTags) -> Plan
+        ensures value { result ≡ plan_of self.now.0 self.now.1 open_tags.now.items }
         ensures fits { PlanFits result self.now.1 }
+        ensures tag { OpensLineTag result }
     {
         plan_of(self.id, &self.bytes, open_tags)
     }
@@ -94,9 +96,9 @@ impl Function {
     }
 
     /// One tick of the program, with these Tags open.
-    pub fn tick(&mut self, open_tags: &[OpenTag]) -> Tick
-        ensures page { self.new ≡ (self.old.0, page_after (plan_of self.old.0 self.old.1 open_tags.now) self.old.1) }
-        ensures sent { result ≡ tick_of (plan_of self.old.0 self.old.1 open_tags.now) }
+    pub fn tick(&mut self, open_tags: &OpenTags) -> Tick
+        ensures page { self.new ≡ (self.old.0, page_after (plan_of self.old.0 self.old.1 open_tags.now.items) self.old.1) }
+        ensures sent { result ≡ tick_of (plan_of self.old.0 self.old.1 open_tags.now.items) }
     {
         let plan = self.planned(open_tags);
         self.perform(&plan);
@@ -119,6 +121,16 @@ impl Function {
         }
     }
 
+    /// Does to the page what the request says. A read leaves it as it is.
+    pub(crate) fn change(&mut self, request: &TlpView)
+        requires { IsAccess request.now }
+        ensures { self.new ≡ (self.old.0, accessed self.old.1 request.now) }
+    {
+        if matches!(request.kind(), Kind::MWr) {
+            write_page(&mut self.bytes, place_of(request), request);
+        }
+    }
+
     /// A memory write to the page, or a read of it, which is answered.
     /// A read is of at most 64 DW. The address counts modulo 4,096.
     pub fn access(&mut self, request: &TlpView) -> Option<CplBuf>
@@ -127,9 +139,7 @@ impl Function {
         ensures answer { result ≡ answer self.old.0 self.old.1 request.now }
     {
         let answer = self.answer(request);
-        if matches!(request.kind(), Kind::MWr) {
-            write_page(&mut self.bytes, place_of(request), request);
-        }
+        self.change(request);
         answer
     }
 

@@ -104,7 +104,7 @@ impl Functions {
         requires access { IsAccess request.now }
         ensures { self.new ≡ with_page self.old at (accessed (page_at self.old at) request.now) }
     {
-        let _ = self.functions[at].access(request);
+        self.functions[at].change(request);
     }
 
     /// A tick with this plan of the function at this place.

@@ -2,11 +2,12 @@
 
 ghost use Rattle.std.specs.Prelude.{◌≡◌, ◌<◌, length};
 ghost use Rattle.function.specs.Registers.{status_of, counter_of};
-ghost use Rattle.function.specs.Plans.{advanced, plan_of, line_plan, write_plan, read_plan, fence_plan, PlanFits};
+ghost use Rattle.function.specs.Plans.{advanced, plan_of, line_plan, write_plan, read_plan, fence_plan, OpensLineTag, PlanFits};
 
 use crate::line::{Operation, ProgramLine, is_good, line_at, read_of, write_of};
+use crate::open_tags::OpenTags;
 use crate::registers::{HALTED, PC, RUNNING, STATUS};
-use crate::tags::{OpenTag, TagUse, awaits_line, free_tag};
+use crate::tags::{OpenTag, TagUse};
 use fab_types::{Bdf, Origin};
 use tlp_view::RequestBuf;
 
@@ -45,13 +46,14 @@ fn write_plan(id: Bdf, page: &[u8], line: ProgramLine) -> Plan
     }
 }
 
-fn read_plan(id: Bdf, open_tags: &[OpenTag], line: ProgramLine) -> Plan
-    ensures { result ≡ read_plan id open_tags.now line }
+fn read_plan(id: Bdf, open_tags: &OpenTags, line: ProgramLine) -> Plan
+    ensures value { result ≡ read_plan id open_tags.now.items line }
+    ensures tag { OpensLineTag result }
 {
     if !is_good(line) {
         return Plan::Fault;
     }
-    match free_tag(open_tags, id) {
+    match open_tags.free_tag(id) {
         Some(tag) => {
             let opened = OpenTag {
                 owner: Origin::Function(id),
@@ -64,19 +66,20 @@ fn read_plan(id: Bdf, open_tags: &[OpenTag], line: ProgramLine) -> Plan
     }
 }
 
-fn fence_plan(id: Bdf, open_tags: &[OpenTag]) -> Plan
-    ensures { result ≡ fence_plan id open_tags.now }
+fn fence_plan(id: Bdf, open_tags: &OpenTags) -> Plan
+    ensures { result ≡ fence_plan id open_tags.now.items }
 {
-    if awaits_line(open_tags, id) {
+    if open_tags.awaits_line(id) {
         Plan::Nothing
     } else {
         Plan::Pass
     }
 }
 
-fn line_plan(id: Bdf, page: &[u8], open_tags: &[OpenTag], line: ProgramLine) -> Plan
+fn line_plan(id: Bdf, page: &[u8], open_tags: &OpenTags, line: ProgramLine) -> Plan
     requires { length page.now ≡ 4096 }
-    ensures { result ≡ line_plan id page.now open_tags.now line }
+    ensures value { result ≡ line_plan id page.now open_tags.now.items line }
+    ensures tag { OpensLineTag result }
 {
     match line.operation {
         Operation::Halt => Plan::Halt,
@@ -88,11 +91,12 @@ fn line_plan(id: Bdf, page: &[u8], open_tags: &[OpenTag], line: ProgramLine) -> 
 }
 
 /// What a tick of the function with this page does.
-pub(crate) fn plan_of(id: Bdf, page: &[u8], open_tags: &[OpenTag]) -> Plan
+pub(crate) fn plan_of(id: Bdf, page: &[u8], open_tags: &OpenTags) -> Plan
     requires size { length page.now ≡ 4096 }
     requires runs { status_of page.now ≡ 1 → counter_of page.now < 16 }
-    ensures value { result ≡ plan_of id page.now open_tags.now }
+    ensures value { result ≡ plan_of id page.now open_tags.now.items }
     ensures fits { PlanFits result page.now }
+    ensures tag { OpensLineTag result }
 {
     if page[STATUS] == RUNNING {
         line_plan(id, page, open_tags, line_at(page, usize::from(page[PC])))

@@ -1,10 +1,9 @@
 //! Tags that wait for completions.
 
-ghost use Rattle.std.specs.Prelude.{◌≡◌, ◌==◌, ◌&&◌};
-ghost use Rattle.fab_types.specs.Origins.{same_origin};
-ghost use Rattle.function.specs.Tags.{awaits_line, free_tag, is_line, is_open};
+ghost use Rattle.std.specs.Prelude.{◌≡◌};
+ghost use Rattle.function.specs.Tags.{is_line};
 
-use fab_types::{Bdf, Origin, same_origin};
+use fab_types::Origin;
 
 /// What a Tag was opened for.
 #[derive(Clone, Copy, Debug, PartialEq, Eq)]
@@ -28,47 +27,14 @@ pub struct OpenTag {
     pub usage: TagUse,
 }
 
-impl OpenTag {
-    /// Is it this Tag of this owner?
-    pub fn is_of(&self, owner: Origin, tag: u8) -> bool
-        ensures { result ≡ (same_origin self.now.owner owner && (self.now.tag == tag)) }
+impl TagUse {
+    /// Was it opened by a read line?
+    pub(crate) fn is_line(self) -> bool
+        ensures { result ≡ is_line self }
     {
-        // (the number first, which tells most of a domain's Tags apart)
-        self.tag == tag && same_origin(self.owner, owner)
+        match self {
+            TagUse::Raw => false,
+            TagUse::Line(_, _) => true,
+        }
     }
-}
-
-/// Does this owner have this Tag open?
-pub fn is_open(tags: &[OpenTag], owner: Origin, tag: u8) -> bool
-    ensures { result ≡ is_open tags.now owner tag }
-{
-    tags.iter().any(|open| open.is_of(owner, tag))
-}
-
-fn is_line(usage: TagUse) -> bool
-    ensures { result ≡ is_line usage }
-{
-    match usage {
-        TagUse::Raw => false,
-        TagUse::Line(_, _) => true,
-    }
-}
-
-/// Does a read line of this function's program await its data?
-pub(crate) fn awaits_line(tags: &[OpenTag], function: Bdf) -> bool
-    ensures { result ≡ awaits_line tags.now function }
-{
-    tags.iter().any(|open| same_origin(open.owner, Origin::Function(function))
-        && is_line(open.usage))
-}
-
-/// The lowest of the Tags of read lines that the function doesn't have open.
-#[tactic(auto, unfolding(crate::specs::Tags::free_tag))]
-pub(crate) fn free_tag(tags: &[OpenTag], function: Bdf) -> Option<u8>
-    ensures { result ≡ free_tag tags.now function }
-{
-    [0, 1, 2, 3, 4, 5, 6, 7]
-        .iter()
-        .copied()
-        .find(|tag| !is_open(tags, Origin::Function(function), *tag))
 }

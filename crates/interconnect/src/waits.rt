@@ -90,7 +90,7 @@ fn lane_for(
 }
 
 impl Interconnect {
-    /// Does the eligible packet of a class that came into this port wait for a place?
+    /// Does a class's eligible packet that came into this port wait for a place?
     /// It goes on by a lane of the port's switch, and that has none for its class. Not so where the port stops the packet or
     /// has no case for it, where no packet is eligible, and where there is no such port or nothing comes into it.
     pub fn waits(&mut self, id: PortId, class: Class) -> bool

@@ -14,4 +14,5 @@ pub mod MapsOnce
 pub mod Keeping
 pub mod Places
 pub mod Ranges
+pub mod MapLines
 pub mod Reached

@@ -11,7 +11,7 @@ platform_of s = record {
   switches = s.switches.items;
   ports = s.ports.items;
   functions = s.functions.items;
-  maps = s.maps.items;
+  maps = s.maps;
   budgets = s.budgets.items;
   credits = s.credits.items;
 }

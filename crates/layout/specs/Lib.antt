@@ -6,3 +6,4 @@ pub mod Laws
 pub mod Places
 pub mod Layouts
 pub use Rattle.layout_line.specs.LayoutLines
+pub mod MapLines

@@ -1,12 +1,12 @@
 //! A platform, as the lines of a layout say it.
 
-ghost use Rattle.std.specs.Prelude.{◌≡◌, true};
+ghost use Rattle.std.specs.Prelude.{◌≡◌, IfOk, true};
 ghost use Rattle.std.specs.List.{list_all};
 ghost use Rattle.platform.specs.Platform.{no_lines};
 
-use platform::{
-    BudgetLine, CreditLine, DownstreamPort, EndpointFunction, LayoutVersion, Mapping, Switch,
-};
+use crate::map_lines::MapLines;
+use fab_types::NoMemory;
+use platform::{BudgetLine, CreditLine, DownstreamPort, EndpointFunction, LayoutVersion, Switch};
 use std::alloc::Global;
 use std::marker::Model;
 
@@ -19,7 +19,7 @@ pub struct Layout {
     pub(crate) switches: Vec<Switch>,
     pub(crate) ports: Vec<DownstreamPort>,
     pub(crate) functions: Vec<EndpointFunction>,
-    pub(crate) maps: Vec<Mapping>,
+    pub(crate) maps: MapLines,
     pub(crate) budgets: Vec<BudgetLine>,
     pub(crate) credits: Vec<CreditLine>,
 }
@@ -40,20 +40,20 @@ impl Layout {
     ghost use Rattle.layout.specs.Laws.{IsPlatform, is_good_budget};
     ghost use Rattle.layout.specs.Places.{IsWellPlaced};
 
-    /// The platform of no lines, in a text of this version.
-    pub(crate) fn empty(alloc: Global, version: LayoutVersion) -> Layout
-        ensures { result ≡ no_lines version }
+    /// The platform of no lines, in a text of this version. It answers `NoMemory` where memory was refused.
+    pub(crate) fn empty(alloc: Global, version: LayoutVersion) -> Result<Layout, NoMemory>
+        ensures { IfOk result (λ layout. layout ≡ no_lines version) }
     {
-        Layout {
+        Ok(Layout {
             version,
             frames: 0,
             switches: Vec::new(alloc),
             ports: Vec::new(alloc),
             functions: Vec::new(alloc),
-            maps: Vec::new(alloc),
+            maps: MapLines::new(alloc)?,
             budgets: Vec::new(alloc),
             credits: Vec::new(alloc),
-        }
+        })
     }
 
     /// The version that the first line says.
@@ -97,9 +97,10 @@ impl Layout {
         &self.functions
     }
 
-    /// All mappings, in the order of their lines.
-    pub(crate) fn maps(&self) -> &[Mapping]
-        ensures { result.now ≡ self.now.maps }
+    /// All mappings.
+    pub(crate) fn maps(&self) -> &MapLines
+        ensures value { result.now ≡ self.now.maps }
+        ensures laws { IsPlatform self.now }
     {
         &self.maps
     }

@@ -3,6 +3,7 @@
 
 mod additions;
 mod layout;
+mod map_lines;
 mod read;
 mod rules;
 mod views;

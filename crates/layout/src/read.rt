@@ -44,8 +44,11 @@ fn read_lines(alloc: Global, version: LayoutVersion, text: &[u8]) -> Result<Layo
     ensures laws { IfOk result (λ layout. IsPlatform layout) }
     ensures places { IfOk result (λ layout. IsWellPlaced layout) }
 {
-    let mut layout = Layout::empty(alloc, version);
     let mut line: u32 = 2;
+    let Ok(mut layout) = Layout::empty(alloc, version) else {
+        let cause = LayoutCause::NoMemory;
+        return Err(LayoutFault { cause, line });
+    };
     let mut rest = text;
     while let Some(parts) = cut(rest, b'\n') {
         if let Err(cause) = layout.take_line(parts.before) {

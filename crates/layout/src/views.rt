@@ -1,16 +1,16 @@
 //! What a platform gives: credits of a link, owners, and the share of a domain.
 
-ghost use Rattle.std.specs.Prelude.{◌≡◌, ◌≤◌, ◌==◌, IfOk, true};
+ghost use Rattle.std.specs.Prelude.{◌≡◌, ◌≤◌, ◌==◌, filter, IfOk, true};
 ghost use Rattle.std.specs.List.{find, list_all};
 ghost use Rattle.std.specs.List.Sorted.{IsStrictlyIncreasing};
 ghost use Rattle.std.specs.Option.{option_copied};
 ghost use Rattle.platform.specs.Share.{is_guarded_port};
 ghost use Rattle.platform.specs.Owners.{domain_above, owner_of};
-ghost use Rattle.layout.specs.Laws.{is_good_budget};
+ghost use Rattle.layout.specs.Laws.{each_pair, is_good_budget, share_no_frame};
 ghost use Rattle.layout.specs.Views.{usual_limits, limits_or_usual, credits_of, begins_or_usual, budget_of, is_map_of, maps_of, is_frame_of, frames_of, share_of_owner};
 
 use crate::layout::Layout;
-use crate::rules::mappings::is_mapping_of;
+use crate::map_lines::MapLines;
 use domain_start::{Grant, Start};
 use fab_types::{Bdf, DomainId, NoMemory};
 use platform::{
@@ -68,29 +68,15 @@ fn is_map_of(ports: &[DownstreamPort], domain: DomainId, line: &Mapping) -> bool
     domain_of(ports, line.requester) == domain.get()
 }
 
-fn is_frame_of(maps: &[Mapping], frame: u16) -> bool
-    ensures { result ≡ is_frame_of maps.now frame }
+/// Does a mapping of the domain lead to this frame? All that mapped it are of one domain, so the first of them tells.
+fn is_frame_of(ports: &[DownstreamPort], maps: &MapLines, domain: DomainId, frame: u16) -> bool
+    requires { each_pair (share_no_frame ports.now) maps.now ≡ true }
+    ensures { result ≡ is_frame_of (filter (is_map_of ports.now domain) maps.now) frame }
 {
-    maps.iter()
-        .any(|line| is_mapping_of(u32::from(frame), line.target))
-}
-
-fn frames_of(alloc: Global, frames: u16, maps: &[Mapping]) -> Result<Vec<u16>, NoMemory>
-    ensures { IfOk result (λ numbers. numbers.items ≡ frames_of frames maps.now) }
-{
-    Ok(
-        (0..frames)
-            .filter(|frame| is_frame_of(maps, *frame))
-            .collect(alloc)?,
-    )
-}
-
-fn rising_frames_of(alloc: Global, frames: u16, maps: &[Mapping]) -> Result<Vec<u16>, NoMemory>
-    ensures value { IfOk result (λ numbers. numbers.items ≡ frames_of frames maps.now) }
-    ensures rising { IfOk result (λ numbers. IsStrictlyIncreasing numbers.items) }
-{
-    let numbers = frames_of(alloc, frames, maps)?;
-    Ok(numbers)
+    match maps.first_of_frame(u32::from(frame)) {
+        Some(requester) => domain_of(ports, requester) == domain.get(),
+        None => false,
+    }
 }
 
 impl Layout {
@@ -136,11 +122,31 @@ impl Layout {
         let ports = self.ports();
         Ok(
             self.maps()
+                .as_slice()
                 .iter()
                 .copied()
                 .filter(|line| is_map_of(ports, domain, line))
                 .collect(alloc)?,
         )
+    }
+
+    fn frames_of(&self, alloc: Global, domain: DomainId) -> Result<Vec<u16>, NoMemory>
+        ensures { IfOk result (λ numbers. numbers.items ≡ frames_of self.now.frames (maps_of self.now domain)) }
+    {
+        let (ports, maps) = (self.ports(), self.maps());
+        Ok(
+            (0..self.frames())
+                .filter(|frame| is_frame_of(ports, maps, domain, *frame))
+                .collect(alloc)?,
+        )
+    }
+
+    fn rising_frames_of(&self, alloc: Global, domain: DomainId) -> Result<Vec<u16>, NoMemory>
+        ensures value { IfOk result (λ numbers. numbers.items ≡ frames_of self.now.frames (maps_of self.now domain)) }
+        ensures rising { IfOk result (λ numbers. IsStrictlyIncreasing numbers.items) }
+    {
+        let numbers = self.frames_of(alloc, domain)?;
+        Ok(numbers)
     }
 
     /// What a domain starts from, or none where it owns no port. Where memory was refused, it answers
@@ -152,7 +158,7 @@ impl Layout {
             return Ok(None);
         }
         let maps = self.maps_of(alloc, domain)?;
-        let frames = rising_frames_of(alloc, self.frames(), &maps)?;
+        let frames = self.rising_frames_of(alloc, domain)?;
         let grant = Grant {
             budget: self.budget(domain),
             frames,

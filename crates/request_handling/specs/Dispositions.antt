@@ -1,5 +1,5 @@
 -- What is done about a packet that ends, by what its taker decided (PCIe 4.0, 2.3).
-use Rattle.std.specs.Prelude.{◌≡◌, Bool, true, false, ℕ, ◌≤◌, List, Option, Some, None}
+use Rattle.std.specs.Prelude.{◌≡◌, Bool, true, false, not, ℕ, ◌≤◌, List, Option, Some, None}
 use Rattle.function.specs.Accesses.{IsAccess}
 use Rattle.host_memory.specs.Pages.{page_of}
 use Rattle.platform.specs.Share.{Share}
@@ -7,6 +7,7 @@ use Rattle.tlp_view.specs.Bytes.{packet_of}
 use Rattle.tlp_view.specs.Kinds.{is_fetch_add}
 use Rattle.tlp_view.specs.Malformed.{malformed}
 use Rattle.tlp_view.specs.Packet.{Packet, dw_count}
+use Rattle.tlp_view.specs.Runs.{is_write}
 use Rattle.tlp_view.specs.declared.kind.Kind.TheVariants.{MRd}
 use Rattle.request_handling.specs.declared.disposition.Disposition.{Disposition}
 use Rattle.request_handling.specs.declared.disposition.Disposition.TheVariants.{Discarded, RefusedByPort, RefusedByHost, RefusedByFunction, Blocked, BlockedAndRefused, Stored, Shown, Added, Forwarded, Accessed}
@@ -35,19 +36,19 @@ effect_of (Added k first) = Add k first
 effect_of (Forwarded function bar) = Leave
 effect_of (Accessed function) = Access function
 
--- may something answer it?
-abbrev pub may_answer : Disposition → Bool
-may_answer Discarded = false
-may_answer (RefusedByPort port function status) = true
-may_answer RefusedByHost = true
-may_answer (RefusedByFunction function) = true
-may_answer Blocked = false
-may_answer BlockedAndRefused = true
-may_answer (Stored k first) = false
-may_answer (Shown k) = true
-may_answer (Added k first) = true
-may_answer (Forwarded function bar) = true
-may_answer (Accessed function) = true
+-- may something answer the packet? A write of a register page isn't answered
+abbrev pub may_answer : Packet → Disposition → Bool
+may_answer t Discarded = false
+may_answer t (RefusedByPort port function status) = true
+may_answer t RefusedByHost = true
+may_answer t (RefusedByFunction function) = true
+may_answer t Blocked = false
+may_answer t BlockedAndRefused = true
+may_answer t (Stored k first) = false
+may_answer t (Shown k) = true
+may_answer t (Added k first) = true
+may_answer t (Forwarded function bar) = true
+may_answer t (Accessed function) = not (is_write t.kind)
 
 -- what answers the packet
 abbrev pub reply_of : Share → List (ℕ × List ℕ) → List (ℕ × List ℕ) → Packet → Disposition → Option Emission

@@ -16,7 +16,7 @@ use fab_types::{Bdf, PortId, Status};
 use function::Functions;
 use host_memory::HostMemory;
 use layout::Start;
-use tlp_view::TlpView;
+use tlp_view::{Kind, TlpView};
 
 /// What is done about a packet that ends.
 /// It is small, and moved in place of the answer, which is made where it is sent.
@@ -77,10 +77,10 @@ impl Disposition {
         }
     }
 
-    /// May something answer the packet?
-    /// What accesses a register page may, though a write of it isn't answered.
-    pub fn may_answer(&self) -> bool
-        ensures { result ≡ may_answer self.now }
+    /// May something answer the packet? A write of a register page isn't answered.
+    pub fn may_answer(&self, bytes: &[u8]) -> bool
+        requires { Suits bytes.now self.now }
+        ensures { result ≡ may_answer (packet_of bytes.now) self.now }
     {
         match self {
             Disposition::Discarded | Disposition::Blocked | Disposition::Stored(..) => false,
@@ -90,8 +90,8 @@ impl Disposition {
             | Disposition::BlockedAndRefused
             | Disposition::Shown(_)
             | Disposition::Added(..)
-            | Disposition::Forwarded(..)
-            | Disposition::Accessed(_) => true,
+            | Disposition::Forwarded(..) => true,
+            Disposition::Accessed(_) => !matches!(TlpView::again(bytes).kind(), Kind::MWr),
         }
     }
 

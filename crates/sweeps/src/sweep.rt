@@ -72,7 +72,7 @@ fn take<R: Wait>(
 }
 
 /// Was the station blocked, and does its packet of the class wait for a place?
-fn waits_on(fabric: &mut Fabric, station: &Station, was_blocked: bool, class: Class) -> bool
+fn still_waits(fabric: &mut Fabric, station: &Station, was_blocked: bool, class: Class) -> bool
     ensures value { result ≡ (was_blocked && waits fabric.old station.now class) }
     ensures idle { result ≡ true → StepsTo fabric.old (taking station.now class) Idle fabric.old }
     ensures same { fabric.new ≡ fabric.old }
@@ -99,7 +99,7 @@ fn take_leaving<R: Wait>(
     if !leaving.has(class) {
         return Ok(false);
     }
-    if waits_on(fabric, station, was_blocked, class) {
+    if still_waits(fabric, station, was_blocked, class) {
         return Ok(false);
     }
     take(rt, fabric, station, class, leaving)

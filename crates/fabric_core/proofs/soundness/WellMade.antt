@@ -52,7 +52,8 @@ use Rattle.request_handling.specs.Answers.{address_of, answered_by, forwarded, f
 use Rattle.request_handling.specs.AtFunctions.{access_of, discarded, is_access, lies_in, or_discarded, request_at_function, unserved}
 use Rattle.request_handling.specs.Carries.{add_if, answer_refusal, carriage_by, carriage_of, forward, frame_for, is_carried, port_id, read_from, refusal_by, refusal_of, refused_by_host, serve, serve_add, serve_read, write_to}
 use Rattle.domain.specs.Deliveries.{arrival_at, arrival_of, arrived, is_awaited, recorded, unexpected}
-use Rattle.domain_parts.specs.Closings.{completed, use_of}
+use Rattle.function.specs.Tags.{use_of}
+use Rattle.domain_parts.specs.Closings.{completed}
 use Rattle.domain.specs.Domains.{DomainView}
 use Rattle.domain_parts.specs.Ends.{conclude, replied, with_access}
 use Rattle.request_handling.specs.Fates.{fate, fate_below, fate_unless, goes_to, stopped}

@@ -60,7 +60,7 @@ impl Layout {
         ensures value { result ≡ frames_fault self.now count }
         ensures small { IfNone result (count ≤ 1024) }
     {
-        if self.frames() != 0 || !self.maps().is_empty() {
+        if self.frames() != 0 || !self.maps().as_slice().is_empty() {
             return Some(LayoutCause::Line);
         }
         if !is_within(1, 1024, count) {

@@ -1,15 +1,14 @@
 //! What is wrong with a `map` line.
 
 ghost use Rattle.std.specs.Prelude.{◌≡◌, IfNone, false, true};
-ghost use Rattle.std.specs.List.{find};
-ghost use Rattle.std.specs.Option.{option_copied};
 ghost use Rattle.layout.specs.Laws.{each_pair, share_no_frame};
-ghost use Rattle.layout.specs.Rules.{is_known_target, is_past_frames, is_mapping_of, is_foreign_frame, is_foreign, is_of_requester, is_mapped, has_full_table, map_fault};
+ghost use Rattle.layout.specs.Rules.{is_known_target, is_past_frames, is_foreign_frame, is_foreign, is_of_requester, is_mapped, has_full_table, map_fault};
 
 use crate::layout::Layout;
+use crate::map_lines::MapLines;
 use fab_types::{Bdf, LayoutCause};
 use layout_line::{MapText, TargetText};
-use platform::{DownstreamPort, EndpointFunction, MapTarget, Mapping, domain_of, is_function};
+use platform::{DownstreamPort, EndpointFunction, Mapping, domain_of, is_function};
 
 fn is_known_target(functions: &[EndpointFunction], target: &TargetText) -> bool
     ensures { result ≡ is_known_target functions.now target.now }
@@ -30,34 +29,19 @@ fn is_past_frames(frames: u16, target: &TargetText) -> bool
     }
 }
 
-pub(crate) fn is_mapping_of(frame: u32, target: MapTarget) -> bool
-    ensures { result ≡ is_mapping_of frame target }
-{
-    match target {
-        MapTarget::Frame(number) => u32::from(number) == frame,
-        MapTarget::Peer(_) => false,
-    }
-}
-
-fn first_mapping(maps: &[Mapping], frame: u32) -> Option<&Mapping>
-    ensures { option_copied result ≡ find (λ line. is_mapping_of frame line.target) maps.now }
-{
-    maps.iter().find(|line| is_mapping_of(frame, line.target))
-}
-
 /// Did a function of another domain map the frame? All that mapped it are of one domain, so the first
 /// of them tells.
-fn is_foreign_frame(ports: &[DownstreamPort], maps: &[Mapping], domain: u8, frame: u32) -> bool
+fn is_foreign_frame(ports: &[DownstreamPort], maps: &MapLines, domain: u8, frame: u32) -> bool
     requires { each_pair (share_no_frame ports.now) maps.now ≡ true }
     ensures { result ≡ is_foreign_frame ports.now maps.now domain frame }
 {
-    match first_mapping(maps, frame) {
-        Some(line) => domain_of(ports, line.requester) != domain,
+    match maps.first_of_frame(frame) {
+        Some(requester) => domain_of(ports, requester) != domain,
         None => false,
     }
 }
 
-fn is_foreign(ports: &[DownstreamPort], maps: &[Mapping], domain: u8, target: &TargetText) -> bool
+fn is_foreign(ports: &[DownstreamPort], maps: &MapLines, domain: u8, target: &TargetText) -> bool
     requires { each_pair (share_no_frame ports.now) maps.now ≡ true }
     ensures { result ≡ is_foreign ports.now maps.now domain target.now }
 {
@@ -74,20 +58,32 @@ fn is_of_requester(requester: Bdf, line: &Mapping) -> bool
 }
 
 #[tactic(auto, unfolding(crate::specs::Rules::is_mapped))]
-fn is_mapped(maps: &[Mapping], requester: Bdf, page: u64) -> bool
+fn is_mapped_among(lines: &[Mapping], requester: Bdf, page: u64) -> bool
+    ensures { result ≡ is_mapped lines.now requester page }
+{
+    lines.iter().any(|line| is_of_requester(requester, line) && line.page == page)
+}
+
+fn is_mapped(maps: &MapLines, requester: Bdf, page: u64) -> bool
     ensures { result ≡ is_mapped maps.now requester page }
 {
-    maps.iter().any(|line| is_of_requester(requester, line) && line.page == page)
+    is_mapped_among(maps.on_bus(requester.bus()), requester, page)
 }
 
 #[tactic(auto, unfolding(crate::specs::Rules::has_full_table))]
-fn has_full_table(maps: &[Mapping], requester: Bdf) -> bool
-    ensures { result ≡ has_full_table maps.now requester }
+fn is_full_table(lines: &[Mapping], requester: Bdf) -> bool
+    ensures { result ≡ has_full_table lines.now requester }
 {
-    64 <= maps
+    64 <= lines
         .iter()
         .filter(|line| is_of_requester(requester, line))
         .count()
+}
+
+fn has_full_table(maps: &MapLines, requester: Bdf) -> bool
+    ensures { result ≡ has_full_table maps.now requester }
+{
+    is_full_table(maps.on_bus(requester.bus()), requester)
 }
 
 impl Layout {

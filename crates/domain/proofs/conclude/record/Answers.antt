@@ -4,5 +4,5 @@ use Rattle.domain.proofs.conclude.record.Goals as goal
 
 pub returns-clause-room : goal.returns-clause-room
 returns-clause-room c =
-    subst (λ (cap : ℕ). length c.close.new.tags.items + length c.push_reserved.new.self.items ≤ cap) (sym c.push_reserved.ensures.capacity)
+    subst (λ (cap : ℕ). length c.close.new.self.items + length c.push_reserved.new.self.items ≤ cap) (sym c.push_reserved.ensures.capacity)
     (room_recorded c.args.tags.now.items _ c.args.records.now.items _ c.args.delivery _ _ _ c.requires.is_open c.requires.room c.owner.ensures c.tag.ensures c.close.ensures c.push_reserved.ensures.items)

@@ -1,4 +1,5 @@
-use Rattle.std.proofs.Common.{sym, ◌∙◌, inl, inr, arith}
+use Rattle.std.proofs.Common.{refl, sym, ◌∙◌, inl, inr, arith}
+use Rattle.platform.specs.Platform.{no_lines}
 use Rattle.text.specs.Text.{pieces}
 use Rattle.layout.proofs.Pieces.{read-line, read-fault, read-end, reading-is}
 use Rattle.layout.proofs.Reached.{reached}
@@ -18,5 +19,8 @@ loop-parts-preserved c = record {
   small = omega (arith, c.saturating_add-line.ensures);
 }
 
+pub returns-in_default-clause-exact : goal.returns-in_default-clause-exact
+returns-in_default-clause-exact c = inl (refl, reached (no_lines c.args.version) 2 (pieces c.args.text.now) (omega arith))
+
 pub returns-clause-exact : goal.returns-clause-exact
-returns-clause-exact c = reading-is _ c.ended.result (c.loop-parts.invariant.left ∙ read-end c.loop-parts.layout c.loop-parts.line c.loop-parts.rest.now c.in_default.ensures.parts ∙ sym c.ended.ensures.value)
+returns-clause-exact c = reading-is _ c.ended.result (c.loop-parts.invariant.left ∙ read-end c.loop-parts.layout c.loop-parts.line c.loop-parts.rest.now c.in_default-cut.ensures.parts ∙ sym c.ended.ensures.value)

@@ -3,7 +3,7 @@ use Rattle.std.proofs.lemmas.List.{with_items_is}
 use Rattle.tlp_view.specs.Runs.{runs}
 use Rattle.function.specs.Pages.{Runs}
 use Rattle.function.proofs.Running.{runs_written}
-use Rattle.function.proofs.function.Function.access.Goals as goal
+use Rattle.function.proofs.function.Function.change.Goals as goal
 
 pub invariant_of-self : goal.invariant_of-self
 invariant_of-self c =
