@@ -1,15 +1,16 @@
 //! All pages of a domain.
 
 ghost use Rattle.std.specs.Prelude.{true, ◌≡◌, ◌≢◌, ℕ, ◌+◌, ◌<◌, ◌≤◌, IfOk, IfSome, IsSome, MatchOption};
-ghost use Rattle.std.specs.Prelude.{is_some, length, map, slice_index};
+ghost use Rattle.std.specs.Prelude.{is_some, length, map, None, slice_index, slice_index_or, Some, vec_capacity};
 ghost use Rattle.std.specs.List.Sorted.{IsStrictlyIncreasing};
 ghost use Rattle.std.specs.Option.{option_copied, option_copied_mut};
 ghost use Rattle.std.specs.Borrow.{sem};
 ghost use Rattle.host_memory.specs.Additions.{added, is_operand};
+ghost use Rattle.host_memory.specs.Memory.{ArePlaced, page_at};
 ghost use Rattle.host_memory.specs.Pages.{zeroed, page_of, part_of, written};
 
 use crate::addition::{sum_of_4, sum_of_8};
-use crate::page::Page;
+use crate::page::{Page, zero_bytes};
 use fab_types::NoMemory;
 use layout::Start;
 use std::alloc::Global;
@@ -21,6 +22,9 @@ use std::ops::Range;
 #[derive(Debug, Drop)]
 pub struct HostMemory {
     numbers: Vec<u16>,
+    // for each number where its page stands, once it was lent to be written; till then it is zero
+    places: Vec<Option<usize>>,
+    // with room for a page of each number
     pages: Vec<Page>,
 }
 
@@ -46,6 +50,38 @@ fn place(numbers: &[u16], frame: u16) -> Option<usize>
     numbers.binary_search(&frame).ok()
 }
 
+/// The bytes of the page at this place; zero where there is none.
+fn bytes_at(pages: &[Page], place: Option<usize>) -> &[u8]
+    requires { IfSome place (λ at. at < length pages.now) }
+    ensures value { result.now ≡ page_at pages.now place }
+    ensures size { length result.now ≡ 4096 }
+{
+    match place {
+        Some(at) => &pages[at].bytes,
+        None => zero_bytes(),
+    }
+}
+
+/// The place of the page of the number that stands here, which gets one where it has none.
+fn place_of_page(places: &mut [Option<usize>], pages: &mut Vec<Page>, at: usize) -> usize
+    requires placed { ArePlaced places.old pages.old.items (vec_capacity pages.old) }
+    requires within { at < length places.old }
+    ensures placed { ArePlaced places.new pages.new.items (vec_capacity pages.new) }
+    ensures same { map (page_at pages.new.items) places.new ≡ map (page_at pages.old.items) places.old }
+    ensures place { slice_index_or places.new at None ≡ Some result }
+    ensures as_many { length places.new ≡ length places.old }
+{
+    match places[at] {
+        Some(place) => place,
+        None => {
+            let place = pages.len();
+            pages.push_reserved(Page::zero());
+            places[at] = Some(place);
+            place
+        }
+    }
+}
+
 impl HostMemory {
     ghost use Rattle.host_memory.specs.MemoryLends.{LendsPart, LendsPartIf};
 
@@ -56,11 +92,13 @@ impl HostMemory {
     {
         let frames = start.frames();
         let numbers = Vec::from_slice(alloc, frames)?;
-        let mut pages = Vec::with_capacity(alloc, frames.len())?;
-        for _number in frames {
-            pages.push(Page::zero(alloc)?)?;
-        }
-        Ok(HostMemory { numbers, pages })
+        let places = vec![in alloc; None; frames.len()]?;
+        let pages = Vec::with_capacity(alloc, frames.len())?;
+        Ok(HostMemory {
+            numbers,
+            places,
+            pages,
+        })
     }
 
     /// The numbers of the frames, rising.
@@ -77,7 +115,7 @@ impl HostMemory {
         ensures size { IfSome result (λ page. length page.now ≡ 4096) }
     {
         match place(&self.numbers, frame) {
-            Some(at) => Some(self.pages[at].bytes()),
+            Some(at) => Some(bytes_at(&self.pages, self.places[at])),
             None => None,
         }
     }
@@ -123,7 +161,8 @@ impl HostMemory {
         ensures size { length result.now + start ≡ end }
     {
         let at = place(&self.numbers, frame).unwrap();
-        self.pages[at].part_mut(start, end)
+        let place = place_of_page(&mut self.places, &mut self.pages, at);
+        self.pages[place].part_mut(start, end)
     }
 
     /// Adds an operand of 4 or 8 bytes to the bytes from `offset` on.
