@@ -26,7 +26,7 @@ cat > "$work/crates/begins/src/main.rt" <<'PROGRAM'
 #![tactic(auto)]
 
 use domain::Domain;
-use fab_types::{Bdf, DomainId, HostAccess, Operation, PacketBytes, PortId};
+use fab_types::{Bdf, DomainId, HostAccess, NoMemory, Operation, PacketBytes, PortId};
 use frame_log::{Frame, Log};
 use layout::{Layout, Start};
 use std::alloc::{AllocError, Global};
@@ -180,12 +180,12 @@ fn program_of(
     Ok(bytes)
 }
 
-fn writing(function: Bdf, offset: u16, bytes: Vec<u8>) -> HostAccess {
-    HostAccess {
+fn writing(function: Bdf, offset: u16, bytes: Vec<u8>) -> Result<HostAccess, NoMemory> {
+    Ok(HostAccess {
         function,
         offset,
-        operation: Operation::Write(PacketBytes::from_vec(bytes)),
-    }
+        operation: Operation::Write(PacketBytes::from_vec(bytes)?),
+    })
 }
 
 fn reading(function: Bdf, count: u8) -> HostAccess {
@@ -207,18 +207,13 @@ fn scene_of(word: &str) -> Scene {
 }
 
 /// What the host reads or writes, or by which write it starts the program.
-fn access_of(
-    alloc: Global,
-    word: &str,
-    function: Bdf,
-    count: u8,
-) -> Result<HostAccess, AllocError> {
+fn access_of(alloc: Global, word: &str, function: Bdf, count: u8) -> Result<HostAccess, NoMemory> {
     match word {
         "get" => Ok(reading(function, count)),
-        "set" => Ok(writing(function, 0x400, data(alloc, count)?)),
+        "set" => writing(function, 0x400, data(alloc, count)?),
         _ => {
             let start = Vec::from_slice(alloc, &[1, 0, 0, 0])?;
-            Ok(writing(function, 0x004, start))
+            writing(function, 0x004, start)
         }
     }
 }
@@ -230,13 +225,13 @@ fn programming(
     function: Bdf,
     count: u8,
     address: u32,
-) -> Result<Option<HostAccess>, AllocError> {
+) -> Result<Option<HostAccess>, NoMemory> {
     let program = match word {
         "tick" => program_of(alloc, 1, 1, count, address)?,
         "wait" => program_of(alloc, 2, 3, count, address)?,
         _ => return Ok(None),
     };
-    Ok(Some(writing(function, 0x100, program)))
+    Ok(Some(writing(function, 0x100, program)?))
 }
 
 /// What the function submits. The first port stops a requester of bus 0.
@@ -260,7 +255,7 @@ fn actor_of(
     start: &Start,
     word: &str,
     count: u8,
-) -> Result<Option<Actor>, AllocError> {
+) -> Result<Option<Actor>, NoMemory> {
     let Some(line) = start.maps().last() else {
         return Ok(None);
     };
@@ -351,9 +346,9 @@ fn main(rt: HostRuntime) -> io::Result<()> {
     };
     let count = count.parse::<u8>().unwrap_or(1);
     let mut out = rt.stdout();
-    match actor_of(alloc, &start, word.as_str(), count)? {
-        Some(actor) => rounds(&rt, alloc, &start, &actor, &mut out),
-        None => Ok(()),
+    match actor_of(alloc, &start, word.as_str(), count) {
+        Ok(Some(actor)) => rounds(&rt, alloc, &start, &actor, &mut out),
+        Ok(None) | Err(NoMemory) => Ok(()),
     }
 }
 PROGRAM

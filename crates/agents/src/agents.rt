@@ -16,8 +16,8 @@ ghost use Rattle.agents.specs.Agents.{AreFound, AreReplayed, accessed, carried_a
 use domain::{Domain, Record};
 use domains::Domains;
 use fab_types::{
-    Bdf, Class, DomainId, Head, HostAccess, MmioFault, NoMemory, Origin, PortId, SubmitFault,
-    TickFault,
+    Bdf, Class, DomainId, Head, HostAccess, MmioFault, NoMemory, Origin, PacketBytes, PortId,
+    SubmitFault, TickFault,
 };
 use frame_log::{Frame, FrameFault};
 use layout::Layout;
@@ -87,7 +87,7 @@ impl Agents {
         &mut self,
         rt: &R,
         function: Bdf,
-        bytes: &[u8],
+        bytes: &PacketBytes,
     ) -> Result<(), SubmitFault>
         ensures ok { OnOk result (submitted self.old function bytes.now ≡ Some self.new) }
         // Which refusal it is: the first that applies. Without one only memory may be refused.

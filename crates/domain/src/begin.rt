@@ -18,7 +18,7 @@ ghost use Rattle.domain.specs.Ticks.{sent_by, ticks_by};
 use crate::deliver::Record;
 use crate::state::State;
 use domain_parts::{perform, tag_to_open};
-use fab_types::{Bdf, DomainId, NoMemory, Origin, Parties};
+use fab_types::{Bdf, DomainId, NoMemory, Origin, PacketBytes, Parties};
 use frame_log::Frame;
 use function::{OpenTag, OpenTags, Plan, TagUse};
 use std::sync::Wait;
@@ -73,14 +73,16 @@ fn open(tags: &mut OpenTags, opened: Option<OpenTag>)
 }
 
 impl State {
-    /// Emits a packet of a function, and opens its Tag if it waits for a completion.
+    /// Emits a packet of a function, which has these bytes, and opens its Tag if it waits for a completion.
     pub(crate) fn submit<R: Wait>(
         &mut self,
         rt: &R,
         domain: DomainId,
         function: Bdf,
         packet: &ReadPacket<'_>,
+        bytes: PacketBytes,
     ) -> Result<Frame, NoMemory>
+        requires same { bytes ≡ packet.now }
         requires short { length packet.now ≤ 272 }
         requires begins { self.old.counts.begins + 1 < 2 ^ 32 }
         ensures state { IfOk result (λ _. self.new ≡ with_emission (submitted self.old function packet.now) (record { parties = Upward function; bytes = packet.now })) }
@@ -91,7 +93,7 @@ impl State {
         make_room(&mut self.open_tags, &mut self.records, opened.as_ref())?;
         let frame = self
             .flight
-            .emit_read(rt, domain, Parties::Upward(function), packet)?;
+            .emit_read(rt, domain, Parties::Upward(function), packet, bytes)?;
         open(&mut self.open_tags, opened);
         self.contents.counts.begins += 1;
         Ok(frame)
@@ -114,7 +116,7 @@ impl State {
         ensures err { OnErr result (self.new ≡ self.old) }
     {
         make_room(&mut self.open_tags, &mut self.records, opened.as_ref())?;
-        let frame = self.flight.emit(rt, domain, parties, packet.bytes())?;
+        let frame = self.flight.emit_made(rt, domain, parties, packet.bytes())?;
         open(&mut self.open_tags, opened);
         self.contents.counts.begins += 1;
         Ok(frame)

@@ -2,7 +2,8 @@
 
 ghost use Rattle.std.specs.Prelude.{◌≡◌, ◌+◌, ◌<◌, ◌≤◌, ◌^◌, IfOk, IsSome, OnErr, length, option_map, vec_capacity, true, None, Some, ◌++◌, ◌∷◌, []};
 ghost use Rattle.tlp_view.specs.Bytes.{packet_of};
-ghost use Rattle.domain.specs.Deliveries.{Arrivable, arrival_by, arrived, recorded, unexpected};
+ghost use Rattle.tlp_view.specs.Malformed.{malformed};
+ghost use Rattle.domain.specs.Deliveries.{Arrivable, arrival_by, arrived, unexpected};
 ghost use Rattle.domain.specs.Receptions.{MayArrive};
 ghost use Rattle.function.specs.Tags.{closed, use_of};
 ghost use Rattle.domain_parts.specs.Closings.{completed};
@@ -25,30 +26,33 @@ use request_handling::{Disposition, Effect, Reply};
 use std::sync::Wait;
 use tlp_view::TlpView;
 
-/// Closes the Tag that the completion names, and keeps the record of it.
-fn record(tags: &mut OpenTags, records: &mut Vec<Record>, delivery: Record)
-    requires is_open { is_open tags.old.items delivery.owner delivery.tag ≡ true }
+/// Closes the Tag that the completion of these bytes names, and keeps the record of it, which is made in its place.
+fn record(tags: &mut OpenTags, records: &mut Vec<Record>, arriving: &Arriving, bytes: &[u8])
+    requires short { length bytes.now ≤ 272 }
+    requires well_formed { malformed bytes.now ≡ None }
+    requires is_open { is_open tags.old.items arriving.now.owner arriving.now.tag ≡ true }
     requires room { length tags.old.items + length records.old.items ≤ vec_capacity records.old }
-    ensures tags { tags.new.items ≡ closed tags.old.items delivery.owner delivery.tag }
-    ensures records { records.new.items ≡ records.old.items ++ delivery ∷ [] }
+    ensures tags { tags.new.items ≡ closed tags.old.items arriving.now.owner arriving.now.tag }
+    ensures records { records.new.items ≡ records.old.items ++ (arrival_by arriving.now bytes.now).delivery ∷ [] }
     ensures room { length tags.new.items + length records.new.items ≤ vec_capacity records.new }
 {
-    tags.close(delivery.owner(), delivery.tag());
-    records.push_reserved(delivery);
+    tags.close(arriving.owner, arriving.tag);
+    records.push_reserved(arriving.record(bytes));
 }
 
 /// The data of a read line go to its function's page, where the completion closes that line's Tag.
-fn complete_line(functions: &mut Functions, tags: &OpenTags, delivery: &Record)
-    ensures { functions.new ≡ completed functions.old (use_of tags.now.items delivery.now.owner delivery.now.tag) delivery.now.owner delivery.now.status (packet_of delivery.now.bytes).payload }
+fn complete_line(functions: &mut Functions, tags: &OpenTags, arriving: &Arriving, bytes: &[u8])
+    requires { malformed bytes.now ≡ None }
+    ensures { functions.new ≡ completed functions.old (use_of tags.now.items arriving.now.owner arriving.now.tag) arriving.now.owner arriving.now.status (packet_of bytes.now).payload }
 {
-    let usage = tags.use_of(delivery.owner(), delivery.tag());
-    let view = TlpView::again(delivery.bytes());
+    let usage = tags.use_of(arriving.owner, arriving.tag);
+    let view = TlpView::again(bytes);
     complete(
         functions,
-        delivery.owner(),
-        delivery.tag(),
+        arriving.owner,
+        arriving.tag,
         usage,
-        delivery.status(),
+        arriving.status,
         view.payload(),
     );
 }
@@ -70,7 +74,7 @@ impl State {
             Some(reply) => {
                 let frame = self
                     .flight
-                    .emit(rt, domain, reply.parties(), reply.bytes())?;
+                    .emit_made(rt, domain, reply.parties(), reply.bytes())?;
                 Ok(Some(frame))
             }
         }
@@ -144,19 +148,16 @@ impl State {
         ensures { self.new ≡ arrived self.old (arrival_by arriving.now bytes.now) }
     {
         if arriving.is_awaited {
-            self.keep(arriving.record(bytes));
+            complete_line(
+                &mut self.contents.registers,
+                &self.open_tags,
+                arriving,
+                bytes,
+            );
+            record(&mut self.open_tags, &mut self.records, arriving, bytes);
         } else {
             self.count_unexpected();
         }
-    }
-
-    /// Keeps the record of a completion that was awaited.
-    fn keep(&mut self, delivery: Record)
-        requires { is_open self.old.open_tags delivery.owner delivery.tag ≡ true }
-        ensures { self.new ≡ recorded self.old delivery }
-    {
-        complete_line(&mut self.contents.registers, &self.open_tags, &delivery);
-        record(&mut self.open_tags, &mut self.records, delivery);
     }
 
     /// Counts a completion that nobody waits for.
@@ -165,24 +166,6 @@ impl State {
         ensures { self.new ≡ unexpected self.old }
     {
         self.contents.counts.unexpected += 1;
-    }
-
-    /// The packet of this number is in flight no more.
-    fn end(&mut self, number: u64)
-        ensures { self.new ≡ without self.old number }
-    {
-        self.flight.end(number);
-    }
-
-    /// The record of the packet of this number, which arrives so.
-    fn record_of(&self, number: u64, arriving: &Arriving) -> Record
-        requires { Arrivable self.now.open_tags (item_at self.now.flight number) arriving.now }
-        ensures { (e : Emission) → item_at self.now.flight number ≡ Some e → result ≡ (arrival_by arriving.now e.bytes).delivery }
-    {
-        match self.flight.item(number) {
-            Some((_, bytes)) => arriving.record(bytes),
-            None => unreachable!(),
-        }
     }
 
     /// Ends the packet of this number, a completion that is delivered so. Was a record made of it, since its
@@ -194,13 +177,16 @@ impl State {
         ensures record { result ≡ arriving.is_awaited }
     {
         if arriving.is_awaited {
-            let delivery = self.record_of(number, &arriving);
-            self.end(number);
-            self.keep(delivery);
+            let Some((_, bytes)) = self.flight.item(number) else {
+                unreachable!();
+            };
+            let functions = &mut self.contents.registers;
+            complete_line(functions, &self.open_tags, &arriving, bytes);
+            record(&mut self.open_tags, &mut self.records, &arriving, bytes);
         } else {
-            self.end(number);
             self.count_unexpected();
         }
+        self.flight.end(number);
         arriving.is_awaited
     }
 }

@@ -32,7 +32,7 @@ impl Domain {
         ensures illegal { IfErr result (λ fault. fault ≡ end.Illegal → change self.old.share self.old.state entry.now ≡ None) }
     {
         match entry {
-            Entry::Submit(function, bytes) => match self.submit(rt, *function, bytes.as_slice()) {
+            Entry::Submit(function, bytes) => match self.submit_bytes(rt, *function, bytes) {
                 Ok(_) => Ok(()),
                 Err(SubmitFault::NoMemory) => Err(EntryFault::NoMemory),
                 Err(_) => Err(EntryFault::Illegal),

@@ -52,6 +52,32 @@ impl Domain {
         }
     }
 
+    /// The packet emits its frame and enters the journal. No refusal applies to it.
+    fn accept<R: Wait>(
+        &mut self,
+        rt: &R,
+        function: Bdf,
+        packet: &ReadPacket<'_>,
+        bytes: PacketBytes,
+    ) -> Result<Frame, SubmitFault>
+        requires same { bytes ≡ packet.now }
+        requires accepted { submit_fault self.old.share self.old.state function packet.now ≡ None }
+        ensures ok { IfOk result (λ frame. Makes self.old (Submit function packet.now) self.new (Some frame)) }
+        ensures fault { IsOkUnless result SubmitFault.NoMemory }
+        ensures err { OnErr result (self.new ≡ self.old) }
+    {
+        let alloc = *self.journal.allocator();
+        let Ok(logged) = bytes.try_clone(alloc) else {
+            return Err(SubmitFault::NoMemory);
+        };
+        let domain = self.start.domain();
+        let Ok(frame) = self.state.submit(rt, domain, function, packet, logged) else {
+            return Err(SubmitFault::NoMemory);
+        };
+        self.journal.push_reserved(Entry::Submit(function, bytes));
+        Ok(frame)
+    }
+
     /// A function of this domain submits a packet of at most 272 bytes.
     /// The packet may be malformed. A well-formed non-posted request opens its Tag. It is refused with the
     /// first fault that applies: `NoFunction`, `TooLong`, `Completion`, `TagBusy`, `BudgetSpent`; or `NoMemory`
@@ -74,14 +100,34 @@ impl Domain {
             return Err(fault);
         }
         let alloc = *self.journal.allocator();
-        let Ok(copy) = PacketBytes::copy_of(alloc, bytes) else {
+        let Ok(copy) = PacketBytes::shared_copy(alloc, bytes) else {
             return Err(SubmitFault::NoMemory);
         };
-        let domain = self.start.domain();
-        let Ok(frame) = self.state.submit(rt, domain, function, &packet) else {
+        self.accept(rt, function, &packet, copy)
+    }
+
+    /// The same of bytes that the journal and the log share, where they are made for that.
+    pub fn submit_bytes<R: Wait>(
+        &mut self,
+        rt: &R,
+        function: Bdf,
+        bytes: &PacketBytes,
+    ) -> Result<Frame, SubmitFault>
+        ensures ok { IfOk result (λ frame. Makes self.old (Submit function bytes.now) self.new (Some frame)) }
+
+        // Which refusal it is: the first that applies. Without one only memory may be refused.
+        ensures refused { (fault : SubmitFault) → submit_fault self.old.share self.old.state function bytes.now ≡ Some fault → result ≡ Err fault }
+        ensures accepted { submit_fault self.old.share self.old.state function bytes.now ≡ None → IsOkUnless result SubmitFault.NoMemory }
+        ensures err { OnErr result (self.new ≡ self.old) }
+    {
+        let packet = ReadPacket::new(bytes.as_slice());
+        if let Some(fault) = self.submit_fault(function, &packet) {
+            return Err(fault);
+        }
+        let alloc = *self.journal.allocator();
+        let Ok(clone) = bytes.try_clone(alloc) else {
             return Err(SubmitFault::NoMemory);
         };
-        self.journal.push_reserved(Entry::Submit(function, copy));
-        Ok(frame)
+        self.accept(rt, function, &packet, clone)
     }
 }

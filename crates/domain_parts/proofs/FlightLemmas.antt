@@ -1,17 +1,17 @@
 -- Slots of packets in flight, and what is seen of them.
-use Rattle.std.proofs.Common.{◌≡◌, ℕ, zero, suc, ◌<◌, ◌≤◌, List, length, [], ◌∷◌, ◌++◌, Option, Some, None, refl, sym, ap, ◌∙◌, subst, arith, slice_set, slice_index_or, option_map}
-use Rattle.std.specs.Option.{IsSome}
+use Rattle.std.proofs.Common.{◌≡◌, ℕ, zero, suc, ◌+◌, ◌<◌, ◌≤◌, List, length, replicate, [], ◌∷◌, ◌++◌, Option, Some, None, refl, sym, ap, ◌∙◌, subst, arith, slice_set, slice_index_or, option_map, true}
+use Rattle.std.specs.Option.{IsSome, is_some}
 use Rattle.std.specs.List.{All}
 use Rattle.std.proofs.lemmas.List.Elements.{All-append}
 use Rattle.frame_log.specs.declared.entry.TlpEntry.{TlpEntry}
 use Rattle.frame_log.specs.declared.log.Log.{Log}
 use Rattle.frame_log.specs.Words.{Shown, entry_of}
 use Rattle.request_handling.specs.WellMade.{IsWellMade}
-use Rattle.std.proofs.lemmas.List.{map-set}
+use Rattle.std.proofs.lemmas.List.{append-nil, length-map, map-set, replicate-append-replicate}
 use Rattle.domain_parts.specs.declared.flight.InFlight.{InFlight}
 use Rattle.request_handling.specs.Emissions.{Emission}
 use Rattle.domain_parts.specs.State.{item_at}
-use Rattle.domain_parts.specs.Flights.{IsSlot, emission, emissions}
+use Rattle.domain_parts.specs.Flights.{IsSlot, emission, emissions, flight_over, held_in}
 
 -- a slot that was emptied is one packet less
 pub emissions-clear : (old now new : List (Option InFlight)) (es : List (Option Emission)) (n : ℕ) → new ≡ slice_set now n None → now ≡ old → emissions old ≡ es → emissions new ≡ slice_set es n None
@@ -33,6 +33,51 @@ slots_push log old now new x e bytes kept same grown shown entry are made small 
     let one : IsSlot log (Some x) = (shown, well, short) in
     subst (All (IsSlot log)) (sym (grown ∙ ap (λ (xs : List (Option InFlight)). xs ++ Some x ∷ []) same))
     (All-append (IsSlot log) old (Some x ∷ []) kept (λ k d lt. one_at (IsSlot log) (Some x) d k one lt))
+
+-- ---- how many slots hold a packet
+
+pub held-push : (xs : List (Option InFlight)) (x : InFlight) → held_in (xs ++ Some x ∷ []) ≡ held_in xs + 1
+held-push [] x = refl
+held-push (None ∷ xs) x = held-push xs x
+held-push (Some y ∷ xs) x = ap (λ n. n + 1) (held-push xs x)
+
+pub held-le : (xs : List (Option InFlight)) → held_in xs ≤ length xs
+held-le [] = omega arith
+held-le (None ∷ xs) = omega (arith, held-le xs)
+held-le (Some y ∷ xs) = omega (arith, held-le xs)
+
+pub held-set : (xs : List (Option InFlight)) (n : ℕ) (d : Option InFlight) → n < length xs → is_some (slice_index_or xs n d) ≡ true → held_in (slice_set xs n None) + 1 ≡ held_in xs
+held-set [] n d l h = absurd (omega (arith, l))
+held-set (Some y ∷ xs) zero d l h = refl
+held-set (None ∷ xs) zero d l h = absurd cc
+held-set (Some y ∷ xs) (suc n) d l h = ap (λ n. n + 1) (held-set xs n d (omega (arith, l)) h)
+held-set (None ∷ xs) (suc n) d l h = held-set xs n d (omega (arith, l)) h
+
+pub none-held : (xs : List (Option InFlight)) → held_in xs ≡ 0 → emissions xs ≡ replicate (length xs) None
+none-held [] h = refl
+none-held (None ∷ xs) h = ap (λ (zs : List (Option Emission)). None ∷ zs) (none-held xs h)
+none-held (Some y ∷ xs) h = absurd (omega (arith, h))
+
+-- ---- numbers that have no slot any more
+
+pub set-gone : (gone n : ℕ) (es : List (Option Emission)) → n < gone → slice_set (replicate gone None ++ es) n None ≡ replicate gone None ++ es
+set-gone zero n es l = absurd (omega (arith, l))
+set-gone (suc gone) zero es l = refl
+set-gone (suc gone) (suc n) es l = ap (λ (zs : List (Option Emission)). None ∷ zs) (set-gone gone n es (omega (arith, l)))
+
+pub set-behind : (gone n : ℕ) (es : List (Option Emission)) → slice_set (replicate gone None ++ es) (gone + n) None ≡ replicate gone None ++ slice_set es n None
+set-behind zero n es = ap (λ (k : ℕ). slice_set es k None) (omega arith)
+set-behind (suc gone) n es =
+    let e : suc gone + n ≡ suc (gone + n) = omega arith in
+    ap (λ (k : ℕ). slice_set (None ∷ replicate gone None ++ es) k None) e ∙ ap (λ (zs : List (Option Emission)). None ∷ zs) (set-behind gone n es)
+
+pub length-flight : (gone : ℕ) (xs : List (Option InFlight)) → length (flight_over gone xs) ≡ gone + length xs
+length-flight zero xs = length-map xs (option_map emission) ∙ omega arith
+length-flight (suc gone) xs = ap suc (length-flight gone xs) ∙ omega arith
+
+-- where no slot holds a packet, all of their numbers need none
+pub restarted : (gone : ℕ) (xs : List (Option InFlight)) → held_in xs ≡ 0 → flight_over (gone + length xs) [] ≡ flight_over gone xs
+restarted gone xs h = append-nil _ ∙ sym (replicate-append-replicate gone (length xs) None) ∙ ap (λ (es : List (Option Emission)). replicate gone None ++ es) (sym (none-held xs h))
 
 -- ---- a packet in flight, when one more is put into flight
 

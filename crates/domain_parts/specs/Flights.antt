@@ -1,5 +1,5 @@
 -- What a clause sees of the packets in flight, by their tokens.
-use Rattle.std.specs.Prelude.{◌≤◌, List, length, map, Option, option_map}
+use Rattle.std.specs.Prelude.{◌≡◌, ℕ, ◌+◌, ◌<◌, ◌≤◌, ◌^◌, List, [], ◌∷◌, ◌++◌, length, map, replicate, Option, Some, None, option_map}
 use Rattle.std.specs.Arc.{arc_value}
 use Rattle.std.specs.Option.{IfSome}
 use Rattle.std.specs.List.{All}
@@ -20,5 +20,20 @@ emissions slots = map (option_map emission) slots
 abbrev pub IsSlot : Log → Option InFlight → Type 0
 IsSlot log slot = IfSome slot (λ s. Shown log s.token × IsWellMade s.parties (entry_of s.token).bytes × (length (entry_of s.token).bytes ≤ 272))
 
-abbrev pub AreSlots : Inside → Type 0
-AreSlots f = All (IsSlot (arc_value f.log)) f.slots.items
+-- how many slots hold a packet
+abbrev pub held_in : List (Option InFlight) → ℕ
+held_in [] = 0
+held_in (None ∷ slots) = held_in slots
+held_in (Some slot ∷ slots) = held_in slots + 1
+
+-- so many numbers have no slot any more; behind them come those of the slots
+abbrev pub flight_over : ℕ → List (Option InFlight) → List (Option Emission)
+flight_over gone slots = replicate gone None ++ emissions slots
+
+abbrev pub flight_of : Inside → List (Option Emission)
+flight_of f = flight_over f.gone f.slots.items
+
+pub record AreSlots (f : Inside) : Type 0 where
+  pub slots : All (IsSlot (arc_value f.log)) f.slots.items
+  pub held : f.held ≡ held_in f.slots.items
+  pub numbered : f.gone + length f.slots.items < 2 ^ 64

@@ -1,13 +1,16 @@
 //! What a domain has in flight.
 
-ghost use Rattle.std.specs.Prelude.{◌≡◌, ◌≤◌, ◌++◌, ◌∷◌, [], Some, None, IfOk, OnErr, MatchOption, IfSome, length, slice_set};
-ghost use Rattle.request_handling.specs.Heads.{descriptor_of};
+ghost use Rattle.std.specs.Prelude.{◌≡◌, ◌≤◌, ◌++◌, ◌∷◌, [], Some, None, IfOk, OnErr, MatchOption, IfSome, ◌+◌, ◌<◌, ◌^◌, All, length, slice_set};
+ghost use Rattle.frame_log.specs.declared.log.Log.{Log};
+ghost use Rattle.request_handling.specs.Heads.{descriptor_of, head_of};
+ghost use Rattle.tlp_view.specs.Malformed.{malformed};
+ghost use Rattle.domain_parts.specs.Flights.{IsSlot, flight_over, held_in};
 ghost use Rattle.domain_parts.specs.State.{item_at};
 ghost use Rattle.request_handling.specs.WellMade.{IsWellMade};
 
-use fab_types::{DomainId, NoMemory, Parties};
+use fab_types::{DomainId, Head, NoMemory, PacketBytes, Parties};
 use frame_log::{Frame, Log, Token};
-use request_handling::head_of;
+use request_handling::{head_of, well_formed_head};
 use std::alloc::Global;
 use std::marker::Model;
 use std::sync::{Arc, Wait};
@@ -21,12 +24,17 @@ struct InFlight {
 }
 
 /// The packets in flight by their numbers, and the log that has their bytes.
-/// Others may share the log. A contract sees the list. The place of a packet that ended stays, empty, since no
-/// number is given out twice.
+/// Others may share the log. A contract sees the list, in which the place of a packet that ended stays, empty, since no
+/// number is given out twice. Its slot is given out again once nothing is in flight.
 #[derive(Drop)]
 pub struct Flight {
     log: Arc<Log>,
+    /// How many numbers have no slot any more.
+    gone: u64,
+    /// Those of the numbers from there on.
     slots: Vec<Option<InFlight>>,
+    /// How many of them hold a packet.
+    held: u64,
 }
 
 impl Model for Flight {
@@ -35,18 +43,37 @@ impl Model for Flight {
 
     ghost Value = { List (Option Emission) };
 
-    ghost use Rattle.domain_parts.specs.Flights.{emissions, AreSlots};
+    ghost use Rattle.domain_parts.specs.Flights.{flight_of, AreSlots};
 
-    ghost view = { λ f. emissions f.slots.items };
+    ghost view = { flight_of };
 
-    ghost invariant = { λ f. AreSlots f };
+    ghost invariant = { AreSlots };
 }
 
-fn clear(slots: &mut [Option<InFlight>], index: usize)
-    ensures { slots.new ≡ slice_set slots.old index None }
+/// Empties a slot, if there is such a one.
+fn clear(slots: &mut [Option<InFlight>], held: &mut u64, index: usize)
+    requires { held.old ≡ held_in slots.old }
+    ensures slots { slots.new ≡ slice_set slots.old index None }
+    ensures held { held.new ≡ held_in slots.new }
 {
-    if index < slots.len() {
+    if index < slots.len() && slots[index].is_some() {
         slots[index] = None;
+        *held -= 1;
+    }
+}
+
+/// Where no slot holds a packet, the slots are given out again, from the first one on.
+fn restart(gone: &mut u64, slots: &mut Vec<Option<InFlight>>, held: u64)
+    requires held { held ≡ held_in slots.old.items }
+    requires numbered { gone.old + length slots.old.items < 2 ^ 64 }
+    ensures flight { flight_over gone.new slots.new.items ≡ flight_over gone.old slots.old.items }
+    ensures held { held ≡ held_in slots.new.items }
+    ensures numbered { gone.new + length slots.new.items ≡ gone.old + length slots.old.items }
+    ensures slots { (log : Log) → All (IsSlot log) slots.old.items → All (IsSlot log) slots.new.items }
+{
+    if held == 0 {
+        *gone += slots.len() as u64;
+        slots.clear();
     }
 }
 
@@ -58,7 +85,9 @@ impl Flight {
     {
         Ok(Flight {
             log,
+            gone: 0,
             slots: Vec::with_capacity(alloc, room)?,
+            held: 0,
         })
     }
 
@@ -71,52 +100,82 @@ impl Flight {
         Ok(())
     }
 
-    /// Emits a packet of at most 272 bytes under the next number. Where memory was refused nothing is
-    /// in flight that was not before.
-    pub fn emit<R: Wait>(
+    /// Puts a packet with this head and these bytes into flight under the next number.
+    fn put<R: Wait>(
+        &mut self,
+        rt: &R,
+        domain: DomainId,
+        parties: Parties,
+        head: Head,
+        bytes: PacketBytes,
+    ) -> Result<Frame, NoMemory>
+        requires head { head ≡ head_of (record { parties = parties; bytes = bytes }) }
+        requires short { length bytes ≤ 272 }
+        requires well_made { IsWellMade parties bytes }
+        ensures flight { IfOk result (λ _. self.new ≡ self.old ++ Some (record { parties = parties; bytes = bytes }) ∷ []) }
+        ensures frame { IfOk result (λ frame. frame ≡ descriptor_of domain (length self.old) (record { parties = parties; bytes = bytes })) }
+        ensures err { OnErr result (self.new ≡ self.old) }
+    {
+        self.slots.reserve(1)?;
+        let number = self.made();
+        if number == u64::MAX {
+            return Err(NoMemory);
+        }
+        let (frame, token) = self.log.emit_bytes(rt, domain, number, head, bytes)?;
+        self.slots.push_reserved(Some(InFlight { parties, token }));
+        self.held += 1;
+        Ok(frame)
+    }
+
+    /// Emits a packet that the domain itself makes, well formed and of at most 272 bytes, under the next number. Where
+    /// memory was refused nothing is in flight that was not before.
+    pub fn emit_made<R: Wait>(
         &mut self,
         rt: &R,
         domain: DomainId,
         parties: Parties,
         bytes: &[u8],
     ) -> Result<Frame, NoMemory>
+        requires well_formed { malformed bytes.now ≡ None }
         requires short { length bytes.now ≤ 272 }
         requires well_made { IsWellMade parties bytes.now }
         ensures flight { IfOk result (λ _. self.new ≡ self.old ++ Some (record { parties = parties; bytes = bytes.now }) ∷ []) }
         ensures frame { IfOk result (λ frame. frame ≡ descriptor_of domain (length self.old) (record { parties = parties; bytes = bytes.now })) }
         ensures err { OnErr result (self.new ≡ self.old) }
     {
-        self.emit_read(rt, domain, parties, &ReadPacket::new(bytes))
+        let these = parties;
+        let head = well_formed_head(these, bytes);
+        let alloc = *self.slots.allocator();
+        let copy = PacketBytes::copy_of(alloc, bytes)?;
+        self.put(rt, domain, parties, head, copy)
     }
 
-    /// The same of a packet that was read already.
+    /// The same of a packet of others, well formed or not, that was read already and whose bytes need no copy.
     pub fn emit_read<R: Wait>(
         &mut self,
         rt: &R,
         domain: DomainId,
         parties: Parties,
         packet: &ReadPacket<'_>,
+        bytes: PacketBytes,
     ) -> Result<Frame, NoMemory>
+        requires same { bytes ≡ packet.now }
         requires short { length packet.now ≤ 272 }
         requires well_made { IsWellMade parties packet.now }
         ensures flight { IfOk result (λ _. self.new ≡ self.old ++ Some (record { parties = parties; bytes = packet.now }) ∷ []) }
         ensures frame { IfOk result (λ frame. frame ≡ descriptor_of domain (length self.old) (record { parties = parties; bytes = packet.now })) }
         ensures err { OnErr result (self.new ≡ self.old) }
     {
-        self.slots.reserve(1)?;
-        let number = self.slots.len() as u64;
         let these = parties;
         let head = head_of(these, packet);
-        let (frame, token) = self.log.emit(rt, domain, number, head, packet.bytes())?;
-        self.slots.push_reserved(Some(InFlight { parties, token }));
-        Ok(frame)
+        self.put(rt, domain, parties, head, bytes)
     }
 
     /// How many packets were emitted, which is the number of the next one.
     pub fn made(&self) -> u64
         ensures { result ≡ length self.now }
     {
-        self.slots.len() as u64
+        self.gone + self.slots.len() as u64
     }
 
     /// The packet that is in flight under this number.
@@ -126,7 +185,8 @@ impl Flight {
         ensures value { MatchOption result (item_at self.now number ≡ None)
             (λ item. item_at self.now number ≡ Some (record { parties = item.0; bytes = item.1.now })) }
     {
-        match self.slots.get(number as usize) {
+        let index = number.checked_sub(self.gone)?;
+        match self.slots.get(index as usize) {
             Some(Some(slot)) => Some((slot.parties, self.log.lend(&slot.token).bytes.as_slice())),
             _ => None,
         }
@@ -136,6 +196,10 @@ impl Flight {
     pub fn end(&mut self, number: u64)
         ensures { self.new ≡ slice_set self.old number None }
     {
-        clear(&mut self.slots, number as usize);
+        let Some(index) = number.checked_sub(self.gone) else {
+            return;
+        };
+        clear(&mut self.slots, &mut self.held, index as usize);
+        restart(&mut self.gone, &mut self.slots, self.held);
     }
 }

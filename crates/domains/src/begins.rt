@@ -11,7 +11,7 @@ ghost use Rattle.domains.specs.Indexes.{place_of_origin};
 ghost use Rattle.domains.specs.Domains.{Emits, made_at, mmio_refusal_by, submit_refusal_by, tick_refusal_by};
 
 use domain::Domain;
-use fab_types::{Bdf, HostAccess, MmioFault, SubmitFault, TickFault};
+use fab_types::{Bdf, HostAccess, MmioFault, PacketBytes, SubmitFault, TickFault};
 use frame_log::Frame;
 use std::sync::Wait;
 
@@ -21,7 +21,7 @@ pub(crate) fn submit_at<R: Wait>(
     domains: &mut [Domain],
     place: usize,
     function: Bdf,
-    bytes: &[u8],
+    bytes: &PacketBytes,
 ) -> Result<Frame, SubmitFault>
     requires { place < length domains.old }
     ensures ok { IfOk result (λ frame. made_at domains.old (Submit function bytes.now) (Some place) ≡ Some (record { domains = domains.new; sent = Some frame })) }
@@ -30,7 +30,7 @@ pub(crate) fn submit_at<R: Wait>(
     ensures err { OnErr result (domains.new ≡ domains.old) }
     ensures places { (origin : Origin) → place_of_origin domains.new origin ≡ place_of_origin domains.old origin }
 {
-    domains[place].submit(rt, function, bytes)
+    domains[place].submit_bytes(rt, function, bytes)
 }
 
 /// The program of a function of the domain at this place has a tick.

@@ -18,7 +18,8 @@ use crate::places::owner_of_frame;
 use crate::starts::domains_of;
 use domain::{Domain, Record};
 use fab_types::{
-    Bdf, DomainId, HostAccess, MmioFault, NoMemory, Place, PortId, SubmitFault, TickFault,
+    Bdf, DomainId, HostAccess, MmioFault, NoMemory, PacketBytes, Place, PortId, SubmitFault,
+    TickFault,
 };
 use frame_log::{Frame, FrameFault};
 use layout::Layout;
@@ -107,7 +108,7 @@ impl Domains {
         &mut self,
         rt: &R,
         function: Bdf,
-        bytes: &[u8],
+        bytes: &PacketBytes,
     ) -> Result<Frame, SubmitFault>
         ensures ok { IfOk result (λ frame. made_at self.old (Submit function bytes.now) (place_of_function self.old function) ≡ Some (record { domains = self.new; sent = Some frame })) }
 

@@ -33,10 +33,7 @@ impl Operation {
     {
         match self {
             Operation::Read(count) => Ok(Operation::Read(*count)),
-            Operation::Write(bytes) => Ok(Operation::Write(PacketBytes::copy_of(
-                alloc,
-                bytes.as_slice(),
-            )?)),
+            Operation::Write(bytes) => Ok(Operation::Write(bytes.try_clone(alloc)?)),
         }
     }
 }

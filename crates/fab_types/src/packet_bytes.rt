@@ -9,6 +9,7 @@ use arrayvec::ArrayVec;
 use std::alloc::Global;
 use std::fmt;
 use std::marker::Model;
+use std::sync::Arc;
 
 /// How many bytes stand in the value itself: a header of 4 DW, or one of 3 DW with a payload of one.
 const SHORT: usize = 16;
@@ -17,7 +18,10 @@ const SHORT: usize = 16;
 #[derive(Drop)]
 enum Kept {
     Short(ArrayVec<u8, SHORT>),
+    /// A piece of memory of its own.
     Long(Vec<u8>),
+    /// One piece of memory of all clones, for one more that counts them.
+    Shared(Arc<Vec<u8>>),
 }
 
 /// The bytes of a packet, header and payload. A contract sees the list.
@@ -36,37 +40,76 @@ impl Model for PacketBytes {
     ghost view = { λ p. kept_bytes p.kept };
 }
 
-/// A copy in the value itself, if the bytes fit.
-fn short_copy(bytes: &[u8]) -> Option<ArrayVec<u8, SHORT>>
-    ensures value { IfSome result (λ copy. copy.items ≡ bytes.now) }
-    ensures fits { length bytes.now ≤ 16 → IsSome result }
-{
-    let mut copy = ArrayVec::new();
-    match copy.try_extend_from_slice(bytes) {
-        Ok(()) => Some(copy),
-        Err(_) => None,
-    }
-}
-
 impl PacketBytes {
+    /// A copy in the value itself, if the bytes fit.
+    fn short_copy(bytes: &[u8]) -> Option<PacketBytes>
+        ensures value { IfSome result (λ copy. copy ≡ bytes.now) }
+        ensures fits { length bytes.now ≤ 16 → IsSome result }
+    {
+        let mut copy = ArrayVec::new();
+        match copy.try_extend_from_slice(bytes) {
+            Ok(()) => Some(PacketBytes {
+                kept: Kept::Short(copy),
+            }),
+            Err(_) => None,
+        }
+    }
+
+    /// These bytes, for clones to share.
+    fn shared(items: Vec<u8>) -> Result<PacketBytes, NoMemory>
+        ensures { IfOk result (λ bytes. bytes ≡ items.items) }
+    {
+        let alloc = *items.allocator();
+        Ok(PacketBytes {
+            kept: Kept::Shared(Arc::new(alloc, items)?),
+        })
+    }
+
     /// A copy of these bytes. It answers `NoMemory` where memory was refused; at most 16 bytes ask for none.
     pub fn copy_of(alloc: Global, bytes: &[u8]) -> Result<PacketBytes, NoMemory>
         ensures value { IfOk result (λ copy. copy ≡ bytes.now) }
         ensures short { length bytes.now ≤ 16 → IsOk result }
     {
-        let kept = match short_copy(bytes) {
-            Some(copy) => Kept::Short(copy),
-            None => Kept::Long(Vec::from_slice(alloc, bytes)?),
-        };
-        Ok(PacketBytes { kept })
+        match PacketBytes::short_copy(bytes) {
+            Some(copy) => Ok(copy),
+            None => Ok(PacketBytes {
+                kept: Kept::Long(Vec::from_slice(alloc, bytes)?),
+            }),
+        }
     }
 
-    /// These bytes, without a copy of them.
-    pub fn from_vec(items: Vec<u8>) -> PacketBytes
-        ensures { result ≡ items.items }
+    /// The same, whose clones share it.
+    pub fn shared_copy(alloc: Global, bytes: &[u8]) -> Result<PacketBytes, NoMemory>
+        ensures value { IfOk result (λ copy. copy ≡ bytes.now) }
+        ensures short { length bytes.now ≤ 16 → IsOk result }
     {
-        PacketBytes {
-            kept: Kept::Long(items),
+        match PacketBytes::short_copy(bytes) {
+            Some(copy) => Ok(copy),
+            None => PacketBytes::shared(Vec::from_slice(alloc, bytes)?),
+        }
+    }
+
+    /// These bytes, which clones share. It answers `NoMemory` where memory was refused; at most 16 bytes ask for none.
+    pub fn from_vec(items: Vec<u8>) -> Result<PacketBytes, NoMemory>
+        ensures value { IfOk result (λ bytes. bytes ≡ items.items) }
+        ensures short { length items.items ≤ 16 → IsOk result }
+    {
+        match PacketBytes::short_copy(items.as_slice()) {
+            Some(copy) => Ok(copy),
+            None => PacketBytes::shared(items),
+        }
+    }
+
+    /// The same bytes once more. Where they are shared that takes no memory, else it is a copy of them, and it answers
+    /// `NoMemory` where memory was refused.
+    pub fn try_clone(&self, alloc: Global) -> Result<PacketBytes, NoMemory>
+        ensures { IfOk result (λ clone. clone ≡ self.now) }
+    {
+        match &self.kept {
+            Kept::Shared(items) => Ok(PacketBytes {
+                kept: Kept::Shared(Arc::try_clone(items)?),
+            }),
+            Kept::Short(_) | Kept::Long(_) => PacketBytes::copy_of(alloc, self.as_slice()),
         }
     }
 
@@ -77,6 +120,7 @@ impl PacketBytes {
         match &self.kept {
             Kept::Short(items) => items.as_slice(),
             Kept::Long(items) => items.as_slice(),
+            Kept::Shared(items) => items.as_slice(),
         }
     }
 }

@@ -23,7 +23,7 @@ pub(crate) fn submit<R: Wait>(
     ensures steps { (h : InterconnectView) (violations : List Violation) (strays : List Descriptor) → StepsTo (world_over h agents.old violations strays) (Submit function bytes.now) result (world_over h agents.new violations strays) }
     ensures begun { result ≢ Outcome.Idle }
 {
-    match agents.submit(rt, function, bytes.as_slice()) {
+    match agents.submit(rt, function, bytes) {
         Ok(()) => Outcome::Moved,
         Err(SubmitFault::NoMemory) => Outcome::NoMemory,
         Err(fault) => Outcome::Refused(BeginFault::Submit(fault)),

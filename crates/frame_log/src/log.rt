@@ -72,6 +72,25 @@ impl Log {
         ensures token { IfOk result (λ r. Shown self.now r.1) }
     {
         let bytes = PacketBytes::copy_of(self.alloc, bytes)?;
+        self.emit_bytes(rt, domain, number, head, bytes)
+    }
+
+    /// The same of bytes that need no copy.
+    pub fn emit_bytes<R: Wait>(
+        &self,
+        rt: &R,
+        domain: DomainId,
+        number: u64,
+        head: Head,
+        bytes: PacketBytes,
+    ) -> Result<(Frame, Token), NoMemory>
+        requires { length bytes ≤ 272 }
+        ensures frame { IfOk result (λ r.
+            r.0 ≡ record { domain = domain; number = number; head = head }) }
+        ensures entry { IfOk result (λ r.
+            entry_of r.1 ≡ record { domain = domain; number = number; bytes = bytes }) }
+        ensures token { IfOk result (λ r. Shown self.now r.1) }
+    {
         let entry = TlpEntry {
             domain,
             number,

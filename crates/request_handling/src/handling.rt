@@ -72,6 +72,7 @@ impl Model for Reply {
 
 impl Reply {
     ghost use Rattle.std.specs.Prelude.{◌≤◌, length};
+    ghost use Rattle.tlp_view.specs.Malformed.{malformed};
     ghost use Rattle.request_handling.specs.WellMade.{IsWellMade};
     ghost use Rattle.function.specs.Accesses.{IsAccess};
 
@@ -106,6 +107,7 @@ impl Reply {
     /// The packet's bytes, at most 272.
     pub fn bytes(&self) -> &[u8]
         ensures value { result.now ≡ self.now.bytes }
+        ensures well_formed { malformed result.now ≡ None }
         ensures well_made { IsWellMade self.now.parties result.now }
         ensures short { length result.now ≤ 272 }
     {

@@ -1,7 +1,8 @@
 //! The descriptor's head of a packet.
 
-ghost use Rattle.std.specs.Prelude.{◌≡◌};
+ghost use Rattle.std.specs.Prelude.{◌≡◌, None};
 ghost use Rattle.tlp_view.specs.Costs.{packet_cost};
+ghost use Rattle.tlp_view.specs.Malformed.{malformed};
 ghost use Rattle.request_handling.specs.Heads.{head_of, malformed_cost, packet_header, target_for};
 
 use crate::answers::address_of;
@@ -60,6 +61,14 @@ fn malformed_head(parties: Parties) -> Head
         cost: Cost::without_data(Class::Posted),
         header: Header::Malformed,
     }
+}
+
+/// The head of a packet of well-formed bytes. Whether they are is not tested.
+pub fn well_formed_head(parties: Parties, bytes: &[u8]) -> Head
+    requires { malformed bytes.now ≡ None }
+    ensures { result ≡ head_of (record { parties = parties; bytes = bytes.now }) }
+{
+    packet_head(parties, &TlpView::again(bytes))
 }
 
 /// What ports read of a packet: the parties, its cost and its header fields.

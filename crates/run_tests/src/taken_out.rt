@@ -59,7 +59,7 @@ impl Script {
 
     fn submit(&mut self, function: Bdf, word: &str) -> Option<()> {
         let bytes = hex::decode(self.alloc, word).ok()?;
-        self.add(Event::Submit(function, PacketBytes::from_vec(bytes)))
+        self.add(Event::Submit(function, PacketBytes::from_vec(bytes).ok()?))
     }
 
     /// Each event of the layout once.

@@ -58,6 +58,16 @@ fn decoded(alloc: Global, word: &[u8]) -> Result<Option<Vec<u8>>, AllocError>
     }
 }
 
+/// These bytes, which the journal and the log of who submits them share.
+fn for_sharing(bytes: Vec<u8>) -> Result<PacketBytes, ScriptCause>
+    ensures { IsRead (Some bytes.items) result }
+{
+    match PacketBytes::from_vec(bytes) {
+        Ok(bytes) => Ok(bytes),
+        Err(_) => Err(ScriptCause::NoMemory),
+    }
+}
+
 /// The bytes that a word stands for: none at `-`, else those of its digits. There is no limit to
 /// how many.
 ///
@@ -69,13 +79,13 @@ pub fn packet_bytes(alloc: Global, word: &[u8]) -> Result<PacketBytes, ScriptCau
     ensures { IsRead (packet_bytes word.now) result }
 {
     if is_keyword(word, "-") {
-        return Ok(PacketBytes::from_vec(Vec::new(alloc)));
+        return for_sharing(Vec::new(alloc));
     }
     if word.is_empty() || word.len() % 2 != 0 {
         return Err(ScriptCause::Line);
     }
     match decoded(alloc, word) {
-        Ok(Some(bytes)) => Ok(PacketBytes::from_vec(bytes)),
+        Ok(Some(bytes)) => for_sharing(bytes),
         Err(_) if is_hexadecimal(word) => Err(ScriptCause::NoMemory),
         // Want of memory never stands for a fault.
         Ok(None) | Err(_) => Err(ScriptCause::Line),

@@ -1,6 +1,7 @@
 pub mod WellFormed
 pub mod Bodies
 pub mod RunsFrom
+pub mod RunsEnabled
 pub mod KindFacts
 pub mod Again
 pub mod HeaderBytes

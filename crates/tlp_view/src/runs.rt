@@ -79,6 +79,13 @@ fn is_enabled(enables: Enables, count: usize, i: usize) -> bool
     }
 }
 
+/// Are all bytes enabled, of so many? It is asked of each write, and mostly they are.
+fn are_all_enabled(enables: Enables, count: usize) -> bool
+    ensures { (i : ℕ) → i < count → result ≡ true → is_enabled enables count i ≡ true }
+{
+    enables.first == 15 && (count < 8 || enables.last == 15)
+}
+
 /// The first enabled byte from `at` on, or `count`.
 fn first_enabled(enables: Enables, count: usize, at: usize) -> usize
     requires { at ≤ count }
@@ -102,6 +109,9 @@ fn first_disabled(enables: Enables, count: usize, at: usize) -> usize
     ensures before { (k : ℕ) → at ≤ k → k < result → is_enabled enables count k ≡ true }
     ensures here { result < count → is_enabled enables count result ≡ false }
 {
+    if are_all_enabled(enables, count) {
+        return count;
+    }
     let mut i = at;
     while i < count && is_enabled(enables, count, i) {
         // From the second DW to the last but one there is nothing to test.
