@@ -18,9 +18,9 @@ const SHORT: usize = 16;
 #[derive(Drop)]
 enum Kept {
     Short(ArrayVec<u8, SHORT>),
-    /// A piece of memory of its own.
+    /// In a piece of memory of their own.
     Long(Vec<u8>),
-    /// One piece of memory of all clones, for one more that counts them.
+    /// In one that all clones share. A second piece of memory counts these.
     Shared(Arc<Vec<u8>>),
 }
 

@@ -1,8 +1,10 @@
 ghost use Rattle.std.specs.Prelude.{◌≡◌, ◌≤◌, IfOk, length};
+ghost use Rattle.boxcar.specs.Table.{Shows};
 
 use crate::entry::TlpEntry;
 use crate::frame::Frame;
-use crate::token::Token;
+use crate::token::{Chunk, Token};
+use boxcar::Pushed;
 use fab_types::{DomainId, Head, NoMemory, PacketBytes};
 use std::alloc::Global;
 use std::marker::Model;
@@ -11,13 +13,16 @@ use std::sync::Wait;
 /// How many domains there may be: their numbers are 1 to 31.
 const DOMAINS: usize = 31;
 
+/// How many packets a chunk is for: as many as it holds before it makes room for twice as many.
+const CHUNK: u64 = 3_808;
+
 /// A log of packets, shared by all who emit, in any thread. Entries are added, and stay as they are where they are
 /// until the log ends. Those of a domain stand in a row of their own, so that threads which emit for different domains
-/// share nothing. A contract sees where the rows stand.
+/// share nothing; a row is made of chunks. A contract sees where the rows stand.
 #[derive(Drop)]
 pub struct Log {
     alloc: Global,
-    rows: Vec<boxcar::Vec<TlpEntry>>,
+    rows: Vec<boxcar::Vec<Chunk>>,
 }
 
 impl Model for Log {
@@ -46,11 +51,30 @@ impl Log {
         Ok(Log { alloc, rows })
     }
 
-    /// Where the entries of this domain stand.
-    fn row(&self, domain: DomainId) -> &boxcar::Vec<TlpEntry>
+    /// Where the chunks of this domain stand.
+    fn row(&self, domain: DomainId) -> &boxcar::Vec<Chunk>
         ensures { result.now ≡ row_of self.now domain }
     {
         &self.rows[usize::from(domain.get()) - 1]
+    }
+
+    /// The chunk of this domain's packet of this number. The numbers of a domain rise one by one.
+    fn chunk<R: Wait>(
+        &self,
+        rt: &R,
+        domain: DomainId,
+        number: u64,
+    ) -> Result<Pushed<Chunk>, NoMemory>
+        ensures { IfOk result (λ chunk. Shows (row_of self.now domain) chunk) }
+    {
+        let row = self.row(domain);
+        if let Some(chunk) = row.witness((number / CHUNK) as usize) {
+            return Ok(chunk);
+        }
+        match row.push_shown(rt, boxcar::Vec::new(self.alloc)?) {
+            Ok(chunk) => Ok(chunk),
+            Err(_) => Err(NoMemory),
+        }
     }
 
     /// Adds a packet, of at most 272 bytes: 16 of header and 256 of payload. It answers `NoMemory` where
@@ -96,10 +120,12 @@ impl Log {
             number,
             bytes,
         };
-        match self.row(domain).push_shown(rt, entry) {
-            Ok(at) => Ok((Frame::of(domain, number, head), Token { domain, at })),
-            Err(_) => Err(NoMemory),
-        }
+        let chunk = self.chunk(rt, domain, number)?;
+        let Ok(at) = self.row(domain).value(&chunk).push_shown(rt, entry) else {
+            return Err(NoMemory);
+        };
+        let token = Token { domain, chunk, at };
+        Ok((Frame::of(domain, number, head), token))
     }
 
     /// Lends the entry that the token names.
@@ -108,6 +134,6 @@ impl Log {
         requires { Shown self.now token.now }
         ensures { result.now ≡ entry_of token.now }
     {
-        self.row(token.domain).value(&token.at)
+        self.row(token.domain).value(&token.chunk).value(&token.at)
     }
 }

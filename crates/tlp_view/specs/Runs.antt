@@ -1,5 +1,5 @@
 -- The enabled bytes of a memory write (PCIe 4.0, 2.2.5).
-use Rattle.std.specs.Prelude.{ℕ, ◌+◌, ◌/◌, ◌%◌, ◌==◌, Bool, true, false, List, [], ◌∷◌, length, Option, Some, None, if◌then◌else◌}
+use Rattle.std.specs.Prelude.{ℕ, ◌+◌, ◌/◌, ◌%◌, ◌==◌, ◌&&◌, ◌||◌, nat_lt, Bool, true, false, List, [], ◌∷◌, length, Option, Some, None, if◌then◌else◌}
 use Rattle.tlp_view.specs.declared.enables.Enables.{Enables}
 use Rattle.tlp_view.specs.declared.kind.Kind.{Kind}
 use Rattle.tlp_view.specs.declared.kind.Kind.TheVariants.{MWr}
@@ -11,6 +11,10 @@ abbrev pub is_enabled : Enables → ℕ → ℕ → Bool
 is_enabled enables count i =
     if i / 4 == 0 then is_set enables.first (i % 4)
     else (if i / 4 + 1 == count / 4 then is_set enables.last (i % 4) else true)
+
+-- the fields of the first DW, and of the last one where that is another, enable all of their bytes
+abbrev pub enables_all : Enables → ℕ → Bool
+enables_all enables count = enables.first == 15 && (nat_lt count 8 || enables.last == 15)
 
 -- an enabled byte before runs of later bytes: it joins the next run, or is one of its own
 abbrev pub joined : ℕ → ℕ → List (ℕ × List ℕ) → List (ℕ × List ℕ)

@@ -2,7 +2,7 @@
 
 ghost use Rattle.std.specs.Prelude.{◌≡◌, ◌+◌, ◌<◌, ◌≤◌, ℕ, length, true, false};
 ghost use Rattle.std.specs.Iterator.{YieldsFirstBy, item_count};
-ghost use Rattle.tlp_view.specs.Runs.{is_enabled};
+ghost use Rattle.tlp_view.specs.Runs.{enables_all, is_enabled};
 
 use crate::bits::is_set;
 use crate::enables::Enables;
@@ -81,7 +81,8 @@ fn is_enabled(enables: Enables, count: usize, i: usize) -> bool
 
 /// Are all bytes enabled, of so many? It is asked of each write, and mostly they are.
 fn are_all_enabled(enables: Enables, count: usize) -> bool
-    ensures { (i : ℕ) → i < count → result ≡ true → is_enabled enables count i ≡ true }
+    ensures value { result ≡ enables_all enables count }
+    ensures all { (i : ℕ) → i < count → result ≡ true → is_enabled enables count i ≡ true }
 {
     enables.first == 15 && (count < 8 || enables.last == 15)
 }
