@@ -115,11 +115,10 @@ fewer p (x ∷ xs) h =
 pub room_closed : (tags : List OpenTag) (owner : Origin) (tag : ℕ) → is_open tags owner tag ≡ true → length (closed tags owner tag) + 1 ≤ length tags
 room_closed tags owner tag h = fewer (λ (t : OpenTag). same_origin t.owner owner && (t.tag == tag)) tags h
 
-pub room_recorded : (tags tags' : List OpenTag) (rs rs' : List Delivery) (d : Delivery) (owner : Origin) (tag cap : ℕ) → is_open tags d.owner d.tag ≡ true → length tags + length rs ≤ cap
-    → owner ≡ d.owner → tag ≡ d.tag → tags' ≡ closed tags owner tag → rs' ≡ rs ++ d ∷ [] → length tags' + length rs' ≤ cap
-room_recorded tags tags' rs rs' d owner tag cap opened room owner_is tag_is shut grown =
-    let same : tags' ≡ closed tags d.owner d.tag = shut ∙ (ap (λ (o : Origin). closed tags o tag) owner_is ∙ ap (closed tags d.owner) tag_is) in
+pub room_recorded : (tags tags' : List OpenTag) (rs rs' : List Delivery) (d : Delivery) (cap : ℕ) → is_open tags d.owner d.tag ≡ true → length tags + length rs ≤ cap
+    → tags' ≡ closed tags d.owner d.tag → rs' ≡ rs ++ d ∷ [] → length tags' + length rs' ≤ cap
+room_recorded tags tags' rs rs' d cap opened room shut grown =
     let fewer : length (closed tags d.owner d.tag) + 1 ≤ length tags = room_closed tags d.owner d.tag opened in
-    let now : length tags' ≡ length (closed tags d.owner d.tag) = ap length same in
+    let now : length tags' ≡ length (closed tags d.owner d.tag) = ap length shut in
     let more : length rs' ≡ length rs + 1 = ap length grown ∙ length-append rs (d ∷ []) in
     omega (arith, fewer, now, more, room)

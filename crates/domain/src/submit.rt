@@ -106,7 +106,9 @@ impl Domain {
         self.accept(rt, function, &packet, copy)
     }
 
-    /// The same of bytes that the journal and the log share, where they are made for that.
+    /// A function of this domain submits a packet of bytes that the journal and the log share, where they are made for that.
+    /// It does what `submit` does, and is refused as that is: with the first fault that applies of `NoFunction`, `TooLong`,
+    /// `Completion`, `TagBusy` and `BudgetSpent`, or with `NoMemory` where memory was refused. Then nothing changes.
     pub fn submit_bytes<R: Wait>(
         &mut self,
         rt: &R,

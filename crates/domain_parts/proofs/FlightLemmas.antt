@@ -14,10 +14,9 @@ use Rattle.domain_parts.specs.State.{item_at}
 use Rattle.domain_parts.specs.Flights.{IsSlot, emission, emissions, flight_over, held_in}
 
 -- a slot that was emptied is one packet less
-pub emissions-clear : (old now new : List (Option InFlight)) (es : List (Option Emission)) (n : ℕ) → new ≡ slice_set now n None → now ≡ old → emissions old ≡ es → emissions new ≡ slice_set es n None
-emissions-clear old now new es n cleared is seen =
-    ap emissions (cleared ∙ ap (λ (xs : List (Option InFlight)). slice_set xs n None) is)
-    ∙ map-set (option_map emission) old n None ∙ ap (λ (xs : List (Option Emission)). slice_set xs n None) seen
+pub emissions-clear : (old now new : List (Option InFlight)) (n : ℕ) → new ≡ slice_set now n None → now ≡ old → emissions new ≡ slice_set (emissions old) n None
+emissions-clear old now new n cleared is =
+    ap emissions (cleared ∙ ap (λ (xs : List (Option InFlight)). slice_set xs n None) is) ∙ map-set (option_map emission) old n None
 
 one_at : {X : Type 0} (P : X → Type 0) (x d : X) (k : ℕ) → P x → k < 1 → P (slice_index_or (x ∷ []) k d)
 one_at P x d zero p lt = p

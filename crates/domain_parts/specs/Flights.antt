@@ -1,5 +1,5 @@
 -- What a clause sees of the packets in flight, by their tokens.
-use Rattle.std.specs.Prelude.{◌≡◌, ℕ, ◌+◌, ◌<◌, ◌≤◌, ◌^◌, List, [], ◌∷◌, ◌++◌, length, map, replicate, Option, Some, None, option_map}
+use Rattle.std.specs.Prelude.{◌≡◌, ℕ, ◌+◌, ◌≤◌, ◌^◌, List, [], ◌∷◌, ◌++◌, length, map, replicate, Option, Some, None, option_map}
 use Rattle.std.specs.Arc.{arc_value}
 use Rattle.std.specs.Option.{IfSome}
 use Rattle.std.specs.List.{All}
@@ -36,4 +36,4 @@ flight_of f = flight_over f.gone f.slots.items
 pub record AreSlots (f : Inside) : Type 0 where
   pub slots : All (IsSlot (arc_value f.log)) f.slots.items
   pub held : f.held ≡ held_in f.slots.items
-  pub numbered : f.gone + length f.slots.items < 2 ^ 64
+  pub gone : f.gone ≤ 2 ^ 63

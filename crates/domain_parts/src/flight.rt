@@ -16,6 +16,9 @@ use std::marker::Model;
 use std::sync::{Arc, Wait};
 use tlp_view::ReadPacket;
 
+/// How many numbers may have no slot.
+const MOST_GONE: u64 = 1 << 63;
+
 /// A packet in flight: who made it and for whom, and what shows where its bytes are.
 #[derive(Drop)]
 struct InFlight {
@@ -62,17 +65,19 @@ fn clear(slots: &mut [Option<InFlight>], held: &mut u64, index: usize)
     }
 }
 
-/// Where no slot holds a packet, the slots are given out again, from the first one on.
+/// Where no slot holds a packet, the slots are given out again, from the first one on. After 2^63 numbers they are no
+/// more: a list is always shorter than that, and so no number is ever too large.
 fn restart(gone: &mut u64, slots: &mut Vec<Option<InFlight>>, held: u64)
     requires held { held ≡ held_in slots.old.items }
-    requires numbered { gone.old + length slots.old.items < 2 ^ 64 }
+    requires gone { gone.old ≤ 2 ^ 63 }
     ensures flight { flight_over gone.new slots.new.items ≡ flight_over gone.old slots.old.items }
     ensures held { held ≡ held_in slots.new.items }
-    ensures numbered { gone.new + length slots.new.items ≡ gone.old + length slots.old.items }
+    ensures gone { gone.new ≤ 2 ^ 63 }
     ensures slots { (log : Log) → All (IsSlot log) slots.old.items → All (IsSlot log) slots.new.items }
 {
-    if held == 0 {
-        *gone += slots.len() as u64;
+    let made = *gone + slots.len() as u64;
+    if held == 0 && made <= MOST_GONE {
+        *gone = made;
         slots.clear();
     }
 }
@@ -118,9 +123,6 @@ impl Flight {
     {
         self.slots.reserve(1)?;
         let number = self.made();
-        if number == u64::MAX {
-            return Err(NoMemory);
-        }
         let (frame, token) = self.log.emit_bytes(rt, domain, number, head, bytes)?;
         self.slots.push_reserved(Some(InFlight { parties, token }));
         self.held += 1;

@@ -1,79 +1,121 @@
 -- Flags that are set and cleared: who is awake.
 use Rattle.std.proofs.Common.{◌≡◌, ◌⊎◌, inl, inr, ℕ, zero, suc, ◌+◌, ◌<◌, ◌≤◌, Bool, true, false, cond, List, [], ◌∷◌, ◌++◌, length, map, set, take, replicate, Some, refl, sym, ap, ◌∙◌, subst, arith}
-use Rattle.std.specs.Prelude.{Contains, ◌&&◌, not, slice_get, slice_index_or}
-use Rattle.std.proofs.lemmas.Bool.{and_parts, false≢true}
+use Rattle.std.specs.Prelude.{Contains, ◌||◌, not, slice_get, slice_index_or}
+use Rattle.std.proofs.lemmas.Bool.{false≢true}
 use Rattle.std.proofs.lemmas.List.{get_or-replicate, length-map, length-replicate, length-set}
 use Rattle.std.proofs.lemmas.List.Elements.{Contains-append_cases}
 use Rattle.std.proofs.lemmas.Option.{get_or_from_slice_get, same_Some, slice_get_within}
-use Rattle.fabric_core.proofs.invariant.Settling.{either_there, replaced}
 use Rattle.topology.proofs.Members.{cases_contained, nothing_contained}
 use Rattle.reports.proofs.Taking.{take_all, take_next}
 use Rattle.sweeps.specs.declared.moves.Moves.{Moves}
 use Rattle.sweeps.specs.declared.stop.Stop.{Stop}
-use Rattle.sweeps.specs.Asleep.{AreWoken, IsSettledAt, IsUnwoken, has_moved}
+use Rattle.sweeps.specs.Asleep.{AreWoken, IsSettledAt, IsUnblocked, IsUnwoken, Nowhere, has_moved}
 
 -- ---- woken
 
-pub woken_start : (moved : Bool) (old : List Bool) → AreWoken moved [] old old
-woken_start moved old = record { all = refl; still = λ place is. (is, λ m within. nothing_contained place within) }
-
-woken_more : (places : List ℕ) (p : ℕ) (old mid : List Bool) → AreWoken true places old mid → AreWoken true (places ++ p ∷ []) old (set mid p true)
-woken_more places p old mid woken = record { all = length-set mid p true ∙ woken.all; still = λ q is. by q is (either_there mid p q true false is) }
+-- an element of a list in which one was set: that one, or another that was there
+placed : (flags : List Bool) (place q : ℕ) (new b : Bool) → slice_get (set flags place new) q ≡ Some b → ((q ≡ place) × (new ≡ b)) ⊎ ((q ≡ place → ⊥) × (slice_get flags q ≡ Some b))
+placed [] place q new b is = absurd cc
+placed (x ∷ flags) zero zero new b is = inl (refl, same_Some new b is)
+placed (x ∷ flags) zero (suc q) new b is = inr (λ same. absurd (omega (arith, same)), is)
+placed (x ∷ flags) (suc place) zero new b is = inr (λ same. absurd (omega (arith, same)), is)
+placed (x ∷ flags) (suc place) (suc q) new b is = again (placed flags place q new b is)
   where
-    unlisted : (q : ℕ) → slice_get (set mid p true) q ≡ Some false → slice_get mid q ≡ Some false → Contains places q ⊎ Contains (p ∷ []) q → ⊥
-    unlisted q is was (inl within) = (woken.still q was).1 refl within
-    unlisted q is was (inr last) = here (cases_contained p q [] last)
+    again : ((q ≡ place) × (new ≡ b)) ⊎ ((q ≡ place → ⊥) × (slice_get flags q ≡ Some b)) → ((suc q ≡ suc place) × (new ≡ b)) ⊎ ((suc q ≡ suc place → ⊥) × (slice_get flags q ≡ Some b))
+    again (inl own) = inl (ap suc own.0, own.1)
+    again (inr other) = inr (λ same. other.0 (omega (arith, same)), other.1)
+
+module _ (IsSpared : ℕ → Type 0) where
+  pub woken_start : (moved : Bool) (old : List Bool) → AreWoken IsSpared moved [] old old
+  woken_start moved old = record { all = refl; still = λ place is. (is, λ m within. absurd (nothing_contained place within)) }
+
+  -- one place more, which is woken or spared
+  module _ (places : List ℕ) (p : ℕ) (old mid : List Bool) (woken : AreWoken IsSpared true places old mid) where
+    spared : (q : ℕ) → slice_get mid q ≡ Some false → (p ≡ q → IsSpared q) → Contains places q ⊎ Contains (p ∷ []) q → IsSpared q
+    spared q was last (inl within) = (woken.still q was).1 refl within
+    spared q was last (inr own) = here (cases_contained p q [] own)
       where
-        here : (p ≡ q) ⊎ Contains [] q → ⊥
-        here (inr within) = nothing_contained q within
-        here (inl same) =
-            let set_there = replaced mid q false true was in
-            let clash = same_Some false true (sym is ∙ (ap (λ (n : ℕ). slice_get (set mid n true) q) same ∙ set_there)) in
-            false≢true clash
+        here : (p ≡ q) ⊎ Contains [] q → IsSpared q
+        here (inl same) = last same
+        here (inr within) = absurd (nothing_contained q within)
 
-    by : (q : ℕ) → slice_get (set mid p true) q ≡ Some false → ((q ≡ p) × (false ≡ true)) ⊎ (slice_get mid q ≡ Some false) → (slice_get old q ≡ Some false) × (true ≡ true → Contains (places ++ p ∷ []) q → ⊥)
-    by q is (inl own) = absurd (false≢true own.1)
-    by q is (inr was) = ((woken.still q was).0, λ m within. unlisted q is was (Contains-append_cases places (p ∷ []) q within))
+    pub woken_more : AreWoken IsSpared true (places ++ p ∷ []) old (set mid p true)
+    woken_more = record { all = length-set mid p true ∙ woken.all; still = λ q is. by q (placed mid p q true false is) }
+      where
+        by : (q : ℕ) → ((q ≡ p) × (true ≡ false)) ⊎ ((q ≡ p → ⊥) × (slice_get mid q ≡ Some false)) → (slice_get old q ≡ Some false) × (true ≡ true → Contains (places ++ p ∷ []) q → IsSpared q)
+        by q (inl own) = absurd (false≢true (sym own.1))
+        by q (inr was) = ((woken.still q was.1).0, λ m within. spared q was.1 (λ same. absurd (was.0 (sym same))) (Contains-append_cases places (p ∷ []) q within))
 
-pub woken_next : (places : List ℕ) (i p : ℕ) (old mid : List Bool) → i < length places → p ≡ slice_index_or places i p → AreWoken true (take i places) old mid → AreWoken true (take (i + 1) places) old (set mid p true)
-woken_next places i p old mid less is woken = subst (λ (ps : List ℕ). AreWoken true ps old (set mid p true)) (sym (take_next places i p less is)) (woken_more (take i places) p old mid woken)
+    pub spared_more : IsSpared p → AreWoken IsSpared true (places ++ p ∷ []) old mid
+    spared_more is = record {
+      all = woken.all;
+      still = λ q was. ((woken.still q was).0, λ m within. spared q was (λ same. subst IsSpared same is) (Contains-append_cases places (p ∷ []) q within));
+    }
 
-pub woken_whole : (places : List ℕ) (i : ℕ) (old new : List Bool) → length places ≤ i → AreWoken true (take i places) old new → AreWoken true places old new
-woken_whole places i old new most woken = subst (λ (ps : List ℕ). AreWoken true ps old new) (take_all places i most) woken
+  pub woken_next : (places : List ℕ) (i p : ℕ) (old mid : List Bool) → i < length places → p ≡ slice_index_or places i p → AreWoken IsSpared true (take i places) old mid → AreWoken IsSpared true (take (i + 1) places) old (set mid p true)
+  woken_next places i p old mid less is woken = subst (λ (ps : List ℕ). AreWoken IsSpared true ps old (set mid p true)) (sym (take_next places i p less is)) (woken_more (take i places) p old mid woken)
 
-pub none_woken : (moved : Bool) (places : List ℕ) (old : List Bool) → moved ≡ false → AreWoken moved places old old
-none_woken moved places old none = record { all = refl; still = λ place is. (is, λ m within. false≢true (sym none ∙ m)) }
+  pub woken_whole : (places : List ℕ) (i : ℕ) (old new : List Bool) → length places ≤ i → AreWoken IsSpared true (take i places) old new → AreWoken IsSpared true places old new
+  woken_whole places i old new most woken = subst (λ (ps : List ℕ). AreWoken IsSpared true ps old new) (take_all places i most) woken
 
-pub if_woken : (moved : Bool) (places : List ℕ) (old new : List Bool) → moved ≡ true → AreWoken true places old new → AreWoken moved places old new
-if_woken moved places old new some woken = subst (λ (b : Bool). AreWoken b places old new) (sym some) woken
+  pub none_woken : (moved : Bool) (places : List ℕ) (old : List Bool) → moved ≡ false → AreWoken IsSpared moved places old old
+  none_woken moved places old none = record { all = refl; still = λ place is. (is, λ m within. absurd (false≢true (sym none ∙ m))) }
+
+  pub if_woken : (moved : Bool) (places : List ℕ) (old new : List Bool) → moved ≡ true → AreWoken IsSpared true places old new → AreWoken IsSpared moved places old new
+  if_woken moved places old new some woken = subst (λ (b : Bool). AreWoken IsSpared b places old new) (sym some) woken
+
+-- of a row of places those that are blocked
+pub blocked_next : (blocked : List Bool) (places : List ℕ) (i p : ℕ) (old mid new : List Bool) (is_blocked : Bool) → i < length places → p ≡ slice_index_or places i p → slice_get blocked p ≡ Some is_blocked → new ≡ cond is_blocked (set mid p true) mid
+    → AreWoken (IsUnblocked blocked) true (take i places) old mid → AreWoken (IsUnblocked blocked) true (take (i + 1) places) old new
+blocked_next blocked places i p old mid new is_blocked less is marked made woken =
+    subst (λ (ps : List ℕ). AreWoken (IsUnblocked blocked) true ps old new) (sym (take_next places i p less is)) (subst (AreWoken (IsUnblocked blocked) true (take i places ++ p ∷ []) old) (sym made) (by is_blocked marked))
+  where
+    by : (b : Bool) → slice_get blocked p ≡ Some b → AreWoken (IsUnblocked blocked) true (take i places ++ p ∷ []) old (cond b (set mid p true) mid)
+    by true at = woken_more (IsUnblocked blocked) (take i places) p old mid woken
+    by false at = spared_more (IsUnblocked blocked) (take i places) p old mid woken at
 
 -- ---- settled
 
-not_false : (b : Bool) → not b ≡ true → b ≡ false
-not_false true none = absurd cc
-not_false false none = refl
-
-module _ (stop : Stop) (place : ℕ) (moves : Moves) (guarded : Bool) (old a b c : List Bool) (first : AreWoken moves.taken stop.by_taking.items old a) (second : AreWoken moves.received stop.by_receiving.items a b) (third : AreWoken moves.told stop.by_telling.items b c) where
-  unwoken : (q : ℕ) → slice_get c q ≡ Some false → (slice_get old q ≡ Some false) × IsUnwoken stop moves q
+module _ (stop : Stop) (place : ℕ) (moves : Moves) (may_sleep : Bool) (blocked old a b c d : List Bool) (first : AreWoken Nowhere moves.taken stop.by_taking.items old a) (second : AreWoken (IsUnblocked blocked) moves.taken stop.by_freeing.items a b)
+    (third : AreWoken Nowhere moves.received stop.by_receiving.items b c) (fourth : AreWoken Nowhere moves.told stop.by_telling.items c d) where
+  unwoken : (q : ℕ) → slice_get d q ≡ Some false → (slice_get old q ≡ Some false) × IsUnwoken stop moves blocked q
   unwoken q is =
-      let z = third.still q is in
-      let y = second.still q z.0 in
-      let x = first.still q y.0 in
-      (x.0, record { taking = x.1; receiving = y.1; telling = z.1 })
+      let z = fourth.still q is in
+      let y = third.still q z.0 in
+      let x = second.still q y.0 in
+      let w = first.still q x.0 in
+      (w.0, record { taking = w.1; freeing = x.1; receiving = y.1; telling = z.1 })
 
-  all_same : length c ≡ length old
-  all_same = third.all ∙ (second.all ∙ first.all)
+  -- what stays asleep: nothing moved, and it may sleep
+  fell_asleep : (may some : Bool) → (not may || some) ≡ false → (some ≡ false) × (may ≡ true)
+  fell_asleep true some is = (is, refl)
+  fell_asleep false some is = absurd (false≢true (sym is))
 
-  by_cases : (still : Bool) → (guarded && not (has_moved moves)) ≡ still → IsSettledAt stop place moves guarded old (cond still (set c place false) c)
-  by_cases false is = record { all = all_same; still = λ q asleep. inr (unwoken q asleep) }
-  by_cases true is = record { all = length-set c place false ∙ all_same; still = λ q asleep. go q (either_there c place q false false asleep) }
+  pub settled_by : (awake : Bool) (new : List Bool) → awake ≡ (not may_sleep || has_moved moves) → new ≡ set d place awake → IsSettledAt stop place moves may_sleep blocked old new
+  settled_by awake new is made = record {
+    all = ap (length {A = Bool}) made ∙ (length-set d place awake ∙ (fourth.all ∙ (third.all ∙ (second.all ∙ first.all))));
+    still = λ q asleep. go q (placed d place q awake false (ap (λ (flags : List Bool). slice_get flags q) (sym made) ∙ asleep));
+  }
     where
-      go : (q : ℕ) → ((q ≡ place) × (false ≡ false)) ⊎ (slice_get c q ≡ Some false) → ((q ≡ place) × (has_moved moves ≡ false) × (guarded ≡ true)) ⊎ ((slice_get old q ≡ Some false) × IsUnwoken stop moves q)
-      go q (inl own) = let both = and_parts guarded (not (has_moved moves)) is in inl (own.0, not_false (has_moved moves) both.1, both.0)
-      go q (inr was) = inr (unwoken q was)
+      go : (q : ℕ) → ((q ≡ place) × (awake ≡ false)) ⊎ ((q ≡ place → ⊥) × (slice_get d q ≡ Some false)) → ((q ≡ place) × (has_moved moves ≡ false) × (may_sleep ≡ true)) ⊎ ((q ≡ place → ⊥) × (slice_get old q ≡ Some false) × IsUnwoken stop moves blocked q)
+      go q (inl own) = let both = fell_asleep may_sleep (has_moved moves) (sym is ∙ own.1) in inl (own.0, both.0, both.1)
+      go q (inr was) = let before = unwoken q was.1 in inr (was.0, before.0, before.1)
 
-  pub settled_by : (still : Bool) (new : List Bool) → still ≡ (guarded && not (has_moved moves)) → new ≡ cond still (set c place false) c → IsSettledAt stop place moves guarded old new
-  settled_by still new is same = subst (IsSettledAt stop place moves guarded old) (sym same) (by_cases still (sym is))
+-- what is marked at another place was so before
+pub marked_before : (old new : List Bool) (place : ℕ) (mark : Bool) (q : ℕ) → new ≡ set old place mark → (q ≡ place → ⊥) → slice_get new q ≡ Some false → slice_get old q ≡ Some false
+marked_before old new place mark q made other is = by (placed old place q mark false (ap (λ (flags : List Bool). slice_get flags q) (sym made) ∙ is))
+  where
+    by : ((q ≡ place) × (mark ≡ false)) ⊎ ((q ≡ place → ⊥) × (slice_get old q ≡ Some false)) → slice_get old q ≡ Some false
+    by (inl own) = absurd (other own.0)
+    by (inr was) = was.1
+
+-- and at the place itself
+pub marked_here : (old new : List Bool) (place : ℕ) (mark : Bool) → new ≡ set old place mark → slice_get new place ≡ Some false → mark ≡ false
+marked_here old new place mark made is = by (placed old place place mark false (ap (λ (flags : List Bool). slice_get flags place) (sym made) ∙ is))
+  where
+    by : ((place ≡ place) × (mark ≡ false)) ⊎ ((place ≡ place → ⊥) × (slice_get old place ≡ Some false)) → mark ≡ false
+    by (inl own) = own.1
+    by (inr other) = absurd (other.0 refl)
 
 -- ---- all awake
 

@@ -5,7 +5,7 @@ use Rattle.std.specs.List.{position}
 use Rattle.std.proofs.lemmas.Bool.{false≢true}
 use Rattle.std.proofs.lemmas.List.Quantifiers.{position-Some}
 use Rattle.std.proofs.lemmas.List.{length-map}
-use Rattle.std.proofs.lemmas.List.Elements.{All-append, All-cons, All-contains, All-nil, Contains-append_left, Contains-append_right}
+use Rattle.std.proofs.lemmas.List.Elements.{All-append, All-cons, All-nil, Contains-append_left, Contains-append_right}
 use Rattle.std.proofs.lemmas.Option.{same_Some, slice_get-get_or, slice_get-map, slice_get_read, slice_get_within}
 use Rattle.topology.proofs.Members.{here}
 use Rattle.reports.proofs.Taking.{take_all, take_next}
@@ -157,6 +157,7 @@ module _ (tree : Tree) (stations : List Station) where
       wakes_all : Wakes tree stop s other
       wakes_all = record {
         taking = λ wakes. h.is.taking other k.site k.at (wakes_sites How.Taking wakes);
+        freeing = λ wakes. h.is.freeing other k.site k.at (wakes_sites How.Freeing wakes);
         receiving = λ wakes. h.is.receiving other k.site k.at (wakes_sites How.Receiving wakes);
         telling = λ wakes. h.is.telling other k.site k.at (wakes_sites How.Telling wakes);
       }

@@ -1,9 +1,10 @@
 -- Stations that are asleep, through the visit of a station.
-use Rattle.std.proofs.Common.{◌≡◌, ◌⊎◌, inl, inr, ℕ, zero, suc, ◌+◌, ◌-◌, ◌<◌, ◌≤◌, Bool, true, false, List, [], ◌∷◌, ◌++◌, length, map, replicate, take, slice_get, Some, refl, sym, ap, ◌∙◌, subst, arith, eqb-true}
-use Rattle.std.specs.Prelude.{All, ◌||◌, option_map, slice_index_or}
+use Rattle.std.proofs.Common.{◌≡◌, ◌⊎◌, inl, inr, ℕ, zero, suc, ◌+◌, ◌-◌, ◌<◌, ◌≤◌, Bool, true, false, List, [], ◌∷◌, ◌++◌, length, map, replicate, set, take, slice_get, Some, refl, sym, ap, ◌∙◌, subst, arith, eqb-true}
+use Rattle.std.specs.Prelude.{All, Contains, not, ◌&&◌, ◌||◌, option_map, slice_index_or}
 use Rattle.std.specs.List.{flat_map, list_all}
 use Rattle.std.proofs.Math.Bool.{or-false}
 use Rattle.std.proofs.Math.Nat.{add-zero}
+use Rattle.std.proofs.lemmas.List.{length-set}
 use Rattle.std.proofs.lemmas.Option.{get_or_from_slice_get, same_Some, slice_get-map, slice_get_cases, slice_get_within}
 use Rattle.std.proofs.lemmas.List.Elements.{All-cons, All-head, All-nil, All-tail}
 use Rattle.std.proofs.lemmas.Bool.{false≢true, or_parts}
@@ -11,6 +12,7 @@ use Rattle.fab_types.specs.declared.class.Class.{Class}
 use Rattle.fab_types.specs.declared.class.Class.TheVariants.{Posted, NonPosted, Completion}
 use Rattle.fab_types.specs.declared.outcome.Outcome.{Outcome}
 use Rattle.fab_types.specs.declared.outcome.Outcome.TheVariants.{Idle, Moved, Refused, NoMemory}
+use Rattle.fab_types.specs.declared.place.Direction.{Direction}
 use Rattle.bridge.specs.Bridges.{Routes}
 use Rattle.layout.specs.Laws.{IsPlatform}
 use Rattle.platform.specs.Platform.{Platform}
@@ -20,27 +22,28 @@ use Rattle.fabric_core.specs.declared.event.Event.{Event}
 use Rattle.fabric_core.specs.declared.event.Event.TheVariants.{Arrive, Credit, Enter, Mmio, Pass, Root, Send, Submit, Take, Tick}
 use Rattle.fabric_core.specs.declared.station.Station.{Station}
 use Rattle.fabric_core.specs.declared.station.Station.TheVariants as station
-use Rattle.fabric_core.specs.Events.{StepsTo}
+use Rattle.fabric_core.specs.Events.{StepsTo, effect}
 use Rattle.fabric_core.specs.Invariant.{IsFabric}
 use Rattle.fabric_core.specs.Runs.{Run}
-use Rattle.fabric_core.specs.Stations.{classes, events_at, others_at, taking}
+use Rattle.fabric_core.specs.Stations.{classes, events_at, is_quiet, others_at, taking}
 use Rattle.fabric_core.specs.Still.{IsIdleAt}
-use Rattle.waking.specs.Waking.{changes_outbox, is_outbox_of, is_outbox_of_host, wakes}
+use Rattle.waking.specs.Waking.{changes, changes_outbox, frees, is_outbox_of, is_outbox_of_host, wakes}
 use Rattle.fabric_core.specs.World.{World, is_guarded, world_of}
+use Rattle.fabric_core.proofs.effect.QuietStations.{quiet_idle}
 use Rattle.fabric_core.proofs.invariant.Changing.{all_back, all_front}
 use Rattle.fabric_core.proofs.order.InOrder.{fabric_after}
 use Rattle.fabric_core.proofs.progress.Starts.{steps_stay}
 use Rattle.fabric_core.proofs.runs.LeftRuns.{start_fabric}
 use Rattle.fabric_core.proofs.soundness.Orderly.{fabric_step}
-use Rattle.waking.proofs.Woken.{wakes_no_other}
+use Rattle.waking.proofs.Woken.{leaves_quiet, wakes_no_other}
 use Rattle.sweeps.specs.declared.awake.Awake.{Awake}
 use Rattle.sweeps.specs.declared.moves.Moves.{Moves}
 use Rattle.sweeps.specs.declared.site.How.{How}
-use Rattle.sweeps.specs.declared.site.How.TheVariants.{Taking, Receiving, Telling}
+use Rattle.sweeps.specs.declared.site.How.TheVariants.{Taking, Freeing, Receiving, Telling}
 use Rattle.sweeps.specs.declared.stop.Stop.{Stop}
-use Rattle.sweeps.specs.Asleep.{AreAsleep, AreStops, AreWithin, AreWoken, AreWokenBy, IsBegunAt, MaySleep, IsSettledAt, IsUnwoken, IsVisit, IsWokenByBegin, Wakes, has_moved, outbox_begun, receiving_at, site_of, station_of, telling_at, wakes_by}
+use Rattle.sweeps.specs.Asleep.{AreAsleep, AreStops, AreWithin, AreWoken, AreWokenBy, IsBegunAt, MaySleep, IsSettledAt, IsUnwoken, IsVisit, IsWokenByBegin, Nowhere, Wakes, are_blocked, has_moved, outbox_begun, receiving_at, site_of, station_of, telling_at, wakes_by}
 use Rattle.sweeps.specs.Sweeps.{Sweeps}
-use Rattle.sweeps.proofs.Flags.{all_filled, all_mapped, none_filled, none_mapped}
+use Rattle.sweeps.proofs.Flags.{all_filled, all_mapped, marked_before, marked_here, none_filled, none_mapped}
 use Rattle.sweeps.proofs.Running.{quiet_sweep, stations_next, sweep_then}
 use Rattle.sweeps.proofs.Settling.{NeverRefused, all_unmoved, classes_never, station_never}
 
@@ -67,34 +70,52 @@ run_fabric w v [] (outcome ∷ outcomes) run fabric = absurd run
 run_fabric w v (event ∷ events) [] run fabric = absurd run
 run_fabric w v (event ∷ events) (outcome ∷ outcomes) run fabric = run_fabric run.0 v events outcomes run.2 (fabric_step fabric_after w run.0 event outcome fabric run.1)
 
--- ---- a station that isn't woken
+-- ---- what events that pass a station by keep of it
 
-abbrev Unwoken : Tree → Station → Event → Type 0
-Unwoken tree t event = wakes tree event t ≡ false
+abbrev Unwoken : Station → Tree → Event → Type 0
+Unwoken t tree event = wakes tree event t ≡ false
 
-module _ (t : Station) where
-  step_idle : (w v : World) (event : Event) (outcome : Outcome) → IsFabric w → is_guarded w ≡ true → StepsTo w event outcome v → Unwoken w.tree t event → IsIdleAt w t → IsIdleAt v t
-  step_idle w v event Moved fabric controls step none idle = wakes_no_other w v event fabric controls step t none idle
-  step_idle w v event Idle fabric controls step none idle = subst (λ (x : World). IsIdleAt x t) (sym step.2) idle
-  step_idle w v event (Refused fault) fabric controls step none idle = subst (λ (x : World). IsIdleAt x t) (sym step.1) idle
-  step_idle w v event NoMemory fabric controls step none idle = subst (λ (x : World). IsIdleAt x t) (sym step.2) idle
+abbrev Unchanged : Station → Tree → Event → Type 0
+Unchanged t tree event = changes tree event t ≡ false
 
-  run_idle : (w v : World) (events : List Event) (outcomes : List Outcome) → IsFabric w → is_guarded w ≡ true → Run w events outcomes v → All (Unwoken w.tree t) events → IsIdleAt w t → IsIdleAt v t
-  run_idle w v [] [] fabric controls run none idle = subst (λ (x : World). IsIdleAt x t) (sym run) idle
-  run_idle w v [] (outcome ∷ outcomes) fabric controls run none idle = absurd run
-  run_idle w v (event ∷ events) [] fabric controls run none idle = absurd run
-  run_idle w v (event ∷ events) (outcome ∷ outcomes) fabric controls run none idle =
+abbrev IsQuietAt : Station → World → Type 0
+IsQuietAt t w = is_quiet w t ≡ true
+
+neither : (a b : Bool) → a ≡ false → b ≡ false → (a || b) ≡ false
+neither a b one other = ap (λ (x : Bool). x || b) one ∙ other
+
+-- each such event keeps what holds
+abbrev Keeps : (World → Type 0) → (Tree → Event → Type 0) → Type 0
+Keeps P PassesBy = (w v : World) (event : Event) → IsFabric w → is_guarded w ≡ true → effect w event ≡ Some v → PassesBy w.tree event → P w → P v
+
+idle_kept : (t : Station) → Keeps (λ w. IsIdleAt w t) (Unwoken t)
+idle_kept t w v event fabric controls is none idle = wakes_no_other w v event fabric controls is t none idle
+
+quiet_kept : (t : Station) → Keeps (IsQuietAt t) (Unchanged t)
+quiet_kept t w v event fabric controls is none quiet = leaves_quiet w v event fabric controls is t none quiet
+
+module _ (P : World → Type 0) (PassesBy : Tree → Event → Type 0) (keeps : Keeps P PassesBy) where
+  step_keeps : (w v : World) (event : Event) (outcome : Outcome) → IsFabric w → is_guarded w ≡ true → StepsTo w event outcome v → PassesBy w.tree event → P w → P v
+  step_keeps w v event Moved fabric controls step by was = keeps w v event fabric controls step by was
+  step_keeps w v event Idle fabric controls step by was = subst P (sym step.2) was
+  step_keeps w v event (Refused fault) fabric controls step by was = subst P (sym step.1) was
+  step_keeps w v event NoMemory fabric controls step by was = subst P (sym step.2) was
+
+  run_keeps : (w v : World) (events : List Event) (outcomes : List Outcome) → IsFabric w → is_guarded w ≡ true → Run w events outcomes v → All (PassesBy w.tree) events → P w → P v
+  run_keeps w v [] [] fabric controls run by was = subst P (sym run) was
+  run_keeps w v [] (outcome ∷ outcomes) fabric controls run by was = absurd run
+  run_keeps w v (event ∷ events) [] fabric controls run by was = absurd run
+  run_keeps w v (event ∷ events) (outcome ∷ outcomes) fabric controls run by was =
       let mid = run.0 in
       let tree = (steps_stay w mid event outcome run.1).tree in
-      run_idle mid v events outcomes (fabric_step fabric_after w mid event outcome fabric run.1) (step_controls w mid event outcome run.1 ∙ controls) run.2
-      (subst (λ (x : Tree). All (Unwoken x t) events) (sym tree) (All-tail (Unwoken w.tree t) event events none))
-      (step_idle w mid event outcome fabric controls run.1 (All-head (Unwoken w.tree t) event events none) idle)
+      run_keeps mid v events outcomes (fabric_step fabric_after w mid event outcome fabric run.1) (step_controls w mid event outcome run.1 ∙ controls) run.2
+      (subst (λ (x : Tree). All (PassesBy x) events) (sym tree) (All-tail (PassesBy w.tree) event events by))
+      (step_keeps w mid event outcome fabric controls run.1 (All-head (PassesBy w.tree) event events by) was)
 
-  -- by events that are no begins: where any of them moved something, none wakes it
-  sweep_idle : (w v : World) (events : List Event) (moved : Bool) → IsFabric w → is_guarded w ≡ true → All NeverRefused events → Sweeps events w moved v → (moved ≡ true → All (Unwoken w.tree t) events) → IsIdleAt w t → IsIdleAt v t
-  sweep_idle w v events true fabric controls never swept none idle = run_idle w v events swept.outcomes fabric controls swept.run (none refl) idle
-  sweep_idle w v events false fabric controls never swept none idle =
-      subst (λ (x : World). IsIdleAt x t) (sym (all_unmoved w v events swept.outcomes never swept.run (sym swept.moves) swept.memory).1) idle
+  -- by events that are no begins: where any of them moved something, all pass it by
+  sweep_keeps : (w v : World) (events : List Event) (moved : Bool) → IsFabric w → is_guarded w ≡ true → All NeverRefused events → Sweeps events w moved v → (moved ≡ true → All (PassesBy w.tree) events) → P w → P v
+  sweep_keeps w v events true fabric controls never swept by was = run_keeps w v events swept.outcomes fabric controls swept.run (by refl) was
+  sweep_keeps w v events false fabric controls never swept by was = subst P (sym (all_unmoved w v events swept.outcomes never swept.run (sym swept.moves) swept.memory).1) was
 
 -- ---- a visit
 
@@ -106,63 +127,30 @@ each_class P s each =
 one_event : (P : Event → Type 0) (event : Event) → P event → All P (event ∷ [])
 one_event P event is = All-cons P event [] is (All-nil P)
 
+at_receiving : (P : Event → Type 0) (s : Station) → ((direction : Direction) → s ≡ station.Link direction → P (Take direction)) → All P (receiving_at s)
+at_receiving P (station.FunctionOutbox function) each = All-nil P
+at_receiving P (station.HostOutbox domain) each = All-nil P
+at_receiving P (station.Port port) each = All-nil P
+at_receiving P (station.Link direction) each = one_event P (Take direction) (each direction refl)
+at_receiving P station.Host each = All-nil P
+at_receiving P (station.Function function) each = All-nil P
+
+at_telling : (P : Event → Type 0) (s : Station) → ((direction : Direction) → s ≡ station.Link direction → P (Credit direction)) → All P (telling_at s)
+at_telling P (station.FunctionOutbox function) each = All-nil P
+at_telling P (station.HostOutbox domain) each = All-nil P
+at_telling P (station.Port port) each = All-nil P
+at_telling P (station.Link direction) each = one_event P (Credit direction) (each direction refl)
+at_telling P station.Host each = All-nil P
+at_telling P (station.Function function) each = All-nil P
+
 received_never : (s : Station) → All NeverRefused (receiving_at s)
-received_never (station.FunctionOutbox function) = All-nil NeverRefused
-received_never (station.HostOutbox domain) = All-nil NeverRefused
-received_never (station.Port port) = All-nil NeverRefused
-received_never (station.Link direction) = one_event NeverRefused (Take direction) (λ w. refl)
-received_never station.Host = All-nil NeverRefused
-received_never (station.Function function) = All-nil NeverRefused
+received_never s = at_receiving NeverRefused s (λ direction is w. refl)
 
 told_never : (s : Station) → All NeverRefused (telling_at s)
-told_never (station.FunctionOutbox function) = All-nil NeverRefused
-told_never (station.HostOutbox domain) = All-nil NeverRefused
-told_never (station.Port port) = All-nil NeverRefused
-told_never (station.Link direction) = one_event NeverRefused (Credit direction) (λ w. refl)
-told_never station.Host = All-nil NeverRefused
-told_never (station.Function function) = All-nil NeverRefused
+told_never s = at_telling NeverRefused s (λ direction is w. refl)
 
-module _ (tree : Tree) (t : Station) where
-  abbrev Unlisted : How → Station → Type 0
-  Unlisted how s = wakes_by how (site_of tree s) (site_of tree t) ≡ false
-
-  taking_none : (s : Station) (class : Class) → Unlisted Taking s → Unwoken tree t (taking s class)
-  taking_none (station.FunctionOutbox function) class none = none
-  taking_none (station.HostOutbox domain) class none = none
-  taking_none (station.Port port) class none = none
-  taking_none (station.Link direction) class none = none
-  taking_none station.Host class none = none
-  taking_none (station.Function function) class none = none
-
-  receiving_none : (s : Station) → Unlisted Receiving s → All (Unwoken tree t) (receiving_at s)
-  receiving_none (station.FunctionOutbox function) none = All-nil (Unwoken tree t)
-  receiving_none (station.HostOutbox domain) none = All-nil (Unwoken tree t)
-  receiving_none (station.Port port) none = All-nil (Unwoken tree t)
-  receiving_none (station.Link direction) none = one_event (Unwoken tree t) (Take direction) none
-  receiving_none station.Host none = All-nil (Unwoken tree t)
-  receiving_none (station.Function function) none = All-nil (Unwoken tree t)
-
-  telling_none : (s : Station) → Unlisted Telling s → All (Unwoken tree t) (telling_at s)
-  telling_none (station.FunctionOutbox function) none = All-nil (Unwoken tree t)
-  telling_none (station.HostOutbox domain) none = All-nil (Unwoken tree t)
-  telling_none (station.Port port) none = All-nil (Unwoken tree t)
-  telling_none (station.Link direction) none = one_event (Unwoken tree t) (Credit direction) none
-  telling_none station.Host none = All-nil (Unwoken tree t)
-  telling_none (station.Function function) none = All-nil (Unwoken tree t)
-
--- what isn't listed isn't woken
-unlisted : (b : Bool) (P : Type 0) → (b ≡ true → P) → (P → ⊥) → b ≡ false
-unlisted true P listed none = absurd (none (listed refl))
-unlisted false P listed none = refl
-
--- a station that isn't woken by what moved stays idle
-module _ (w v : World) (stop other : Stop) (place : ℕ) (moves : Moves) (visit : IsVisit stop.station w moves v) (fabric : IsFabric w) (controls : is_guarded w ≡ true) (wake : Wakes w.tree stop other place) (none : IsUnwoken stop moves place) where
-  abbrev s : Station
-  s = stop.station
-
-  abbrev t : Station
-  t = other.station
-
+-- through a visit whose events pass a station by, where they moved something, it keeps what they keep
+module _ (w v : World) (s : Station) (moves : Moves) (visit : IsVisit s w moves v) (fabric : IsFabric w) (controls : is_guarded w ≡ true) where
   abbrev u : World
   u = visit.after_taking
 
@@ -187,17 +175,72 @@ module _ (w v : World) (stop other : Stop) (place : ℕ) (moves : Moves) (visit 
   controls_x : is_guarded x ≡ true
   controls_x = run_controls u x (receiving_at s) visit.received.outcomes visit.received.run ∙ controls_u
 
-  idle_u : IsIdleAt w t → IsIdleAt u t
-  idle_u = sweep_idle t w u (map (taking s) classes) moves.taken fabric controls (classes_never s) visit.taken
-      (λ moved. each_class (Unwoken w.tree t) s (λ class. taking_none w.tree t s class (unlisted _ _ wake.taking (none.taking moved))))
+  module _ (P : World → Type 0) (PassesBy : Tree → Event → Type 0) (keeps : Keeps P PassesBy)
+      (taken : moves.taken ≡ true → All (PassesBy w.tree) (map (taking s) classes)) (received : moves.received ≡ true → All (PassesBy w.tree) (receiving_at s)) (told : moves.told ≡ true → All (PassesBy w.tree) (telling_at s)) where
+    visit_keeps : P w → P v
+    visit_keeps was =
+        let at_u = sweep_keeps P PassesBy keeps w u (map (taking s) classes) moves.taken fabric controls (classes_never s) visit.taken taken was in
+        let at_x = sweep_keeps P PassesBy keeps u x (receiving_at s) moves.received fabric_u controls_u (received_never s) visit.received
+        (λ moved. subst (λ (r : Tree). All (PassesBy r) (receiving_at s)) (sym tree_u) (received moved)) at_u in
+        sweep_keeps P PassesBy keeps x v (telling_at s) moves.told fabric_x controls_x (told_never s) visit.told
+        (λ moved. subst (λ (r : Tree). All (PassesBy r) (telling_at s)) (sym tree_x) (told moved)) at_x
 
-  idle_x : IsIdleAt w t → IsIdleAt x t
-  idle_x idle = sweep_idle t u x (receiving_at s) moves.received fabric_u controls_u (received_never s) visit.received
-      (λ moved. subst (λ (r : Tree). All (Unwoken r t) (receiving_at s)) (sym tree_u) (receiving_none w.tree t s (unlisted _ _ wake.receiving (none.receiving moved)))) (idle_u idle)
+module _ (tree : Tree) (t : Station) where
+  abbrev Unlisted : How → Station → Type 0
+  Unlisted how s = wakes_by how (site_of tree s) (site_of tree t) ≡ false
 
-  pub idle_still : IsIdleAt w t → IsIdleAt v t
-  idle_still idle = sweep_idle t x v (telling_at s) moves.told fabric_x controls_x (told_never s) visit.told
-      (λ moved. subst (λ (r : Tree). All (Unwoken r t) (telling_at s)) (sym tree_x) (telling_none w.tree t s (unlisted _ _ wake.telling (none.telling moved)))) (idle_x idle)
+  taking_none : (s : Station) (class : Class) → Unlisted Taking s → Unchanged t tree (taking s class)
+  taking_none (station.FunctionOutbox function) class none = none
+  taking_none (station.HostOutbox domain) class none = none
+  taking_none (station.Port port) class none = none
+  taking_none (station.Link direction) class none = none
+  taking_none station.Host class none = none
+  taking_none (station.Function function) class none = none
+
+  freeing_none : (s : Station) (class : Class) → Unlisted Freeing s → frees tree (taking s class) t ≡ false
+  freeing_none (station.FunctionOutbox function) class none = refl
+  freeing_none (station.HostOutbox domain) class none = refl
+  freeing_none (station.Port port) class none = refl
+  freeing_none (station.Link direction) class none = none
+  freeing_none station.Host class none = refl
+  freeing_none (station.Function function) class none = refl
+
+  unlisted_at : (how : How) (s : Station) (direction : Direction) → s ≡ station.Link direction → Unlisted how s → Unlisted how (station.Link direction)
+  unlisted_at how s direction is none = ap (λ (q : Station). wakes_by how (site_of tree q) (site_of tree t)) (sym is) ∙ none
+
+-- what isn't listed isn't woken
+unlisted : (b : Bool) (P : Type 0) → (b ≡ true → P) → (P → ⊥) → b ≡ false
+unlisted true P listed none = absurd (none (listed refl))
+unlisted false P listed none = refl
+
+-- a station that isn't woken by what moved stays quiet, and idle where no place was freed for it
+module _ (w v : World) (stop other : Stop) (place : ℕ) (moves : Moves) (blocked : List Bool) (visit : IsVisit stop.station w moves v) (fabric : IsFabric w) (controls : is_guarded w ≡ true) (wake : Wakes w.tree stop other place) (none : IsUnwoken stop moves blocked place) where
+  abbrev s : Station
+  s = stop.station
+
+  abbrev t : Station
+  t = other.station
+
+  by_taking : (class : Class) → moves.taken ≡ true → Unchanged t w.tree (taking s class)
+  by_taking class moved = taking_none w.tree t s class (unlisted _ _ wake.taking (none.taking moved))
+
+  by_receiving : (direction : Direction) → s ≡ station.Link direction → moves.received ≡ true → Unchanged t w.tree (Take direction)
+  by_receiving direction is moved = unlisted_at w.tree t Receiving s direction is (unlisted _ _ wake.receiving (none.receiving moved))
+
+  by_telling : (direction : Direction) → s ≡ station.Link direction → moves.told ≡ true → Unchanged t w.tree (Credit direction)
+  by_telling direction is moved = unlisted_at w.tree t Telling s direction is (unlisted _ _ wake.telling (none.telling moved))
+
+  pub quiet_still : is_quiet w t ≡ true → is_quiet v t ≡ true
+  quiet_still = visit_keeps w v s moves visit fabric controls (IsQuietAt t) (Unchanged t) (quiet_kept t)
+      (λ moved. each_class (Unchanged t w.tree) s (λ class. by_taking class moved))
+      (λ moved. at_receiving (Unchanged t w.tree) s (λ direction is. by_receiving direction is moved))
+      (λ moved. at_telling (Unchanged t w.tree) s (λ direction is. by_telling direction is moved))
+
+  pub idle_still : (moves.taken ≡ true → Contains stop.by_freeing.items place → ⊥) → IsIdleAt w t → IsIdleAt v t
+  idle_still free = visit_keeps w v s moves visit fabric controls (λ (x : World). IsIdleAt x t) (Unwoken t) (idle_kept t)
+      (λ moved. each_class (Unwoken t w.tree) s (λ class. neither _ _ (by_taking class moved) (freeing_none w.tree t s class (unlisted _ _ wake.freeing (free moved)))))
+      (λ moved. at_receiving (Unwoken t w.tree) s (λ direction is. neither _ _ (by_receiving direction is moved) refl))
+      (λ moved. at_telling (Unwoken t w.tree) s (λ direction is. neither _ _ (by_telling direction is moved) refl))
 
 -- ---- where nothing moved
 
@@ -239,22 +282,59 @@ may_still stops w v events outcomes run may = record {
   wake = subst (λ (t : Tree). AreStops t stops) (sym (run_tree w v events outcomes run)) may.wake;
 }
 
-module _ (stops : List Stop) (w v : World) (place : ℕ) (stop : Stop) (moves : Moves) (old new : Awake) (at : slice_get stops place ≡ Some stop) (asleep : AreAsleep stops w old) (visit : IsVisit stop.station w moves v) (same : new.may_sleep ≡ old.may_sleep) (marks : length new.blocked.items ≡ length old.blocked.items)
-    (settled : IsSettledAt stop place moves old.may_sleep old.flags.items new.flags.items) where
+-- at a quiet station nothing moves
+quiet_is_idle : (w : World) (s : Station) → is_quiet w s ≡ true → IsIdleAt w s
+quiet_is_idle w s quiet = λ k default less. (quiet_idle w s quiet k default less).0
+
+-- where nothing moved and nothing was tried in vain, it was quiet
+quiet_unless : (some quiet : Bool) → some ≡ false → (not some && not quiet) ≡ false → quiet ≡ true
+quiet_unless some true none blocked = refl
+quiet_unless true false none blocked = absurd (false≢true (sym none))
+quiet_unless false false none blocked = absurd (false≢true (sym blocked))
+
+module _ (stops : List Stop) (w v : World) (place : ℕ) (stop : Stop) (moves : Moves) (old new : Awake) (at : slice_get stops place ≡ Some stop) (asleep : AreAsleep stops w old) (visit : IsVisit stop.station w moves v) (quiet : moves.was_quiet ≡ true → is_quiet v stop.station ≡ true) (same : new.may_sleep ≡ old.may_sleep)
+    (marks : new.blocked.items ≡ set old.blocked.items place (are_blocked moves)) (settled : IsSettledAt stop place moves old.may_sleep new.blocked.items old.flags.items new.flags.items) where
   abbrev Case : ℕ → Type 0
-  Case other = ((other ≡ place) × (has_moved moves ≡ false) × (old.may_sleep ≡ true)) ⊎ ((slice_get old.flags.items other ≡ Some false) × IsUnwoken stop moves other)
+  Case other = ((other ≡ place) × (has_moved moves ≡ false) × (old.may_sleep ≡ true)) ⊎ ((other ≡ place → ⊥) × (slice_get old.flags.items other ≡ Some false) × IsUnwoken stop moves new.blocked.items other)
+
+  marked : length new.blocked.items ≡ length stops
+  marked = ap (length {A = Bool}) marks ∙ (length-set old.blocked.items place (are_blocked moves) ∙ asleep.blocked)
 
   sleeps_by : (other : ℕ) → Case other → new.may_sleep ≡ true
   sleeps_by other (inl own) = same ∙ own.2
-  sleeps_by other (inr was) = same ∙ asleep.asleep other was.0
+  sleeps_by other (inr was) = same ∙ asleep.asleep other was.1
+
+  own_stop : (other : ℕ) (t : Stop) → slice_get stops other ≡ Some t → other ≡ place → stop ≡ t
+  own_stop other t there own = same_Some stop t (sym at ∙ (ap (slice_get stops) (sym own) ∙ there))
+
+  quiet_by : (other : ℕ) (t : Stop) → slice_get stops other ≡ Some t → Case other → slice_get new.blocked.items other ≡ Some false → is_quiet v t.station ≡ true
+  quiet_by other t there (inl own) mark =
+      let unmarked : are_blocked moves ≡ false = marked_here old.blocked.items new.blocked.items place (are_blocked moves) marks (ap (slice_get new.blocked.items) (sym own.0) ∙ mark) in
+      subst (λ (q : Stop). is_quiet v q.station ≡ true) (own_stop other t there own.0) (quiet (quiet_unless (has_moved moves) moves.was_quiet own.1 unmarked))
+  quiet_by other t there (inr was) mark =
+      let may = asleep.may (asleep.asleep other was.1) in
+      let before = marked_before old.blocked.items new.blocked.items place (are_blocked moves) other marks was.0 mark in
+      quiet_still w v stop t other moves new.blocked.items visit may.fabric may.controls (may.wake place other stop t at there) was.2 (asleep.quiet other t there was.1 before)
+
+  -- it may wait for a place, and none was freed for it
+  waits_still : (other : ℕ) (t : Stop) → slice_get stops other ≡ Some t → slice_get new.blocked.items other ≡ Some true → slice_get old.flags.items other ≡ Some false → IsUnwoken stop moves new.blocked.items other → IsIdleAt v t.station
+  waits_still other t there mark was none =
+      let may = asleep.may (asleep.asleep other was) in
+      idle_still w v stop t other moves new.blocked.items visit may.fabric may.controls (may.wake place other stop t at there) none
+      (λ moved within. false≢true (same_Some false true (sym (none.freeing moved within) ∙ mark))) (asleep.idle other t there was)
 
   idle_by : (other : ℕ) (t : Stop) → slice_get stops other ≡ Some t → Case other → IsIdleAt v t.station
-  idle_by other t there (inl own) =
-      let one : stop ≡ t = same_Some stop t (sym at ∙ (ap (slice_get stops) (sym own.0) ∙ there)) in
-      subst (λ (x : Stop). IsIdleAt v x.station) one (falls_asleep stop.station w v moves visit own.1)
+  idle_by other t there (inl own) = subst (λ (q : Stop). IsIdleAt v q.station) (own_stop other t there own.0) (falls_asleep stop.station w v moves visit own.1)
   idle_by other t there (inr was) =
-      let may = asleep.may (asleep.asleep other was.0) in
-      idle_still w v stop t other moves visit may.fabric may.controls (may.wake place other stop t at there) was.1 (asleep.idle other t there was.0)
+      let less = slice_get_within stops other t there in
+      elim (slice_get_cases new.blocked.items other).1 [
+        | inl mark ↦ by mark.0 mark.2
+        | inr past ↦ absurd (omega (arith, less, marked, past.0))
+      ]
+    where
+      by : (mark : Bool) → slice_get new.blocked.items other ≡ Some mark → IsIdleAt v t.station
+      by false is = quiet_is_idle v t.station (quiet_by other t there (inr was) is)
+      by true is = waits_still other t there is was.1 was.2
 
   may_after : new.may_sleep ≡ true → MaySleep stops v
   may_after sleeps = let all = visited stop.station w v moves visit in may_still stops w v (events_at stop.station) all.outcomes all.run (asleep.may (sym same ∙ sleeps))
@@ -262,10 +342,11 @@ module _ (stops : List Stop) (w v : World) (place : ℕ) (stop : Stop) (moves : 
   pub asleep_after : AreAsleep stops v new
   asleep_after = record {
     all = settled.all ∙ asleep.all;
-    blocked = marks ∙ asleep.blocked;
+    blocked = marked;
     may = may_after;
     asleep = λ other is. sleeps_by other (settled.still other is);
     idle = λ other t there is. idle_by other t there (settled.still other is);
+    quiet = λ other t there is mark. quiet_by other t there (settled.still other is) mark;
   }
 
 -- what a stop lists are places that have a flag
@@ -280,11 +361,11 @@ module _ (stops : List Stop) (event : Event) (place : ℕ) (begun : IsBegunAt st
   begun_within n all within =
       subst (λ (m : ℕ). AreWithin m stop) (sym all) (subst (AreWithin (length stops)) (sym is) (within place stop (slice_get_within stops place begun.found.stop begun.found.at)))
 
-  pub begun_woken : (places : List ℕ) (old new : List Bool) → places ≡ stop.by_taking.items → AreWoken true places old new → AreWokenBy stops event old new
+  pub begun_woken : (places : List ℕ) (old new : List Bool) → places ≡ stop.by_taking.items → AreWoken Nowhere true places old new → AreWokenBy stops event old new
   begun_woken places old new same woken = inl (record {
     place = place;
     begun = begun;
-    woken = subst (λ (ps : List ℕ). AreWoken true ps old new) (same ∙ ap (λ (x : Stop). x.by_taking.items) (is ∙ get_or_from_slice_get stops place begun.found.stop stop begun.found.at)) woken;
+    woken = subst (λ (ps : List ℕ). AreWoken Nowhere true ps old new) (same ∙ ap (λ (x : Stop). x.by_taking.items) (is ∙ get_or_from_slice_get stops place begun.found.stop stop begun.found.at)) woken;
   })
 
 -- ---- a sweep
@@ -331,7 +412,7 @@ asleep_up_to w v stops awake i next m asleep least most row so_far =
 
 module _ (stops : List Stop) (w : World) (awake : Awake) (all : length awake.flags.items ≡ length stops) (marked : length awake.blocked.items ≡ length stops) (none : (place : ℕ) → slice_get awake.flags.items place ≡ Some false → ⊥) where
   awake_if : (awake.may_sleep ≡ true → MaySleep stops w) → AreAsleep stops w awake
-  awake_if may = record { all = all; blocked = marked; may = may; asleep = λ place is. absurd (none place is); idle = λ place stop at is. absurd (none place is) }
+  awake_if may = record { all = all; blocked = marked; may = may; asleep = λ place is. absurd (none place is); idle = λ place stop at is. absurd (none place is); quiet = λ place stop at is mark. absurd (none place is) }
 
 -- where memory was refused
 pub kept_awake : (stops : List Stop) (w v : World) (old new : Awake) → AreAsleep stops w old → new.may_sleep ≡ false → new.blocked.items ≡ old.blocked.items → new.flags.items ≡ replicate (length old.flags.items) true → AreAsleep stops v new
@@ -355,31 +436,43 @@ own_host domain (station.Link direction) is = absurd cc
 own_host domain station.Host is = absurd cc
 own_host domain (station.Function function) is = absurd cc
 
--- what its outbox doesn't change it doesn't wake
-begin_wakes : (tree : Tree) (event : Event) (outbox one t : Station) → outbox_begun event ≡ Some outbox → changes_outbox outbox one ≡ true → changes_outbox one t ≡ false → Unwoken tree t event
-begin_wakes tree (Submit function bytes) outbox one t begun changes none =
+-- what its outbox doesn't change it doesn't change, and it frees no place
+begin_changes : (tree : Tree) (event : Event) (outbox one t : Station) → outbox_begun event ≡ Some outbox → changes_outbox outbox one ≡ true → changes_outbox one t ≡ false → Unchanged t tree event
+begin_changes tree (Submit function bytes) outbox one t begun changes none =
     let same = same_Some (station.FunctionOutbox function) outbox begun in
     let own = own_function function one (ap (λ (s : Station). changes_outbox s one) same ∙ changes) in
     ap (λ (s : Station). changes_outbox s t) (sym own) ∙ none
-begin_wakes tree (Tick function) outbox one t begun changes none =
+begin_changes tree (Tick function) outbox one t begun changes none =
     let same = same_Some (station.FunctionOutbox function) outbox begun in
     let own = own_function function one (ap (λ (s : Station). changes_outbox s one) same ∙ changes) in
     ap (λ (s : Station). changes_outbox s t) (sym own) ∙ none
-begin_wakes tree (Mmio domain access) outbox one t begun changes none =
+begin_changes tree (Mmio domain access) outbox one t begun changes none =
     let same = same_Some (station.HostOutbox domain) outbox begun in
     let own = own_host domain one (ap (λ (s : Station). changes_outbox s one) same ∙ changes) in
     ap (λ (s : Station). changes_outbox s t) (sym own) ∙ none
-begin_wakes tree (Enter origin class) outbox one t begun changes none = absurd cc
-begin_wakes tree (Pass port class) outbox one t begun changes none = absurd cc
-begin_wakes tree (Send direction class) outbox one t begun changes none = absurd cc
-begin_wakes tree (Take direction) outbox one t begun changes none = absurd cc
-begin_wakes tree (Credit direction) outbox one t begun changes none = absurd cc
-begin_wakes tree (Root class) outbox one t begun changes none = absurd cc
-begin_wakes tree (Arrive function class) outbox one t begun changes none = absurd cc
+begin_changes tree (Enter origin class) outbox one t begun changes none = absurd cc
+begin_changes tree (Pass port class) outbox one t begun changes none = absurd cc
+begin_changes tree (Send direction class) outbox one t begun changes none = absurd cc
+begin_changes tree (Take direction) outbox one t begun changes none = absurd cc
+begin_changes tree (Credit direction) outbox one t begun changes none = absurd cc
+begin_changes tree (Root class) outbox one t begun changes none = absurd cc
+begin_changes tree (Arrive function class) outbox one t begun changes none = absurd cc
+
+begin_frees : (tree : Tree) (event : Event) (outbox t : Station) → outbox_begun event ≡ Some outbox → frees tree event t ≡ false
+begin_frees tree (Submit function bytes) outbox t begun = refl
+begin_frees tree (Tick function) outbox t begun = refl
+begin_frees tree (Mmio domain access) outbox t begun = refl
+begin_frees tree (Enter origin class) outbox t begun = refl
+begin_frees tree (Pass port class) outbox t begun = refl
+begin_frees tree (Send direction class) outbox t begun = absurd cc
+begin_frees tree (Take direction) outbox t begun = refl
+begin_frees tree (Credit direction) outbox t begun = refl
+begin_frees tree (Root class) outbox t begun = refl
+begin_frees tree (Arrive function class) outbox t begun = refl
 
 module _ (stops : List Stop) (w v : World) (event : Event) (outcome : Outcome) (old new : Awake) (asleep : AreAsleep stops w old) (step : StepsTo w event outcome v) (same : new.may_sleep ≡ old.may_sleep) (marks : new.blocked.items ≡ old.blocked.items) where
-  marked : length new.blocked.items ≡ length stops
-  marked = ap (length {A = Bool}) marks ∙ asleep.blocked
+  marked_again : length new.blocked.items ≡ length stops
+  marked_again = ap (length {A = Bool}) marks ∙ asleep.blocked
 
   may_again : new.may_sleep ≡ true → MaySleep stops v
   may_again sleeps = may_still stops w v (event ∷ []) (outcome ∷ []) (v, step, refl) (asleep.may (sym same ∙ sleeps))
@@ -388,26 +481,41 @@ module _ (stops : List Stop) (w v : World) (event : Event) (outcome : Outcome) (
     abbrev one : Stop
     one = woken.begun.found.stop
 
+    was : (q : ℕ) → slice_get new.flags.items q ≡ Some false → slice_get old.flags.items q ≡ Some false
+    was q is = (woken.woken.still q is).0
+
+    passes_by : (q : ℕ) (t : Stop) → slice_get stops q ≡ Some t → slice_get new.flags.items q ≡ Some false → Unchanged t.station w.tree event
+    passes_by q t there is =
+        let may = asleep.may (asleep.asleep q (was q is)) in
+        let listed = may.wake woken.place q one t woken.begun.found.at there in
+        let none = or_parts (changes_outbox one.station t.station) _ (unlisted _ _ listed.taking ((woken.woken.still q is).1 refl)) in
+        begin_changes w.tree event woken.begun.outbox one.station t.station woken.begun.begun woken.begun.found.changes none.0
+
     idle_again : (q : ℕ) (t : Stop) → slice_get stops q ≡ Some t → slice_get new.flags.items q ≡ Some false → IsIdleAt v t.station
     idle_again q t there is =
-        let was = woken.woken.still q is in
-        let may = asleep.may (asleep.asleep q was.0) in
-        let listed = may.wake woken.place q one t woken.begun.found.at there in
-        let none = or_parts (changes_outbox one.station t.station) _ (unlisted _ _ listed.taking (was.1 refl)) in
-        step_idle t.station w v event outcome may.fabric may.controls step (begin_wakes w.tree event woken.begun.outbox one.station t.station woken.begun.begun woken.begun.found.changes none.0) (asleep.idle q t there was.0)
+        let may = asleep.may (asleep.asleep q (was q is)) in
+        step_keeps (λ (x : World). IsIdleAt x t.station) (Unwoken t.station) (idle_kept t.station) w v event outcome may.fabric may.controls step
+        (neither _ _ (passes_by q t there is) (begin_frees w.tree event woken.begun.outbox t.station woken.begun.begun)) (asleep.idle q t there (was q is))
+
+    quiet_again : (q : ℕ) (t : Stop) → slice_get stops q ≡ Some t → slice_get new.flags.items q ≡ Some false → slice_get new.blocked.items q ≡ Some false → is_quiet v t.station ≡ true
+    quiet_again q t there is mark =
+        let may = asleep.may (asleep.asleep q (was q is)) in
+        step_keeps (IsQuietAt t.station) (Unchanged t.station) (quiet_kept t.station) w v event outcome may.fabric may.controls step
+        (passes_by q t there is) (asleep.quiet q t there (was q is) (ap (λ (flags : List Bool). slice_get flags q) (sym marks) ∙ mark))
 
     by_begin : AreAsleep stops v new
     by_begin = record {
       all = woken.woken.all ∙ asleep.all;
-      blocked = marked;
+      blocked = marked_again;
       may = may_again;
-      asleep = λ q is. same ∙ asleep.asleep q (woken.woken.still q is).0;
+      asleep = λ q is. same ∙ asleep.asleep q (was q is);
       idle = idle_again;
+      quiet = quiet_again;
     }
 
   pub begun_after : AreWokenBy stops event old.flags.items new.flags.items → AreAsleep stops v new
   begun_after (inl woken) = by_begin woken
-  begun_after (inr all) = awake_if stops v new (all_filled _ _ all ∙ asleep.all) marked (none_filled _ _ all) may_again
+  begun_after (inr all) = awake_if stops v new (all_filled _ _ all ∙ asleep.all) marked_again (none_filled _ _ all) may_again
 
 -- at the start
 pub awake_new : (stops : List Stop) (platform : Platform) (awake : Awake) (guarded : Bool) → IsPlatform platform → guarded ≡ list_all is_guarded_port platform.ports → AreStops (tree_of platform) stops → awake.may_sleep ≡ guarded → length awake.blocked.items ≡ length stops → awake.flags.items ≡ map (λ (stop : Stop). true) stops

@@ -1,19 +1,19 @@
 -- Stations at which nothing can move, so that a sweep may pass them over.
-use Rattle.std.specs.Prelude.{◌≡◌, ◌⊎◌, ℕ, ◌<◌, Bool, true, false, ◌||◌, List, [], ◌∷◌, length, map, replicate, slice_get, All, Contains, Option, Some, None}
+use Rattle.std.specs.Prelude.{◌≡◌, ◌⊎◌, ℕ, ◌<◌, Bool, true, false, not, ◌&&◌, ◌||◌, List, [], ◌∷◌, length, map, replicate, slice_get, All, Contains, Option, Some, None}
 use Rattle.topology.specs.Topologies.{Tree}
 use Rattle.fabric_core.specs.declared.event.Event.{Event}
 use Rattle.fabric_core.specs.declared.event.Event.TheVariants.{Submit, Tick, Mmio, Take, Credit}
 use Rattle.fabric_core.specs.declared.station.Station.{Station}
 use Rattle.fabric_core.specs.declared.station.Station.TheVariants as station
 use Rattle.fabric_core.specs.Invariant.{IsFabric}
-use Rattle.fabric_core.specs.Stations.{classes, taking}
+use Rattle.fabric_core.specs.Stations.{classes, is_quiet, taking}
 use Rattle.fabric_core.specs.Still.{IsIdleAt}
-use Rattle.waking.specs.Waking.{changes_outbox, is_woken_by_credits, is_woken_by_receiving, is_woken_by_taking, reach_of}
+use Rattle.waking.specs.Waking.{changes_outbox, is_changed_by_credits, is_changed_by_receiving, is_changed_by_taking, is_freed_by_sending, reach_of}
 use Rattle.fabric_core.specs.World.{World, is_guarded}
 use Rattle.sweeps.specs.declared.awake.Awake.{Awake}
 use Rattle.sweeps.specs.declared.moves.Moves.{Moves}
 use Rattle.sweeps.specs.declared.site.How.{How}
-use Rattle.sweeps.specs.declared.site.How.TheVariants.{Taking, Receiving, Telling}
+use Rattle.sweeps.specs.declared.site.How.TheVariants.{Taking, Freeing, Receiving, Telling}
 use Rattle.sweeps.specs.declared.site.Site.{Site}
 use Rattle.sweeps.specs.declared.stop.Stop.{Stop}
 use Rattle.sweeps.specs.Sweeps.{Sweeps}
@@ -28,9 +28,10 @@ site_of tree s = record { station = s; reach = reach_of tree s }
 
 -- may what happens at the one wake the other?
 abbrev pub wakes_by : How → Site → Site → Bool
-wakes_by Taking one other = changes_outbox one.station other.station || is_woken_by_taking one.reach other.reach
-wakes_by Receiving one other = is_woken_by_receiving one.reach other.reach
-wakes_by Telling one other = is_woken_by_credits one.reach other.reach
+wakes_by Taking one other = changes_outbox one.station other.station || is_changed_by_taking one.reach other.reach
+wakes_by Freeing one other = is_freed_by_sending one.reach other.reach
+wakes_by Receiving one other = is_changed_by_receiving one.reach other.reach
+wakes_by Telling one other = is_changed_by_credits one.reach other.reach
 
 -- the place of each that may be woken is among these
 abbrev pub AreListed : How → Site → List Site → List ℕ → Type 0
@@ -39,6 +40,7 @@ AreListed how site sites places = (other : ℕ) (s : Site) → slice_get sites o
 -- those that are listed are stops
 pub record AreWithin (most : ℕ) (stop : Stop) : Type 0 where
   pub taking : All (λ place. place < most) stop.by_taking.items
+  pub freeing : All (λ place. place < most) stop.by_freeing.items
   pub receiving : All (λ place. place < most) stop.by_receiving.items
   pub telling : All (λ place. place < most) stop.by_telling.items
 
@@ -46,6 +48,7 @@ pub record AreWithin (most : ℕ) (stop : Stop) : Type 0 where
 pub record IsStop (site : Site) (sites : List Site) (stop : Stop) : Type 0 where
   pub station : stop.station ≡ site.station
   pub taking : AreListed Taking site sites stop.by_taking.items
+  pub freeing : AreListed Freeing site sites stop.by_freeing.items
   pub receiving : AreListed Receiving site sites stop.by_receiving.items
   pub telling : AreListed Telling site sites stop.by_telling.items
   pub within : AreWithin (length sites) stop
@@ -62,6 +65,7 @@ pub record HasSite (sites : List Site) (place : ℕ) (stop : Stop) : Type 0 wher
 -- each station that an event at this one may wake is listed by its place
 pub record Wakes (tree : Tree) (stop other : Stop) (place : ℕ) : Type 0 where
   pub taking : wakes_by Taking (site_of tree stop.station) (site_of tree other.station) ≡ true → Contains stop.by_taking.items place
+  pub freeing : wakes_by Freeing (site_of tree stop.station) (site_of tree other.station) ≡ true → Contains stop.by_freeing.items place
   pub receiving : wakes_by Receiving (site_of tree stop.station) (site_of tree other.station) ≡ true → Contains stop.by_receiving.items place
   pub telling : wakes_by Telling (site_of tree stop.station) (site_of tree other.station) ≡ true → Contains stop.by_telling.items place
 
@@ -76,13 +80,14 @@ pub record MaySleep (stops : List Stop) (w : World) : Type 0 where
   pub fabric : IsFabric w
   pub wake : AreStops w.tree stops
 
--- a station that isn't awake is idle
+-- a station that isn't awake is idle, and quiet unless something was tried there in vain
 pub record AreAsleep (stops : List Stop) (w : World) (awake : Awake) : Type 0 where
   pub all : length awake.flags.items ≡ length stops
   pub blocked : length awake.blocked.items ≡ length stops
   pub may : awake.may_sleep ≡ true → MaySleep stops w
   pub asleep : (place : ℕ) → slice_get awake.flags.items place ≡ Some false → awake.may_sleep ≡ true
   pub idle : (place : ℕ) (stop : Stop) → slice_get stops place ≡ Some stop → slice_get awake.flags.items place ≡ Some false → IsIdleAt w stop.station
+  pub quiet : (place : ℕ) (stop : Stop) → slice_get stops place ≡ Some stop → slice_get awake.flags.items place ≡ Some false → slice_get awake.blocked.items place ≡ Some false → is_quiet w stop.station ≡ true
 
 -- ---- a visit
 
@@ -106,22 +111,35 @@ pub record IsVisit (s : Station) (w : World) (moves : Moves) (v : World) : Type 
 abbrev pub has_moved : Moves → Bool
 has_moved moves = (moves.taken || moves.received) || moves.told
 
--- these places were woken if something moved, and no other fell asleep
-pub record AreWoken (moved : Bool) (places : List ℕ) (old new : List Bool) : Type 0 where
+-- was something tried in vain?
+abbrev pub are_blocked : Moves → Bool
+are_blocked moves = not (has_moved moves) && not moves.was_quiet
+
+-- at none of the places
+abbrev pub Nowhere : ℕ → Type 0
+Nowhere place = ⊥
+
+-- nothing was tried there in vain
+abbrev pub IsUnblocked : List Bool → ℕ → Type 0
+IsUnblocked blocked place = slice_get blocked place ≡ Some false
+
+-- these places, but those that are spared, were woken if something moved, and no other fell asleep
+pub record AreWoken (IsSpared : ℕ → Type 0) (moved : Bool) (places : List ℕ) (old new : List Bool) : Type 0 where
   pub all : length new ≡ length old
-  pub still : (place : ℕ) → slice_get new place ≡ Some false → (slice_get old place ≡ Some false) × (moved ≡ true → Contains places place → ⊥)
+  pub still : (place : ℕ) → slice_get new place ≡ Some false → (slice_get old place ≡ Some false) × (moved ≡ true → Contains places place → IsSpared place)
 
 -- none of these moved something that wakes the place
-pub record IsUnwoken (stop : Stop) (moves : Moves) (place : ℕ) : Type 0 where
+pub record IsUnwoken (stop : Stop) (moves : Moves) (blocked : List Bool) (place : ℕ) : Type 0 where
   pub taking : moves.taken ≡ true → Contains stop.by_taking.items place → ⊥
+  pub freeing : moves.taken ≡ true → Contains stop.by_freeing.items place → IsUnblocked blocked place
   pub receiving : moves.received ≡ true → Contains stop.by_receiving.items place → ⊥
   pub telling : moves.told ≡ true → Contains stop.by_telling.items place → ⊥
 
 -- where nothing moved at this place it fell asleep, if any may; all others that are asleep were so, and weren't woken
-pub record IsSettledAt (stop : Stop) (place : ℕ) (moves : Moves) (may_sleep : Bool) (old new : List Bool) : Type 0 where
+pub record IsSettledAt (stop : Stop) (place : ℕ) (moves : Moves) (may_sleep : Bool) (blocked old new : List Bool) : Type 0 where
   pub all : length new ≡ length old
   pub still : (other : ℕ) → slice_get new other ≡ Some false
-      → ((other ≡ place) × (has_moved moves ≡ false) × (may_sleep ≡ true)) ⊎ ((slice_get old other ≡ Some false) × IsUnwoken stop moves other)
+      → ((other ≡ place) × (has_moved moves ≡ false) × (may_sleep ≡ true)) ⊎ ((other ≡ place → ⊥) × (slice_get old other ≡ Some false) × IsUnwoken stop moves blocked other)
 
 -- ---- a begin
 
@@ -147,7 +165,7 @@ pub record IsBegunAt (stops : List Stop) (event : Event) (place : ℕ) : Type 0 
 pub record IsWokenByBegin (stops : List Stop) (event : Event) (old new : List Bool) : Type 0 where
   pub place : ℕ
   pub begun : IsBegunAt stops event place
-  pub woken : AreWoken true begun.found.stop.by_taking.items old new
+  pub woken : AreWoken Nowhere true begun.found.stop.by_taking.items old new
 
 -- or all were
 abbrev pub AreWokenBy : List Stop → Event → List Bool → List Bool → Type 0

@@ -1,9 +1,9 @@
 //! Which stations of a sweep are awake.
 
-ghost use Rattle.std.specs.Prelude.{◌≡◌, ◌<◌, ◌≤◌, ℕ, All, IfOk, IfSome, Some, false, if◌then◌else◌, length, map, replicate, slice_get, slice_set, true};
+ghost use Rattle.std.specs.Prelude.{◌≡◌, ◌<◌, ◌≤◌, ◌||◌, ℕ, All, IfOk, IfSome, Some, false, if◌then◌else◌, length, map, not, replicate, slice_get, slice_set, true};
 ghost use Rattle.std.specs.List.{position};
 ghost use Rattle.waking.specs.Waking.{changes_outbox};
-ghost use Rattle.sweeps.specs.Asleep.{AreWithin, AreWoken, AreWokenBy, IsBegunAt, IsOutboxAt, IsSettledAt, outbox_begun};
+ghost use Rattle.sweeps.specs.Asleep.{AreWithin, AreWoken, AreWokenBy, IsBegunAt, IsOutboxAt, IsSettledAt, IsUnblocked, Nowhere, are_blocked, has_moved, outbox_begun};
 
 use crate::moves::Moves;
 use crate::stop::Stop;
@@ -18,49 +18,87 @@ pub(crate) struct Awake {
     /// May a station fall asleep? Not in a layout that isn't guarded, and no more once memory was refused to an event.
     pub(crate) may_sleep: bool,
     pub(crate) flags: Vec<bool>,
-    /// At which of them something was tried in vain when they were visited last.
+    /// At which of them something was tried in vain when they were visited last. All others that are asleep are quiet.
     pub(crate) blocked: Vec<bool>,
 }
 
 /// Wakes the stations at these places.
 fn wake(flags: &mut Vec<bool>, places: &[usize])
     requires { All (λ place. place < length flags.old.items) places.now }
-    ensures { AreWoken true places.now flags.old.items flags.new.items }
+    ensures { AreWoken Nowhere true places.now flags.old.items flags.new.items }
 {
     for place in places {
         flags[*place] = true;
     }
 }
 
+fn wake_at(is_blocked: bool, flags: &mut Vec<bool>, place: usize)
+    requires { place < length flags.old.items }
+    ensures { flags.new.items ≡ (if is_blocked then slice_set flags.old.items place true else flags.old.items) }
+{
+    if is_blocked {
+        flags[place] = true;
+    }
+}
+
+/// Wakes those of them that are blocked: a place that is free now is nothing to a quiet station.
+fn wake_blocked(flags: &mut Vec<bool>, blocked: &[bool], places: &[usize])
+    requires within { All (λ place. place < length flags.old.items) places.now }
+    requires blocked { length blocked.now ≡ length flags.old.items }
+    ensures { AreWoken (IsUnblocked blocked.now) true places.now flags.old.items flags.new.items }
+{
+    for place in places {
+        wake_at(blocked[*place], flags, *place);
+    }
+}
+
 /// Wakes them if something moved.
 fn wake_if(moved: bool, flags: &mut Vec<bool>, places: &[usize])
     requires { All (λ place. place < length flags.old.items) places.now }
-    ensures { AreWoken moved places.now flags.old.items flags.new.items }
+    ensures { AreWoken Nowhere moved places.now flags.old.items flags.new.items }
 {
     if moved {
         wake(flags, places);
     }
 }
 
-fn sleep_if(still: bool, flags: &mut Vec<bool>, place: usize)
-    requires { place < length flags.old.items }
-    ensures { flags.new.items ≡ (if still then slice_set flags.old.items place false else flags.old.items) }
+/// Wakes those of them that are blocked, if something moved.
+fn wake_blocked_if(moved: bool, flags: &mut Vec<bool>, blocked: &[bool], places: &[usize])
+    requires within { All (λ place. place < length flags.old.items) places.now }
+    requires blocked { length blocked.now ≡ length flags.old.items }
+    ensures { AreWoken (IsUnblocked blocked.now) moved places.now flags.old.items flags.new.items }
 {
-    if still {
-        flags[place] = false;
+    if moved {
+        wake_blocked(flags, blocked, places);
     }
 }
 
-/// Wakes whom a visit may have woken. Where nothing moved the station itself falls asleep, if it may.
-fn settle_flags(stop: &Stop, place: usize, moves: Moves, may_sleep: bool, flags: &mut Vec<bool>)
+/// Does a station stay awake at which this moved? Where nothing did it falls asleep, if it may.
+fn stays_awake(moves: Moves, may_sleep: bool) -> bool
+    ensures { result ≡ (not may_sleep || has_moved moves) }
+{
+    !may_sleep || moves.any()
+}
+
+/// Wakes whom a visit may have woken. The station itself stays awake or falls asleep.
+fn settle_flags(
+    stop: &Stop,
+    place: usize,
+    moves: Moves,
+    may_sleep: bool,
+    blocked: &[bool],
+    flags: &mut Vec<bool>,
+)
     requires place { place < length flags.old.items }
+    requires blocked { length blocked.now ≡ length flags.old.items }
     requires within { AreWithin (length flags.old.items) stop.now }
-    ensures { IsSettledAt stop.now place moves may_sleep flags.old.items flags.new.items }
+    ensures { IsSettledAt stop.now place moves may_sleep blocked.now flags.old.items flags.new.items }
 {
     wake_if(moves.taken, flags, &stop.by_taking);
+    wake_blocked_if(moves.taken, flags, blocked, &stop.by_freeing);
     wake_if(moves.received, flags, &stop.by_receiving);
     wake_if(moves.told, flags, &stop.by_telling);
-    sleep_if(may_sleep && !moves.any(), flags, place);
+    flags[place] = stays_awake(moves, may_sleep);
 }
 
 /// The first place from this one on whose station is awake, or how many places there are.
@@ -139,11 +177,19 @@ impl Awake {
         requires blocked { length self.old.blocked.items ≡ length self.old.flags.items }
         requires within { AreWithin (length self.old.flags.items) stop.now }
         ensures may { self.new.may_sleep ≡ self.old.may_sleep }
-        ensures blocked { length self.new.blocked.items ≡ length self.old.blocked.items }
-        ensures settled { IsSettledAt stop.now place moves self.old.may_sleep self.old.flags.items self.new.flags.items }
+        ensures blocked { self.new.blocked.items ≡ slice_set self.old.blocked.items place (are_blocked moves) }
+        ensures settled { IsSettledAt stop.now place moves self.old.may_sleep self.new.blocked.items self.old.flags.items self.new.flags.items }
     {
         self.blocked[place] = moves.are_blocked();
-        settle_flags(stop, place, moves, self.may_sleep, &mut self.flags);
+        let may_sleep = self.may_sleep;
+        settle_flags(
+            stop,
+            place,
+            moves,
+            may_sleep,
+            &self.blocked,
+            &mut self.flags,
+        );
     }
 
     /// Wakes all.

@@ -1,7 +1,7 @@
 //! What moved at a station.
 
-ghost use Rattle.std.specs.Prelude.{◌≡◌, ◌&&◌, not};
-ghost use Rattle.sweeps.specs.Asleep.{has_moved};
+ghost use Rattle.std.specs.Prelude.{◌≡◌};
+ghost use Rattle.sweeps.specs.Asleep.{are_blocked, has_moved};
 
 /// What moved at a station that was visited.
 #[derive(Clone, Copy, Debug, PartialEq, Eq)]
@@ -32,7 +32,7 @@ impl Moves {
 
     /// Was something tried in vain?
     pub(crate) fn are_blocked(self) -> bool
-        ensures { result ≡ (not (has_moved self) && not self.was_quiet) }
+        ensures { result ≡ are_blocked self }
     {
         !self.any() && !self.was_quiet
     }

@@ -19,8 +19,10 @@ pub(crate) struct Site {
 /// By what one station may wake another.
 #[derive(Clone, Copy, Debug, PartialEq, Eq)]
 pub(crate) enum How {
-    /// A packet is taken there.
+    /// A packet is taken there, which changes what stands at the other.
     Taking,
+    /// A packet is sent from there, which frees a place for what the other puts.
+    Freeing,
     /// The receiver of the direction gets one.
     Receiving,
     /// Its sender is told credits.
@@ -57,10 +59,12 @@ fn wakes_by(how: How, one: &Site, other: &Site) -> bool
 {
     match how {
         How::Taking => {
-            changes_outbox(&one.station, &other.station) || one.reach.wakes_by_taking(&other.reach)
+            changes_outbox(&one.station, &other.station)
+                || one.reach.changes_by_taking(&other.reach)
         }
-        How::Receiving => one.reach.wakes_by_receiving(&other.reach),
-        How::Telling => one.reach.wakes_by_telling(&other.reach),
+        How::Freeing => one.reach.frees_by_sending(&other.reach),
+        How::Receiving => one.reach.changes_by_receiving(&other.reach),
+        How::Telling => one.reach.changes_by_telling(&other.reach),
     }
 }
 

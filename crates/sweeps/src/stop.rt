@@ -23,6 +23,8 @@ pub(crate) struct Stop {
     pub(crate) station: Station,
     /// Where one of them takes a packet.
     pub(crate) by_taking: Vec<usize>,
+    /// Where one of them sends a packet, so that there is a place for another.
+    pub(crate) by_freeing: Vec<usize>,
     /// Where the receiver of the direction gets one.
     pub(crate) by_receiving: Vec<usize>,
     /// Where the sender is told credits.
@@ -35,6 +37,7 @@ fn stop_of(alloc: Global, site: &Site, sites: &[Site]) -> Result<Stop, NoMemory>
     Ok(Stop {
         station: site.station,
         by_taking: woken_by(alloc, How::Taking, site, sites)?,
+        by_freeing: woken_by(alloc, How::Freeing, site, sites)?,
         by_receiving: woken_by(alloc, How::Receiving, site, sites)?,
         by_telling: woken_by(alloc, How::Telling, site, sites)?,
     })

@@ -1,7 +1,7 @@
 //! Visits of stations that are awake.
 
-ghost use Rattle.std.specs.Prelude.{◌≡◌, All, IfOk, OnErr, Some, length, slice_get};
-ghost use Rattle.fabric_core.specs.Stations.{events_at};
+ghost use Rattle.std.specs.Prelude.{◌≡◌, All, IfOk, OnErr, Some, length, slice_get, true};
+ghost use Rattle.fabric_core.specs.Stations.{events_at, is_quiet};
 ghost use Rattle.sweeps.specs.Asleep.{AreAsleep, AreWithin, IsVisit, receiving_at, telling_at};
 ghost use Rattle.sweeps.specs.Sweeps.{CutShort, Sweeps};
 
@@ -44,7 +44,7 @@ fn tell<R: Wait>(rt: &R, fabric: &mut Fabric, station: &Station) -> Result<bool,
 }
 
 /// Makes the events of a station in turn. What moved? Where the station is quiet nothing would, and none is tried. Where
-/// nothing moved at the last visit it is asked first what waits for a place.
+/// something was tried in vain at the last visit it isn't quiet yet, and is asked first what waits for a place.
 fn make_all<R: Wait>(
     rt: &R,
     fabric: &mut Fabric,
@@ -52,9 +52,10 @@ fn make_all<R: Wait>(
     was_blocked: bool,
 ) -> Result<Moves, NoMemory>
     ensures made { IfOk result (λ moves. IsVisit station.now fabric.old moves fabric.new) }
+    ensures quiet { IfOk result (λ moves. moves.was_quiet ≡ true → is_quiet fabric.new station.now ≡ true) }
     ensures cut_short { OnErr result (CutShort (events_at station.now) fabric.old fabric.new) }
 {
-    if fabric.is_quiet(station) {
+    if !was_blocked && fabric.is_quiet(station) {
         return Ok(Moves::NONE);
     }
     let taken = take_each(rt, fabric, station, was_blocked)?;

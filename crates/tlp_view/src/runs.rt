@@ -79,7 +79,7 @@ fn is_enabled(enables: Enables, count: usize, i: usize) -> bool
     }
 }
 
-/// Are all bytes enabled, of so many? It is asked of each write, and mostly they are.
+/// Are all bytes enabled, of so many in whole DW? It is asked of each write, and mostly they are.
 fn are_all_enabled(enables: Enables, count: usize) -> bool
     ensures value { result ≡ enables_all enables count }
     ensures all { (i : ℕ) → i < count → result ≡ true → is_enabled enables count i ≡ true }

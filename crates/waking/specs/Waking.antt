@@ -1,5 +1,5 @@
 -- Which stations an event may wake: those where nothing could move before it, and something may after it. A packet that goes
--- on leaves a place for those that put packets there, is there for who takes it, and gives its link credits to tell.
+-- on is there for who takes it, gives its link credits to tell, and leaves a place for those that put packets there.
 use Rattle.std.specs.Prelude.{◌≡◌, ℕ, ◌==◌, Bool, true, false, ◌&&◌, ◌||◌, List, Option, Some, None, option_map, slice_index_or}
 use Rattle.fab_types.specs.declared.origin.Origin.{Origin}
 use Rattle.fab_types.specs.declared.origin.Origin.TheVariants as origin
@@ -15,6 +15,7 @@ use Rattle.fabric_core.specs.declared.station.Station.{Station}
 use Rattle.fabric_core.specs.declared.station.Station.TheVariants as station
 use Rattle.fabric_core.specs.Events.{link_of}
 use Rattle.fabric_core.specs.Receipts.{from_host, to_function, to_host}
+use Rattle.fabric_core.specs.Stations.{is_quiet}
 use Rattle.fabric_core.specs.Still.{IsIdleAt}
 use Rattle.fabric_core.specs.World.{World}
 
@@ -48,19 +49,23 @@ is_at_node None end = false
 is_at_node (Some node) None = false
 is_at_node (Some node) (Some end) = node == end.node
 
--- where one station takes a packet, and sends it or puts it
-abbrev pub is_woken_by_taking : Reach → Reach → Bool
-is_woken_by_taking one other =
+-- where one station takes a packet, and sends it or puts it, what stands at these changes
+abbrev pub is_changed_by_taking : Reach → Reach → Bool
+is_changed_by_taking one other =
     is_same_end one.takes other.takes
-    || (is_same_end one.takes other.sends || (is_same_end one.sends other.sends || (is_at_node one.puts other.sends || is_at_node other.puts one.sends)))
+    || (is_same_end one.takes other.sends || (is_same_end one.sends other.sends || is_at_node one.puts other.sends))
 
 -- where a packet is received in a direction of a link
-abbrev pub is_woken_by_receiving : Reach → Reach → Bool
-is_woken_by_receiving one other = is_same_end one.sends other.sends || is_same_end one.sends other.takes
+abbrev pub is_changed_by_receiving : Reach → Reach → Bool
+is_changed_by_receiving one other = is_same_end one.sends other.sends || is_same_end one.sends other.takes
 
 -- where the sender of a direction is told credits
-abbrev pub is_woken_by_credits : Reach → Reach → Bool
-is_woken_by_credits one other = is_same_end one.sends other.sends
+abbrev pub is_changed_by_credits : Reach → Reach → Bool
+is_changed_by_credits one other = is_same_end one.sends other.sends
+
+-- where a packet is sent, there is a place for what these put
+abbrev pub is_freed_by_sending : Reach → Reach → Bool
+is_freed_by_sending one other = is_at_node other.puts one.sends
 
 abbrev pub is_outbox_of : ℕ → Station → Bool
 is_outbox_of function (station.FunctionOutbox other) = function == other
@@ -88,22 +93,35 @@ outbox_of (origin.Function function) = station.FunctionOutbox function
 outbox_of (origin.Host domain) = station.HostOutbox domain
 
 -- by one of the events that take a packet at a station
-abbrev pub wakes_by_taking : Tree → Station → Station → Bool
-wakes_by_taking tree one other = changes_outbox one other || is_woken_by_taking (reach_of tree one) (reach_of tree other)
+abbrev pub changes_by_taking : Tree → Station → Station → Bool
+changes_by_taking tree one other = changes_outbox one other || is_changed_by_taking (reach_of tree one) (reach_of tree other)
+
+-- may the event change what stands at the station?
+abbrev pub changes : Tree → Event → Station → Bool
+changes tree (Submit function bytes) s = changes_outbox (station.FunctionOutbox function) s
+changes tree (Tick function) s = changes_outbox (station.FunctionOutbox function) s
+changes tree (Mmio domain access) s = changes_outbox (station.HostOutbox domain) s
+changes tree (Enter origin class) s = changes_by_taking tree (outbox_of origin) s
+changes tree (Pass port class) s = changes_by_taking tree (station.Port port) s
+changes tree (Send direction class) s = changes_by_taking tree (station.Link direction) s
+changes tree (Take direction) s = is_changed_by_receiving (reach_of tree (station.Link direction)) (reach_of tree s)
+changes tree (Credit direction) s = is_changed_by_credits (reach_of tree (station.Link direction)) (reach_of tree s)
+changes tree (Root class) s = changes_by_taking tree station.Host s
+changes tree (Arrive function class) s = changes_by_taking tree (station.Function function) s
+
+-- may it free a place where the station puts packets?
+abbrev pub frees : Tree → Event → Station → Bool
+frees tree (Send direction class) s = is_freed_by_sending (reach_of tree (station.Link direction)) (reach_of tree s)
+frees tree event s = false
 
 -- may the event wake the station?
 abbrev pub wakes : Tree → Event → Station → Bool
-wakes tree (Submit function bytes) s = changes_outbox (station.FunctionOutbox function) s
-wakes tree (Tick function) s = changes_outbox (station.FunctionOutbox function) s
-wakes tree (Mmio domain access) s = changes_outbox (station.HostOutbox domain) s
-wakes tree (Enter origin class) s = wakes_by_taking tree (outbox_of origin) s
-wakes tree (Pass port class) s = wakes_by_taking tree (station.Port port) s
-wakes tree (Send direction class) s = wakes_by_taking tree (station.Link direction) s
-wakes tree (Take direction) s = is_woken_by_receiving (reach_of tree (station.Link direction)) (reach_of tree s)
-wakes tree (Credit direction) s = is_woken_by_credits (reach_of tree (station.Link direction)) (reach_of tree s)
-wakes tree (Root class) s = wakes_by_taking tree station.Host s
-wakes tree (Arrive function class) s = wakes_by_taking tree (station.Function function) s
+wakes tree event s = changes tree event s || frees tree event s
 
 -- each station where nothing could move, and that the event doesn't wake, is still so
 abbrev pub WakesNoOther : World → Event → World → Type 0
 WakesNoOther old event new = (s : Station) → wakes old.tree event s ≡ false → IsIdleAt old s → IsIdleAt new s
+
+-- each quiet station that the event doesn't change is still so
+abbrev pub LeavesQuiet : World → Event → World → Type 0
+LeavesQuiet old event new = (s : Station) → changes old.tree event s ≡ false → is_quiet old s ≡ true → is_quiet new s ≡ true

@@ -4,5 +4,5 @@
 mod laws;
 mod reach;
 
-pub use laws::events_wake_no_other_station;
+pub use laws::{events_leave_other_stations_quiet, events_wake_no_other_station};
 pub use reach::{Reach, changes_outbox};

@@ -3,7 +3,7 @@
 ghost use Rattle.std.specs.Prelude.{◌≡◌, None, option_map};
 ghost use Rattle.topology.specs.Links.{sender_of};
 ghost use Rattle.interconnect.specs.Passes.{index_of, input_of};
-ghost use Rattle.waking.specs.Waking.{changes_outbox, is_at_node, is_host_outbox, is_outbox_of, is_outbox_of_host, is_same_end, is_woken_by_credits, is_woken_by_receiving, is_woken_by_taking, node_of, port_node, reach_of};
+ghost use Rattle.waking.specs.Waking.{changes_outbox, is_at_node, is_changed_by_credits, is_changed_by_receiving, is_changed_by_taking, is_freed_by_sending, is_host_outbox, is_outbox_of, is_outbox_of_host, is_same_end, node_of, port_node, reach_of};
 
 use fab_types::{Bdf, Direction, DomainId, PortId, Way};
 use fabric_core::Station;
@@ -122,30 +122,36 @@ impl Reach {
         }
     }
 
-    /// May a packet that is taken at this reach wake the other?
+    /// May a packet that is taken at this reach change what stands at the other?
     /// It is taken at a station of this one, and sent or put from there.
-    pub fn wakes_by_taking(&self, other: &Reach) -> bool
-        ensures { result ≡ is_woken_by_taking self.now other.now }
+    pub fn changes_by_taking(&self, other: &Reach) -> bool
+        ensures { result ≡ is_changed_by_taking self.now other.now }
     {
         is_same_end(self.takes, other.takes)
             || is_same_end(self.takes, other.sends)
             || is_same_end(self.sends, other.sends)
             || is_at_node(self.puts, other.sends)
-            || is_at_node(other.puts, self.sends)
     }
 
-    /// May credits that this reach's sender is told wake the other?
-    pub fn wakes_by_telling(&self, other: &Reach) -> bool
-        ensures { result ≡ is_woken_by_credits self.now other.now }
+    /// May credits that this reach's sender is told change what stands at the other?
+    pub fn changes_by_telling(&self, other: &Reach) -> bool
+        ensures { result ≡ is_changed_by_credits self.now other.now }
     {
         is_same_end(self.sends, other.sends)
     }
 
-    /// May a packet that is received in this reach's direction wake the other?
-    pub fn wakes_by_receiving(&self, other: &Reach) -> bool
-        ensures { result ≡ is_woken_by_receiving self.now other.now }
+    /// May a packet that is received in this reach's direction change what stands at the other?
+    pub fn changes_by_receiving(&self, other: &Reach) -> bool
+        ensures { result ≡ is_changed_by_receiving self.now other.now }
     {
         is_same_end(self.sends, other.sends) || is_same_end(self.sends, other.takes)
+    }
+
+    /// May a packet that is sent in this reach's direction free a place where the other puts packets?
+    pub fn frees_by_sending(&self, other: &Reach) -> bool
+        ensures { result ≡ is_freed_by_sending self.now other.now }
+    {
+        is_at_node(other.puts, self.sends)
     }
 }
 

@@ -13,7 +13,7 @@ returns-in-Ok-clause-made g c =
 
 pub returns-in-Ok-clause-asleep : goal.returns-in-Ok-clause-asleep
 returns-in-Ok-clause-asleep g c =
-    asleep_after c.args.stops.now c.args.fabric.now c.make_all.new.fabric c.args.place c.args.stop.now c.in-Ok.moves c.args.awake.now c.settle.new.self c.requires.stop c.requires.asleep c.in-Ok.ensures.made c.settle.ensures.may c.settle.ensures.blocked c.settle.ensures.settled
+    asleep_after c.args.stops.now c.args.fabric.now c.make_all.new.fabric c.args.place c.args.stop.now c.in-Ok.moves c.args.awake.now c.settle.new.self c.requires.stop c.requires.asleep c.in-Ok.ensures.made c.in-Ok.ensures.quiet c.settle.ensures.may c.settle.ensures.blocked c.settle.ensures.settled
 
 pub returns-in-Err-clause-asleep : goal.returns-in-Err-clause-asleep
 returns-in-Err-clause-asleep g c =

@@ -1,4 +1,4 @@
-use Rattle.std.proofs.Common.{List, Option, None, ℕ, ◌≡◌, ◌+◌, ◌++◌, replicate, slice_set, refl, sym, ap, subst, ◌∙◌, arith}
+use Rattle.std.proofs.Common.{List, Option, None, ℕ, ◌≡◌, ◌+◌, ◌++◌, replicate, slice_set, sym, ap, subst, ◌∙◌, arith}
 use Rattle.std.proofs.lemmas.List.{with_items_is}
 use Rattle.request_handling.specs.Emissions.{Emission}
 use Rattle.domain_parts.specs.Flights.{emissions, flight_over}
@@ -15,7 +15,7 @@ returns c =
     let index = c.in-Some.index in
     let es = emissions c.self.inside.slots.items in
     let cleared = ap emissions (with_items_is c.self.inside.slots c.clear.new.slots (omega arith))
-    ∙ emissions-clear c.self.inside.slots.items _ _ es index c.clear.ensures.slots c.deref_mut.ensures.value refl in
+    ∙ emissions-clear c.self.inside.slots.items _ _ index c.clear.ensures.slots c.deref_mut.ensures.value in
     let number : gone + index ≡ c.args.number = omega (arith, c.in-Some.ensures) in
     c.restart.ensures.flight ∙ ap (λ (xs : List (Option Emission)). replicate gone None ++ xs) cleared
     ∙ sym (set-behind gone index es) ∙ ap (λ (n : ℕ). slice_set (flight_over gone c.self.inside.slots.items) n None) number

@@ -1,6 +1,6 @@
 //! Completions that were delivered, and their records.
 
-use crate::injector_scenes::{Scene, function, read, started};
+use crate::scenes::{Scene, function, read, started};
 use std::alloc::Global;
 use std::sync::Wait;
 

@@ -1,6 +1,6 @@
 //! Begins that are refused, and one to which memory is refused.
 
-use crate::injector_scenes::{Scene, function, host, started, too_long, write};
+use crate::scenes::{Scene, function, host, started, too_long, write};
 use fab_types::{BeginFault, SubmitFault};
 use std::alloc::Global;
 use std::sync::Wait;
