@@ -44,7 +44,7 @@ fn tell<R: Wait>(rt: &R, fabric: &mut Fabric, station: &Station) -> Result<bool,
 }
 
 /// Makes the events of a station in turn. What moved? Where the station is quiet nothing would, and none is tried. Where
-/// something was tried in vain at the last visit it isn't quiet yet, and is asked first what waits for a place.
+/// something was tried in vain at the last visit it mostly waits there still, so it is asked first what waits for a place.
 fn make_all<R: Wait>(
     rt: &R,
     fabric: &mut Fabric,
