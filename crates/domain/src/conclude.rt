@@ -1,15 +1,17 @@
 //! The end of a packet: what it changes in a domain's state.
 
-ghost use Rattle.std.specs.Prelude.{◌≡◌, ◌+◌, ◌<◌, ◌≤◌, ◌^◌, IfOk, IsSome, OnErr, length, option_map, vec_capacity, true, None, Some, ◌++◌, ◌∷◌, []};
+ghost use Rattle.std.specs.Prelude.{◌≡◌, ℕ, List, ◌+◌, ◌<◌, ◌≤◌, ◌^◌, IfOk, IsSome, OnErr, length, option_map, vec_capacity, true, None, Some, ◌++◌, ◌∷◌, []};
 ghost use Rattle.tlp_view.specs.Bytes.{packet_of};
 ghost use Rattle.tlp_view.specs.Malformed.{malformed};
+ghost use Rattle.tlp_view.specs.Packet.{Packet};
+ghost use Rattle.platform.specs.Share.{Share};
 ghost use Rattle.domain.specs.Deliveries.{Arrivable, arrival_by, arrived, unexpected};
 ghost use Rattle.domain.specs.Receptions.{MayArrive};
 ghost use Rattle.function.specs.Tags.{closed, use_of};
 ghost use Rattle.domain_parts.specs.Closings.{completed};
 ghost use Rattle.domain_parts.specs.Ends.{EffectFits, conclude, done, replied};
 ghost use Rattle.request_handling.specs.Heads.{descriptor_of};
-ghost use Rattle.request_handling.specs.Dispositions.{Suits, effect_of};
+ghost use Rattle.request_handling.specs.Dispositions.{Suits, effect_of, reply_of};
 ghost use Rattle.request_handling.specs.Emissions.{Emission};
 ghost use Rattle.domain.specs.Domains.{disposed};
 ghost use Rattle.domain_parts.specs.State.{item_at, without};
@@ -20,9 +22,9 @@ use crate::state::State;
 use domain_parts::complete;
 use fab_types::{DomainId, NoMemory};
 use frame_log::Frame;
-use function::{Functions, OpenTags};
+use function::{Functions, OpenTags, TagUse};
 use layout::Start;
-use request_handling::{Disposition, Effect, Reply};
+use request_handling::{Disposition, Effect, Reply, host_data};
 use std::sync::Wait;
 use tlp_view::TlpView;
 
@@ -40,12 +42,25 @@ fn record(tags: &mut OpenTags, records: &mut Vec<Record>, arriving: &Arriving, b
     records.push_reserved(arriving.record(bytes));
 }
 
+/// Does nothing answer a packet that ends so, whatever it is?
+fn is_silent(disposition: Disposition) -> bool
+    ensures { result ≡ true → (share : Share) → (frames registers : List (ℕ × List ℕ)) → (t : Packet) → reply_of share frames registers t disposition ≡ None }
+{
+    matches!(
+        disposition,
+        Disposition::Discarded | Disposition::Blocked | Disposition::Stored(..)
+    )
+}
+
 /// The data of a read line go to its function's page, where the completion closes that line's Tag.
 fn complete_line(functions: &mut Functions, tags: &OpenTags, arriving: &Arriving, bytes: &[u8])
     requires { malformed bytes.now ≡ None }
     ensures { functions.new ≡ completed functions.old (use_of tags.now.items arriving.now.owner arriving.now.tag) arriving.now.owner arriving.now.status (packet_of bytes.now).payload }
 {
     let usage = tags.use_of(arriving.owner, arriving.tag);
+    if matches!(usage, TagUse::Raw) {
+        return;
+    }
     let view = TlpView::again(bytes);
     complete(
         functions,
@@ -58,6 +73,23 @@ fn complete_line(functions: &mut Functions, tags: &OpenTags, arriving: &Arriving
 }
 
 impl State {
+    /// Emits what answers a packet. Where memory was refused nothing changes.
+    fn emit<R: Wait>(
+        &mut self,
+        rt: &R,
+        domain: DomainId,
+        reply: &Reply,
+    ) -> Result<Option<Frame>, NoMemory>
+        ensures state { IfOk result (λ _. self.new ≡ replied self.old (Some reply.now)) }
+        ensures sent { IfOk result (λ sent. sent ≡ option_map (descriptor_of domain (length self.old.flight)) (Some reply.now)) }
+        ensures err { OnErr result (self.new ≡ self.old) }
+    {
+        let frame = self
+            .flight
+            .emit_made(rt, domain, reply.parties(), reply.bytes())?;
+        Ok(Some(frame))
+    }
+
     /// Emits what answers a packet, if anything does. Where memory was refused nothing changes.
     pub(crate) fn send<R: Wait>(
         &mut self,
@@ -69,15 +101,10 @@ impl State {
         ensures sent { IfOk result (λ sent. sent ≡ option_map (descriptor_of domain (length self.old.flight)) reply) }
         ensures err { OnErr result ((self.new ≡ self.old) × IsSome reply) }
     {
-        match reply {
-            None => Ok(None),
-            Some(reply) => {
-                let frame = self
-                    .flight
-                    .emit_made(rt, domain, reply.parties(), reply.bytes())?;
-                Ok(Some(frame))
-            }
-        }
+        let Some(reply) = &reply else {
+            return Ok(None);
+        };
+        self.emit(rt, domain, reply)
     }
 
     /// Does what the end of the packet of this number does.
@@ -86,6 +113,9 @@ impl State {
         requires fits { (e : Emission) → item_at self.old.flight number ≡ Some e → EffectFits e effect }
         ensures { (e : Emission) → item_at self.old.flight number ≡ Some e → self.new ≡ done self.old e.bytes effect }
     {
+        if matches!(effect, Effect::Leave) {
+            return;
+        }
         if let Some((_, bytes)) = self.flight.item(number) {
             self.contents.perform(bytes, effect);
         }
@@ -106,6 +136,9 @@ impl State {
         ensures sent { IfOk result (λ sent. (e : Emission) → item_at self.old.flight number ≡ Some e → sent ≡ option_map (descriptor_of start.now.domain (length self.old.flight)) (disposed start.now self.old e disposition).reply) }
         ensures err { OnErr result ((self.new ≡ self.old) × ((e : Emission) → item_at self.old.flight number ≡ Some e → IsSome (disposed start.now self.old e disposition).reply)) }
     {
+        if is_silent(disposition) {
+            return Ok(None);
+        }
         let Some((_, bytes)) = self.flight.item(number) else {
             unreachable!();
         };
@@ -113,6 +146,11 @@ impl State {
             return Ok(None);
         }
         let (memory, registers) = (&self.contents.memory, &self.contents.registers);
+        // (an answer is large: the most frequent one is made where it is sent)
+        if let Disposition::Shown(frame) = disposition {
+            let reply = host_data(start, memory, frame, &TlpView::again(bytes));
+            return self.emit(rt, start.domain(), &reply);
+        }
         let reply = disposition.reply(start, memory, registers, bytes);
         self.send(rt, start.domain(), reply)
     }

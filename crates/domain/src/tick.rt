@@ -47,10 +47,11 @@ impl Domain {
         if let Some(fault) = self.tick_fault(function) {
             return Err(fault);
         }
-        let Some(plan) = self.state.planned(function) else {
+        let planned = self.state.planned(function);
+        let Some(plan) = &planned else {
             unreachable!();
         };
-        let Ok(sent) = self.state.tick(rt, self.start.domain(), function, &plan) else {
+        let Ok(sent) = self.state.tick(rt, self.start.domain(), function, plan) else {
             return Err(TickFault::NoMemory);
         };
         self.journal.push_reserved(Entry::Tick(function));

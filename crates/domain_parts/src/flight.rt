@@ -74,6 +74,7 @@ fn restart(gone: &mut u64, slots: &mut Vec<Option<InFlight>>, held: u64)
     ensures held { held ≡ held_in slots.new.items }
     ensures gone { gone.new ≤ 2 ^ 63 }
     ensures slots { (log : Log) → All (IsSlot log) slots.old.items → All (IsSlot log) slots.new.items }
+    ensures again { held ≡ 0 → gone.old + length slots.old.items ≤ 2 ^ 63 → length slots.new.items ≡ 0 }
 {
     let made = *gone + slots.len() as u64;
     if held == 0 && made <= MOST_GONE {

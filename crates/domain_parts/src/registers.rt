@@ -91,10 +91,8 @@ pub fn planned(functions: &Functions, id: Bdf, open_tags: &OpenTags) -> Option<P
     ensures fits { IfSome result (λ plan. (page : List ℕ) → page_of functions.now id ≡ Some page → PlanFits plan page) }
     ensures tag { IfSome result OpensLineTag }
 {
-    match place(functions, id) {
-        Some(at) => Some(functions.as_slice()[at].planned(open_tags)),
-        None => None,
-    }
+    let at = place(functions, id)?;
+    Some(functions.as_slice()[at].planned(open_tags))
 }
 
 /// Does to this function's register page what a tick with this plan does.

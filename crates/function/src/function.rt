@@ -115,10 +115,10 @@ impl Function {
         requires { IsAccess request.now }
         ensures { result ≡ answer self.now.0 self.now.1 request.now }
     {
-        match request.kind() {
-            Kind::MWr => None,
-            _ => Some(completion_of(self.id, &self.bytes, request)),
+        if matches!(request.kind(), Kind::MWr) {
+            return None;
         }
+        Some(completion_of(self.id, &self.bytes, request))
     }
 
     /// Does to the page what the request says. A read leaves it as it is.

@@ -39,11 +39,10 @@ fn write_plan(id: Bdf, page: &[u8], line: ProgramLine) -> Plan
     requires { length page.now ≡ 4096 }
     ensures { result ≡ write_plan id page.now line }
 {
-    if is_good(line) {
-        Plan::Emit(write_of(id, page, line), None)
-    } else {
-        Plan::Fault
+    if !is_good(line) {
+        return Plan::Fault;
     }
+    Plan::Emit(write_of(id, page, line), None)
 }
 
 fn read_plan(id: Bdf, open_tags: &OpenTags, line: ProgramLine) -> Plan
@@ -98,11 +97,10 @@ pub(crate) fn plan_of(id: Bdf, page: &[u8], open_tags: &OpenTags) -> Plan
     ensures fits { PlanFits result page.now }
     ensures tag { OpensLineTag result }
 {
-    if page[STATUS] == RUNNING {
-        line_plan(id, page, open_tags, line_at(page, usize::from(page[PC])))
-    } else {
-        Plan::Nothing
+    if page[STATUS] != RUNNING {
+        return Plan::Nothing;
     }
+    line_plan(id, page, open_tags, line_at(page, usize::from(page[PC])))
 }
 
 /// The program comes to its next line, and after the last one to its end.

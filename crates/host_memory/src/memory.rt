@@ -40,14 +40,40 @@ impl Model for HostMemory {
     ghost invariant = { IsMemory };
 }
 
+// Where a number stands if none between it and the first is left out, as is most often so.
+fn place_by_count(numbers: &[u16], frame: u16) -> Option<usize>
+    ensures { IfSome result (λ at. (at < length numbers.now) × (slice_index numbers.now at ≡ frame)) }
+{
+    let first = *numbers.first()?;
+    let at = usize::from(frame.checked_sub(first)?);
+    if *numbers.get(at)? == frame {
+        Some(at)
+    } else {
+        None
+    }
+}
+
 // Where a number stands among numbers that rise.
-fn place(numbers: &[u16], frame: u16) -> Option<usize>
+fn place_by_halves(numbers: &[u16], frame: u16) -> Option<usize>
     requires { IsStrictlyIncreasing numbers.now }
     ensures { MatchOption result
         ((k : ℕ) → k < length numbers.now → slice_index numbers.now k ≢ frame)
         (λ at. (at < length numbers.now) × (slice_index numbers.now at ≡ frame)) }
 {
     numbers.binary_search(&frame).ok()
+}
+
+// The same, which looks first where it is found at once.
+fn place(numbers: &[u16], frame: u16) -> Option<usize>
+    requires { IsStrictlyIncreasing numbers.now }
+    ensures { MatchOption result
+        ((k : ℕ) → k < length numbers.now → slice_index numbers.now k ≢ frame)
+        (λ at. (at < length numbers.now) × (slice_index numbers.now at ≡ frame)) }
+{
+    match place_by_count(numbers, frame) {
+        Some(at) => Some(at),
+        None => place_by_halves(numbers, frame),
+    }
 }
 
 /// The bytes of the page at this place; zero where there is none.

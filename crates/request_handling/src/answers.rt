@@ -51,7 +51,7 @@ pub(crate) fn function_refusal(start: &Start, function: Bdf, view: &TlpView) -> 
 }
 
 /// The host answers a read of a frame of memory.
-pub(crate) fn host_data(start: &Start, memory: &HostMemory, frame: u16, view: &TlpView) -> Reply
+pub fn host_data(start: &Start, memory: &HostMemory, frame: u16, view: &TlpView) -> Reply
     requires read { (view.now).kind ≡ MRd }
     requires short { dw_count (view.now).length ≤ 64 }
     ensures { result ≡ host_data start.now view.now (shown memory.now frame view.now) }
@@ -100,14 +100,12 @@ pub(crate) fn function_answer(start: &Start, function: &Function, view: &TlpView
     requires { IsAccess view.now }
     ensures { result ≡ function_answer start.now (function.now).0 (function.now).1 view.now }
 {
-    match function.answer(view) {
-        Some(packet) => Some(Reply::answer(
-            Answerer::Function(function.id()),
-            start.reach(view.requester()),
-            packet,
-        )),
-        None => None,
-    }
+    let packet = function.answer(view)?;
+    Some(Reply::answer(
+        Answerer::Function(function.id()),
+        start.reach(view.requester()),
+        packet,
+    ))
 }
 
 /// Does the read ask for no bytes?
@@ -163,10 +161,10 @@ fn completed(head: CompletionHead, view: &TlpView, part: Option<&[u8]>) -> CplBu
     requires size { IfSome part (λ bytes. length bytes.now ≡ 4 * dw_count (view.now).length) }
     ensures { result ≡ completion_of head (unwrap_or (option_copied part.entry) (blank view.now)) }
 {
-    match part {
-        Some(bytes) => with_data(head, bytes),
-        None => CplBuf::new(head, usize::from(view.dw_length())),
-    }
+    let Some(bytes) = part else {
+        return CplBuf::new(head, usize::from(view.dw_length()));
+    };
+    with_data(head, bytes)
 }
 
 /// A completion with these bytes.

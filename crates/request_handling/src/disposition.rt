@@ -52,10 +52,8 @@ fn access_answer(start: &Start, functions: &Functions, id: Bdf, view: &TlpView) 
     requires { IsAccess view.now }
     ensures { result ≡ access_answer start.now id view.now (page_of functions.now id) }
 {
-    match place(functions, id) {
-        Some(at) => function_answer(start, &functions.as_slice()[at], view),
-        None => None,
-    }
+    let at = place(functions, id)?;
+    function_answer(start, &functions.as_slice()[at], view)
 }
 
 impl Disposition {

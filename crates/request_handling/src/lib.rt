@@ -12,6 +12,7 @@ mod refusal;
 mod requests;
 mod taker;
 
+pub use answers::host_data;
 pub use carriage::{access_of, carriage_up};
 pub use disposition::Disposition;
 pub use fate::{Fate, first_port_fate};

@@ -107,6 +107,7 @@ pub(crate) fn next_awake(flags: &[bool], from: usize) -> usize
     ensures low { from ≤ result }
     ensures high { result ≤ length flags.now }
     ensures asleep { (place : ℕ) → from ≤ place → place < result → slice_get flags.now place ≡ Some false }
+    ensures awake { result < length flags.now → slice_get flags.now result ≡ Some true }
 {
     let mut place = from;
     while place < flags.len() && !flags[place] {

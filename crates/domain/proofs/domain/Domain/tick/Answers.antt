@@ -11,7 +11,7 @@ pub unreachable-requires : goal.unreachable-requires
 unreachable-requires g c =
     let d = c.self.inside in
     let none = no_tick_fault (domain_view d) c.args.self.now c.args.function _ c.self.view_is c.in_default.is c.tick_fault.ensures in
-    has_plan d.start d.journal.items d.state c.args.function _ c.self.invariant.replays none c.planned.ensures.value c.in_default-planned.is
+    has_plan d.start d.journal.items d.state c.args.function _ c.self.invariant.replays none c.planned-planned.ensures.value c.in_default-planned.is
 
 pub push_reserved-requires : goal.push_reserved-requires
 push_reserved-requires g c =
@@ -29,7 +29,7 @@ invariant_of-self-2 g c =
       share = c.self.invariant.share;
       table = c.self.invariant.table;
       replays = replays_more d.start d.state c.tick.new.self d.journal.items _ (Tick c.args.function) (sent_by c.args.function plan) c.self.invariant.replays c.push_reserved.ensures.items
-          (tick_legal d.start d.state c.tick.new.self c.args.function _ plan none c.planned.ensures.value c.in-Some-planned.is c.in-Ok.ensures.state);
+          (tick_legal d.start d.state c.tick.new.self c.args.function _ plan none c.planned-planned.ensures.value c.in-Some-planned.is c.in-Ok.ensures.state);
       entries = room_stays d.entries d.start.budget d.journal.items _ (Tick c.args.function) c.push_reserved.ensures.items refl c.self.invariant.entries;
       room = omega (arith, c.self.invariant.room, c.push_reserved.ensures.capacity);
     }
@@ -38,10 +38,10 @@ pub returns-clause-ok : goal.returns-clause-ok
 returns-clause-ok g c =
     let d = c.self.inside in
     let none = no_tick_fault (domain_view d) c.args.self.now c.args.function _ c.self.view_is c.in_default.is c.tick_fault.ensures in
-    makes_tick (domain_view d) c.args.self.now _ c.args.function _ c.in-Some-planned.plan _ c.in-Ok.sent c.self.view_is none c.planned.ensures.value c.in-Some-planned.is refl c.push_reserved.ensures.items c.in-Ok.ensures.state c.domain.ensures c.in-Ok.ensures.sent
+    makes_tick (domain_view d) c.args.self.now _ c.args.function _ c.in-Some-planned.plan _ c.in-Ok.sent c.self.view_is none c.planned-planned.ensures.value c.in-Some-planned.is refl c.push_reserved.ensures.items c.in-Ok.ensures.state c.domain.ensures c.in-Ok.ensures.sent
 
 pub returns-in_default-tick-clause-memory : goal.returns-in_default-tick-clause-memory
 returns-in_default-tick-clause-memory g c refused =
     let d = c.self.inside in
     let none = no_tick_fault (domain_view d) c.args.self.now c.args.function _ c.self.view_is c.in_default.is c.tick_fault.ensures in
-    tick_emits (domain_view d) c.args.self.now c.args.function _ c.in-Some-planned.plan c.self.view_is none c.planned.ensures.value c.in-Some-planned.is c.in_default-tick.ensures.err.1
+    tick_emits (domain_view d) c.args.self.now c.args.function _ c.in-Some-planned.plan c.self.view_is none c.planned-planned.ensures.value c.in-Some-planned.is c.in_default-tick.ensures.err.1

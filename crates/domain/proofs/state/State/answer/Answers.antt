@@ -16,6 +16,6 @@ returns-clause-state g c =
 pub returns-clause-sent : goal.returns-clause-sent
 returns-clause-sent g c =
     if_ok c.send.result _ _ (λ x is. λ e there.
-    is ∙ ap (λ (d : ℕ). option_map (descriptor_of d (length c.args.self.now.flight)) c.reply-reply.result) c.domain.ensures
+    is ∙ ap (λ (d : ℕ). option_map (descriptor_of d (length c.args.self.now.flight)) c.reply-reply.result) c.domain-2.ensures
     ∙ ap (λ (o : Option Emission). option_map (descriptor_of c.args.start.now.domain (length c.args.self.now.flight)) o) (answer_is c.args.start.now (alone_of c.self.inside) c.args.self.now c.args.number _ e c.args.disposition _ _ c.reply-reply.result c.self.view_is c.in-Some.ensures.value there refl refl c.reply-reply.ensures))
     c.send.ensures.sent
