@@ -1,5 +1,5 @@
 -- How a packet in flight ends is what the machine says of its entry.
-use Rattle.std.proofs.Common.{◌≡◌, ℕ, ◌/◌, ◌≤◌, Bool, true, false, ◌&&◌, ◌||◌, ◌==◌, cond, List, length, Option, Some, None, refl, sym, ap, ◌∙◌, subst, inl}
+use Rattle.std.proofs.Common.{◌≡◌, ℕ, ◌/◌, Bool, true, false, ◌&&◌, ◌||◌, ◌==◌, cond, List, length, Option, Some, None, refl, sym, ap, ◌∙◌, subst, inl}
 use Rattle.std.specs.Prelude.{IfSome, MatchOption, nat_lt, option_map}
 use Rattle.fab_types.specs.declared.faults.malformed.Malformed.{Malformed}
 use Rattle.fab_types.specs.declared.head.Parties.{Parties}
@@ -35,7 +35,7 @@ use Rattle.request_handling.specs.Fates.{fate, fate_below, fate_unless}
 use Rattle.domain.specs.Machine.{change, ended}
 use Rattle.request_handling.specs.Emissions.{Emission}
 use Rattle.request_handling.proofs.Discarding.{answer_discarded}
-use Rattle.domain_parts.specs.State.{Alone, emits_nothing, item_at, without}
+use Rattle.domain_parts.specs.State.{Alone, Delivery, emits_nothing, item_at, without}
 use Rattle.domain.specs.declared.deliver.Arriving.{Arriving}
 use Rattle.domain_parts.specs.Tags.{is_open}
 use Rattle.fab_types.specs.Origins.{origin_id}
@@ -43,7 +43,7 @@ use Rattle.fab_types.specs.declared.head.Answerer.{Answerer}
 use Rattle.fab_types.specs.declared.origin.Origin.{Origin}
 use Rattle.fab_types.specs.declared.status.Status.{Status}
 use Rattle.function.specs.declared.tags.OpenTag.{OpenTag}
-use Rattle.domain.specs.Deliveries.{Arrivable, Arrival, arrival, arrival_at, arrival_by, arrival_for, arrival_of, arrived, is_port}
+use Rattle.domain.specs.Deliveries.{Arrival, HasArrived, arrival, arrival_at, arrival_by, arrival_for, arrival_of, arrived, is_port, recorded, unexpected}
 
 abbrev some : {A : Type 0} → A → Option A
 some x = Some x
@@ -189,17 +189,25 @@ not_carried v n none = none_ended v.state n (item_at v.state.flight n) (carriage
 
 -- ---- a completion that is delivered
 
-pub delivered_so : (share : Share) (s t : Alone) (n : ℕ) (a : Arriving) (h : Arrivable s.open_tags (item_at s.flight n) a)
-    → ((e : Emission) → item_at s.flight n ≡ Some e → t ≡ arrived (without s n) (arrival_by a e.bytes))
-    → change share s (Deliver n) ≡ Some (record { state = t; emission = None })
-delivered_so share s t n a h left =
-    ap (option_map (λ (b : Arrival). emits_nothing (arrived (without s n) b))) h.is ∙ ap (λ (u : Alone). Some (emits_nothing u)) (sym (left h.emission h.waits))
+pub delivered_so : (share : Share) (s t : Alone) (n : ℕ) (is_recorded : Bool) → HasArrived s n t is_recorded → change share s (Deliver n) ≡ Some (record { state = t; emission = None })
+delivered_so share s t n is_recorded h =
+    ap (option_map (λ (b : Arrival). emits_nothing (arrived (without s n) b))) h.arrival_is ∙ ap (λ (u : Alone). Some (emits_nothing u)) (sym h.state_is)
 
-pub arrives_so : (v w : DomainView) (n : ℕ) (a : Arriving) (new : DomainView) (is_recorded : Bool) → v ≡ w → Arrivable v.state.open_tags (item_at v.state.flight n) a
-    → ((e : Emission) → item_at v.state.flight n ≡ Some e → new.state ≡ arrived (without v.state n) (arrival_by a e.bytes)) → is_recorded ≡ a.is_awaited → Arrives w n new is_recorded
-arrives_so v w n a new is_recorded same h left recorded =
-    subst (λ (u : DomainView). Arrives u n new is_recorded) same
-    (record { arrived = arrival_by a h.emission.bytes; arrival_is = h.is; state_is = left h.emission h.waits; recorded_is = recorded })
+pub arrives_so : (v w : DomainView) (n : ℕ) (new : DomainView) (is_recorded : Bool) → v ≡ w → HasArrived v.state n new.state is_recorded → Arrives w n new is_recorded
+arrives_so v w n new is_recorded same h =
+    subst (λ (u : DomainView). Arrives u n new is_recorded) same (record { arrived = h.arrives; arrival_is = h.arrival_is; state_is = h.state_is; recorded_is = h.recorded_is })
+
+-- what a packet in flight is to its addressee
+pub has_arrived : (s t : Alone) (n : ℕ) (x : Emission) (a : Arriving) → item_at s.flight n ≡ Some x → some (arrival_by a x.bytes) ≡ arrival_of s.open_tags x.bytes x.parties → t ≡ arrived (without s n) (arrival_by a x.bytes) → HasArrived s n t a.is_awaited
+has_arrived s t n x a there is left = record { emission = x; waits = there; arrives = arrival_by a x.bytes; arrival_is = ap (arrival s.open_tags) there ∙ sym is; state_is = left; recorded_is = refl }
+
+-- a packet leaves flight before its arrival or after it
+without_either : (b : Bool) (s : Alone) (d : Delivery) (n : ℕ) → without (cond b (recorded s d) (unexpected s)) n ≡ cond b (recorded (without s n) d) (unexpected (without s n))
+without_either true s d n = refl
+without_either false s d n = refl
+
+pub without_arrived : (s : Alone) (a : Arrival) (n : ℕ) → without (arrived s a) n ≡ arrived (without s n) a
+without_arrived s a n = without_either a.is_awaited s a.delivery n
 
 -- what is awaited has its Tag open
 awaited_first : (a b : Bool) → (a && b) ≡ true → a ≡ true
@@ -216,20 +224,11 @@ open_at tags t by owner bytes (Some status) a e awaited =
     let first : is_open tags owner t.tag ≡ true = awaited_first (is_open tags owner t.tag) (is_port by || (t.requester == origin_id owner)) (ap (λ (x : Arrival). x.is_awaited) is ∙ awaited) in
     sym (ap (λ (o : Origin). is_open tags o t.tag) owner_is ∙ ap (is_open tags a.owner) tag_is) ∙ first
 
-open_for : (tags : List OpenTag) (bytes : List ℕ) (p : Parties) (a : Arriving) → arrival_of tags bytes p ≡ Some (arrival_by a bytes) → a.is_awaited ≡ true → is_open tags a.owner a.tag ≡ true
-open_for tags bytes (Upward f) a e awaited = absurd cc
-open_for tags bytes (Downward f) a e awaited = absurd cc
-open_for tags bytes (Answer by None) a e awaited = absurd cc
-open_for tags bytes (Answer by (Some owner)) a e awaited = open_at tags (packet_of bytes) by owner bytes (status_in (packet_of bytes).body) a e awaited
-
-pub arrivable_open : (tags : List OpenTag) (item : Option Emission) (a : Arriving) → Arrivable tags item a → a.is_awaited ≡ true → is_open tags a.owner a.tag ≡ true
-arrivable_open tags item a h awaited = open_for tags h.emission.bytes h.emission.parties a (ap (arrival tags) (sym h.waits) ∙ h.is) awaited
-
--- what a packet in flight is to its addressee
-pub arrivable : (tags : List OpenTag) (item : Option Emission) (e : Emission) (o : Option Arriving) → item ≡ Some e → malformed e.bytes ≡ None → length e.bytes ≤ 272 → option_map (λ (a : Arriving). arrival_by a e.bytes) o ≡ arrival tags item
-    → MatchOption o (arrival tags item ≡ None) (λ a. Arrivable tags item a)
-arrivable tags item e None there good short is = sym is
-arrivable tags item e (Some a) there good short is = record { emission = e; waits = there; well_formed = good; short = short; is = sym is }
+pub open_of : (tags : List OpenTag) (bytes : List ℕ) (p : Parties) (a : Arriving) → some (arrival_by a bytes) ≡ arrival_of tags bytes p → a.is_awaited ≡ true → is_open tags a.owner a.tag ≡ true
+open_of tags bytes (Upward f) a e awaited = absurd cc
+open_of tags bytes (Downward f) a e awaited = absurd cc
+open_of tags bytes (Answer by None) a e awaited = absurd cc
+open_of tags bytes (Answer by (Some owner)) a e awaited = open_at tags (packet_of bytes) by owner bytes (status_in (packet_of bytes).body) a (sym e) awaited
 
 -- ---- what is done about a packet in flight
 

@@ -1,5 +1,5 @@
 -- What becomes of a completion at the function or host that it goes to (PCIe 4.0, 2.3.2).
-use Rattle.std.specs.Prelude.{◌≡◌, ◌≤◌, length, ℕ, ◌+◌, ◌==◌, Bool, true, false, ◌&&◌, ◌||◌, List, [], ◌∷◌, ◌++◌, Option, Some, None, option_map, if◌then◌else◌}
+use Rattle.std.specs.Prelude.{◌≡◌, ℕ, ◌+◌, ◌==◌, Bool, true, false, ◌&&◌, ◌||◌, List, [], ◌∷◌, ◌++◌, Option, Some, None, option_map, if◌then◌else◌}
 use Rattle.fab_types.specs.declared.head.Answerer.{Answerer}
 use Rattle.fab_types.specs.declared.head.Answerer.TheVariants as by
 use Rattle.fab_types.specs.declared.head.Parties.{Parties}
@@ -7,7 +7,6 @@ use Rattle.fab_types.specs.declared.head.Parties.TheVariants.{Upward, Downward, 
 use Rattle.fab_types.specs.declared.origin.Origin.{Origin}
 use Rattle.fab_types.specs.declared.status.Status.{Status}
 use Rattle.tlp_view.specs.Bytes.{packet_of}
-use Rattle.tlp_view.specs.Malformed.{malformed}
 use Rattle.tlp_view.specs.Packet.{Packet, status_in}
 use Rattle.domain.specs.declared.deliver.Arriving.{Arriving}
 use Rattle.function.specs.declared.tags.OpenTag.{OpenTag}
@@ -15,7 +14,7 @@ use Rattle.fab_types.specs.Origins.{origin_id}
 use Rattle.function.specs.Tags.{closed, use_of}
 use Rattle.domain_parts.specs.Closings.{completed}
 use Rattle.request_handling.specs.Emissions.{Emission}
-use Rattle.domain_parts.specs.State.{Alone, Delivery}
+use Rattle.domain_parts.specs.State.{Alone, Delivery, item_at, without}
 use Rattle.domain_parts.specs.Tags.{is_open}
 
 abbrev pub is_port : Answerer → Bool
@@ -59,14 +58,6 @@ abbrev pub arrival : List OpenTag → Option Emission → Option Arrival
 arrival tags None = None
 arrival tags (Some e) = arrival_of tags e.bytes e.parties
 
--- the packet in flight may arrive so, which is what it is to its addressee
-pub record Arrivable (tags : List OpenTag) (item : Option Emission) (a : Arriving) : Type 0 where
-  pub emission : Emission
-  pub waits : item ≡ Some emission
-  pub well_formed : malformed emission.bytes ≡ None
-  pub short : length emission.bytes ≤ 272
-  pub is : arrival tags item ≡ Some (arrival_by a emission.bytes)
-
 -- the Tag is closed, its data go where they were asked for, and the completion is recorded
 abbrev pub recorded : Alone → Delivery → Alone
 recorded s delivery = record {
@@ -91,6 +82,15 @@ unexpected s = record {
 
 abbrev pub arrived : Alone → Arrival → Alone
 arrived s a = if a.is_awaited then recorded s a.delivery else unexpected s
+
+-- the packet of this number left flight as a completion that arrived, and a record was made of it exactly where that is said
+pub record HasArrived (old : Alone) (n : ℕ) (new : Alone) (is_recorded : Bool) : Type 0 where
+  pub emission : Emission
+  pub waits : item_at old.flight n ≡ Some emission
+  pub arrives : Arrival
+  pub arrival_is : arrival old.open_tags (item_at old.flight n) ≡ Some arrives
+  pub state_is : new ≡ arrived (without old n) arrives
+  pub recorded_is : is_recorded ≡ arrives.is_awaited
 
 -- the record that is made of it, if any
 abbrev pub record_of_arrival : Arrival → Option Delivery

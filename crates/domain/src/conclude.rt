@@ -1,30 +1,31 @@
 //! The end of a packet: what it changes in a domain's state.
 
-ghost use Rattle.std.specs.Prelude.{◌≡◌, ℕ, List, ◌+◌, ◌<◌, ◌≤◌, ◌^◌, IfOk, IsSome, OnErr, length, option_map, vec_capacity, true, None, Some, ◌++◌, ◌∷◌, []};
+ghost use Rattle.std.specs.Prelude.{◌≡◌, ℕ, List, ◌+◌, ◌<◌, ◌≤◌, ◌^◌, IfOk, IsSome, MatchOption, OnErr, length, option_map, vec_capacity, true, false, None, Some, ◌++◌, ◌∷◌, []};
 ghost use Rattle.tlp_view.specs.Bytes.{packet_of};
 ghost use Rattle.tlp_view.specs.Malformed.{malformed};
 ghost use Rattle.tlp_view.specs.Packet.{Packet};
+ghost use Rattle.tlp_view.specs.Runs.{is_write};
 ghost use Rattle.platform.specs.Share.{Share};
-ghost use Rattle.domain.specs.Deliveries.{Arrivable, arrival_by, arrived, unexpected};
+ghost use Rattle.domain.specs.Deliveries.{HasArrived, arrival, arrival_by, arrived, unexpected};
 ghost use Rattle.domain.specs.Receptions.{MayArrive};
 ghost use Rattle.function.specs.Tags.{closed, use_of};
 ghost use Rattle.domain_parts.specs.Closings.{completed};
 ghost use Rattle.domain_parts.specs.Ends.{EffectFits, conclude, done, replied};
 ghost use Rattle.request_handling.specs.Heads.{descriptor_of};
-ghost use Rattle.request_handling.specs.Dispositions.{Suits, effect_of, reply_of};
+ghost use Rattle.request_handling.specs.Dispositions.{Suits, effect_of, may_answer, reply_of};
 ghost use Rattle.request_handling.specs.Emissions.{Emission};
 ghost use Rattle.domain.specs.Domains.{disposed};
-ghost use Rattle.domain_parts.specs.State.{item_at, without};
+ghost use Rattle.domain_parts.specs.State.{item_at};
 ghost use Rattle.domain_parts.specs.Tags.{is_open};
 
-use crate::deliver::{Arriving, Record};
+use crate::deliver::{Arriving, Record, arriving_of};
 use crate::state::State;
 use domain_parts::complete;
 use fab_types::{DomainId, NoMemory};
 use frame_log::Frame;
 use function::{Functions, OpenTags, TagUse};
 use layout::Start;
-use request_handling::{Disposition, Effect, Reply, host_data};
+use request_handling::{Disposition, Effect, Reply, function_data, function_of, host_data};
 use std::sync::Wait;
 use tlp_view::TlpView;
 
@@ -44,7 +45,8 @@ fn record(tags: &mut OpenTags, records: &mut Vec<Record>, arriving: &Arriving, b
 
 /// Does nothing answer a packet that ends so, whatever it is?
 fn is_silent(disposition: Disposition) -> bool
-    ensures { result ≡ true → (share : Share) → (frames registers : List (ℕ × List ℕ)) → (t : Packet) → reply_of share frames registers t disposition ≡ None }
+    ensures silent { result ≡ true → (share : Share) → (frames registers : List (ℕ × List ℕ)) → (t : Packet) → reply_of share frames registers t disposition ≡ None }
+    ensures asked { result ≡ false → (t : Packet) → is_write t.kind ≡ false → may_answer t disposition ≡ true }
 {
     matches!(
         disposition,
@@ -122,6 +124,29 @@ impl State {
     }
 
     /// Emits what answers the packet of this number, which ends so. Where memory was refused nothing changes.
+    #[cold]
+    fn send_reply<R: Wait>(
+        &mut self,
+        rt: &R,
+        start: &Start,
+        number: u64,
+        disposition: Disposition,
+    ) -> Result<Option<Frame>, NoMemory>
+        requires waits { IsSome (item_at self.old.flight number) }
+        requires suits { (e : Emission) → item_at self.old.flight number ≡ Some e → Suits e.bytes disposition }
+        ensures state { IfOk result (λ _. (e : Emission) → item_at self.old.flight number ≡ Some e → self.new ≡ replied self.old (disposed start.now self.old e disposition).reply) }
+        ensures sent { IfOk result (λ sent. (e : Emission) → item_at self.old.flight number ≡ Some e → sent ≡ option_map (descriptor_of start.now.domain (length self.old.flight)) (disposed start.now self.old e disposition).reply) }
+        ensures err { OnErr result ((self.new ≡ self.old) × ((e : Emission) → item_at self.old.flight number ≡ Some e → IsSome (disposed start.now self.old e disposition).reply)) }
+    {
+        let Some((_, bytes)) = self.flight.item(number) else {
+            unreachable!();
+        };
+        let (memory, registers) = (&self.contents.memory, &self.contents.registers);
+        let reply = disposition.reply(start, memory, registers, bytes);
+        self.send(rt, start.domain(), reply)
+    }
+
+    /// The same, but the most frequent answers, which are large, are made where they are sent.
     #[tactic(auto, using(request_handling::proofs::Suiting::unanswered))]
     fn answer<R: Wait>(
         &mut self,
@@ -146,13 +171,18 @@ impl State {
             return Ok(None);
         }
         let (memory, registers) = (&self.contents.memory, &self.contents.registers);
-        // (an answer is large: the most frequent one is made where it is sent)
         if let Disposition::Shown(frame) = disposition {
             let reply = host_data(start, memory, frame, &TlpView::again(bytes));
             return self.emit(rt, start.domain(), &reply);
         }
-        let reply = disposition.reply(start, memory, registers, bytes);
-        self.send(rt, start.domain(), reply)
+        if let Disposition::Accessed(function) = disposition {
+            let Some(function) = function_of(registers, function) else {
+                return Ok(None);
+            };
+            let reply = function_data(start, function, &TlpView::again(bytes));
+            return self.emit(rt, start.domain(), &reply);
+        }
+        self.send_reply(rt, start, number, disposition)
     }
 
     /// Ends the packet of this number: emits what answers it, and does what its end does. Where memory
@@ -206,18 +236,20 @@ impl State {
         self.contents.counts.unexpected += 1;
     }
 
-    /// Ends the packet of this number, a completion that is delivered so. Was a record made of it, since its
-    /// addressee waited for it?
-    pub(crate) fn deliver(&mut self, number: u64, arriving: Arriving) -> bool
-        requires counts { self.old.counts.unexpected + 1 < 2 ^ 64 }
-        requires arrives { Arrivable self.old.open_tags (item_at self.old.flight number) arriving }
-        ensures state { (e : Emission) → item_at self.old.flight number ≡ Some e → self.new ≡ arrived (without self.old number) (arrival_by arriving e.bytes) }
-        ensures record { result ≡ arriving.is_awaited }
+    /// Ends the packet of this number, a completion that arrives at whom it is for. Was a record made of it, since
+    /// its addressee waited for it? None, and nothing changes, where it is no completion for somebody.
+    pub(crate) fn deliver(&mut self, number: u64) -> Option<bool>
+        requires { self.old.counts.unexpected + 1 < 2 ^ 64 }
+        ensures { MatchOption result ((self.new ≡ self.old) × (arrival self.old.open_tags (item_at self.old.flight number) ≡ None))
+            (λ is_recorded. HasArrived self.old number self.new is_recorded) }
     {
+        let Some((parties, bytes)) = self.flight.item(number) else {
+            return None;
+        };
+        let Some(arriving) = arriving_of(&self.open_tags, parties, bytes) else {
+            return None;
+        };
         if arriving.is_awaited {
-            let Some((_, bytes)) = self.flight.item(number) else {
-                unreachable!();
-            };
             let functions = &mut self.contents.registers;
             complete_line(functions, &self.open_tags, &arriving, bytes);
             record(&mut self.open_tags, &mut self.records, &arriving, bytes);
@@ -225,6 +257,6 @@ impl State {
             self.count_unexpected();
         }
         self.flight.end(number);
-        arriving.is_awaited
+        Some(arriving.is_awaited)
     }
 }

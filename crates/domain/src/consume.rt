@@ -1,6 +1,6 @@
 //! The end of a packet: at its sender's first port, at its completer, or at the one that it answers.
 
-ghost use Rattle.std.specs.Prelude.{◌≡◌, Some, None, IfOk, IfErr, IfSome, MatchOption, OnErr, OnOk, option_map};
+ghost use Rattle.std.specs.Prelude.{◌≡◌, Some, None, IfOk, IfErr, IfSome, MatchOption, OnErr, OnOk};
 ghost use Rattle.frame_log.specs.Descriptor.{IsCompletion};
 ghost use Rattle.domain_parts.specs.Ends.{conclude};
 
@@ -25,7 +25,6 @@ impl Domain {
     ghost use Rattle.domain.specs.declared.entry.Entry.{Entry};
     ghost use Rattle.domain.specs.declared.entry.Entry.TheVariants.{Carry, Deliver, Refuse};
     ghost use Rattle.request_handling.specs.Carries.{carriage_end, refusal_end};
-    ghost use Rattle.domain.specs.Deliveries.{arrival};
     ghost use Rattle.domain.specs.Domains.{Arrives, Delivers, Disposes, EndsBy, IsEntryFault, IsRefused, IsStray, Makes};
     ghost use Rattle.domain_parts.specs.State.{item_at};
 
@@ -34,13 +33,13 @@ impl Domain {
         ensures { MatchOption result (refusal_end self.now.share (item_at self.now.state.flight number) ≡ None)
             (λ d. Disposes self.now.share self.now.state (item_at self.now.state.flight number) d (refusal_end self.now.share (item_at self.now.state.flight number))) }
     {
-        let Some((parties, bytes)) = self.state.item(number) else {
+        let Some((parties, packet)) = self.state.packet(number) else {
             return None;
         };
         match parties {
-            Parties::Upward(function) => refusal_of(&self.start, function, bytes),
+            Parties::Upward(function) => refusal_of(&self.start, function, &packet),
             Parties::Downward(_) => None,
-            Parties::Answer(answerer, _) => refusal_of_completion(&self.start, answerer, bytes),
+            Parties::Answer(answerer, _) => refusal_of_completion(&self.start, answerer, &packet),
         }
     }
 
@@ -49,13 +48,13 @@ impl Domain {
         ensures { MatchOption result (carriage_end self.now.share self.now.state.frames self.now.state.registers (item_at self.now.state.flight number) ≡ None)
             (λ d. Disposes self.now.share self.now.state (item_at self.now.state.flight number) d (carriage_end self.now.share self.now.state.frames self.now.state.registers (item_at self.now.state.flight number))) }
     {
-        let Some((parties, bytes)) = self.state.item(number) else {
+        let Some((parties, packet)) = self.state.packet(number) else {
             return None;
         };
         match parties {
             Parties::Upward(function) => {
                 let functions = self.state.functions();
-                carriage_up(&self.start, &self.table, functions, function, bytes)
+                carriage_up(&self.start, &self.table, functions, function, &packet)
             }
             Parties::Downward(function) => access_of(self.state.functions(), function),
             Parties::Answer(..) => None,
@@ -122,10 +121,9 @@ impl Domain {
         ensures fault { IfErr result (λ fault. (fault ≡ EntryFault.Illegal) × IsEntryFault self.old (Deliver number) fault) }
         ensures err { OnErr result (self.new ≡ self.old) }
     {
-        let Some(arriving) = self.state.arriving(number) else {
+        let Some(is_recorded) = self.state.deliver(number) else {
             return Err(EntryFault::Illegal);
         };
-        let is_recorded = self.state.deliver(number, arriving);
         self.journal.push_reserved(Entry::Deliver(number));
         Ok(is_recorded)
     }

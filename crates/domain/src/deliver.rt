@@ -1,12 +1,13 @@
 //! The delivery of a completion to the function or host that it goes to.
 
-ghost use Rattle.std.specs.Prelude.{◌≡◌, ◌≤◌, length, None, option_map};
+ghost use Rattle.std.specs.Prelude.{◌≡◌, ◌≤◌, length, None, IfSome, option_map};
 ghost use Rattle.tlp_view.specs.Malformed.{malformed};
-ghost use Rattle.domain.specs.Deliveries.{arrival_by, arrival_for, arriving_at, is_awaited, is_port};
+ghost use Rattle.domain.specs.Deliveries.{arrival_by, arrival_for, arrival_of, arriving_at, is_awaited, is_port};
+ghost use Rattle.request_handling.specs.WellMade.{IsWellMade};
 
 use crate::copies::copied;
 use arrayvec::ArrayVec;
-use fab_types::{Answerer, Origin, Status};
+use fab_types::{Answerer, Origin, Parties, Status};
 use function::OpenTags;
 use std::marker::Model;
 use tlp_view::TlpView;
@@ -139,7 +140,7 @@ pub(crate) fn arriving_at(
 }
 
 /// What a well-formed packet is to its addressee: nothing if it is no completion, which alone has a status.
-pub(crate) fn arriving_for(
+fn arriving_for(
     tags: &OpenTags,
     bytes: &[u8],
     answerer: Answerer,
@@ -152,4 +153,17 @@ pub(crate) fn arriving_for(
     let view = TlpView::again(bytes);
     let status = view.status()?;
     Some(arriving_at(tags, &view, answerer, owner, status))
+}
+
+/// What a packet of these parties is to the one that it goes to.
+/// None where it is no completion for somebody.
+pub(crate) fn arriving_of(tags: &OpenTags, parties: Parties, bytes: &[u8]) -> Option<Arriving>
+    requires { IsWellMade parties bytes.now }
+    ensures value { option_map (λ a. arrival_by a bytes.now) result ≡ arrival_of tags.now.items bytes.now parties }
+    ensures well_formed { IfSome result (λ a. malformed bytes.now ≡ None) }
+{
+    match parties {
+        Parties::Answer(answerer, addressee) => arriving_for(tags, bytes, answerer, addressee),
+        Parties::Upward(_) | Parties::Downward(_) => None,
+    }
 }

@@ -4,11 +4,10 @@ ghost use Rattle.std.specs.Prelude.{◌≡◌, ◌≤◌, ◌-◌, ℕ, List, le
 ghost use Rattle.std.specs.Option.{option_copied};
 ghost use Rattle.function.specs.Plans.{OpensLineTag, PlanFits, plan_of};
 ghost use Rattle.host_memory.specs.Pages.{page_of};
-ghost use Rattle.domain.specs.Deliveries.{Arrivable, arrival};
 ghost use Rattle.domain_parts.specs.State.{item_at, start_state};
 ghost use Rattle.request_handling.specs.WellMade.{IsWellMade};
 
-use crate::deliver::{Arriving, Record, arriving_for};
+use crate::deliver::Record;
 use domain_parts::{Contents, Counts, Flight, first_registers, planned, register_page};
 use fab_types::{Bdf, NoMemory, Parties};
 use frame_log::Log;
@@ -18,6 +17,7 @@ use layout::Start;
 use std::alloc::Global;
 use std::marker::Model;
 use std::sync::Arc;
+use tlp_view::ReadPacket;
 
 /// A domain's memory, registers, open Tags, counts and packets in flight.
 #[derive(Drop)]
@@ -92,29 +92,20 @@ impl State {
         self.flight.item(number)
     }
 
+    /// The same with what was read of the packet when it was put into flight.
+    pub(crate) fn packet(&self, number: u64) -> Option<(Parties, ReadPacket<'_>)>
+        ensures well_made { IfSome result (λ item. IsWellMade item.0 item.1) }
+        ensures value { MatchOption result (item_at self.now.flight number ≡ None)
+            (λ item. item_at self.now.flight number ≡ Some (record { parties = item.0; bytes = item.1 })) }
+    {
+        self.flight.packet(number)
+    }
+
     /// How many packets were made.
     pub(crate) fn made(&self) -> u64
         ensures { result ≡ length self.now.flight }
     {
         self.flight.made()
-    }
-
-    /// What a packet in flight is to the one that it goes to.
-    /// None where it is no completion for somebody.
-    pub(crate) fn arriving(&self, number: u64) -> Option<Arriving>
-        ensures { MatchOption result (arrival self.now.open_tags (item_at self.now.flight number) ≡ None)
-            (λ a. Arrivable self.now.open_tags (item_at self.now.flight number) a) }
-    {
-        let Some((parties, bytes)) = self.flight.item(number) else {
-            return None;
-        };
-        match parties {
-            Parties::Answer(answerer, addressee) => {
-                arriving_for(&self.open_tags, bytes, answerer, addressee)
-            }
-            Parties::Upward(_) => None,
-            Parties::Downward(_) => None,
-        }
     }
 
     /// The completions that were delivered, oldest first.

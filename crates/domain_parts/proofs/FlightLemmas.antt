@@ -1,12 +1,13 @@
 -- Slots of packets in flight, and what is seen of them.
 use Rattle.std.proofs.Common.{◌≡◌, ℕ, zero, suc, ◌+◌, ◌<◌, ◌≤◌, List, length, replicate, [], ◌∷◌, ◌++◌, Option, Some, None, refl, sym, ap, ◌∙◌, subst, arith, slice_set, slice_index_or, option_map, true}
-use Rattle.std.specs.Option.{IsSome, is_some}
+use Rattle.std.specs.Option.{IsSome, is_none, is_some}
 use Rattle.std.specs.List.{All}
 use Rattle.std.proofs.lemmas.List.Elements.{All-append}
 use Rattle.frame_log.specs.declared.entry.TlpEntry.{TlpEntry}
 use Rattle.frame_log.specs.declared.log.Log.{Log}
 use Rattle.frame_log.specs.Words.{Shown, entry_of}
 use Rattle.request_handling.specs.WellMade.{IsWellMade}
+use Rattle.tlp_view.specs.Malformed.{malformed}
 use Rattle.std.proofs.lemmas.List.{append-nil, length-map, map-set, replicate-append-replicate}
 use Rattle.domain_parts.specs.declared.flight.InFlight.{InFlight}
 use Rattle.request_handling.specs.Emissions.{Emission}
@@ -24,12 +25,13 @@ one_at P x d (suc k) p lt = absurd (omega (arith, lt))
 
 -- a slot more, whose token the log shows and whose packet is well made
 pub slots_push : (log : Log) (old now new : List (Option InFlight)) (x : InFlight) (e : TlpEntry) (bytes : List ℕ) → All (IsSlot log) old → now ≡ old → new ≡ now ++ Some x ∷ []
-    → Shown log x.token → entry_of x.token ≡ e → e.bytes ≡ bytes → IsWellMade x.parties bytes → length bytes ≤ 272 → All (IsSlot log) new
-slots_push log old now new x e bytes kept same grown shown entry are made small =
+    → Shown log x.token → entry_of x.token ≡ e → e.bytes ≡ bytes → IsWellMade x.parties bytes → length bytes ≤ 272 → x.is_well_formed ≡ is_none (malformed bytes) → All (IsSlot log) new
+slots_push log old now new x e bytes kept same grown shown entry are made small read =
     let is : (entry_of x.token).bytes ≡ bytes = ap (λ (t : TlpEntry). t.bytes) entry ∙ are in
     let well : IsWellMade x.parties (entry_of x.token).bytes = subst (IsWellMade x.parties) (sym is) made in
     let short : length (entry_of x.token).bytes ≤ 272 = subst (λ (b : List ℕ). length b ≤ 272) (sym is) small in
-    let one : IsSlot log (Some x) = (shown, well, short) in
+    let known : x.is_well_formed ≡ is_none (malformed (entry_of x.token).bytes) = read ∙ ap (λ (b : List ℕ). is_none (malformed b)) (sym is) in
+    let one : IsSlot log (Some x) = (shown, well, short, known) in
     subst (All (IsSlot log)) (sym (grown ∙ ap (λ (xs : List (Option InFlight)). xs ++ Some x ∷ []) same))
     (All-append (IsSlot log) old (Some x ∷ []) kept (λ k d lt. one_at (IsSlot log) (Some x) d k one lt))
 

@@ -1,5 +1,5 @@
 -- What a clause sees of the packets in flight, by their tokens.
-use Rattle.std.specs.Prelude.{◌≡◌, ℕ, ◌+◌, ◌≤◌, ◌^◌, List, [], ◌∷◌, ◌++◌, length, map, replicate, Option, Some, None, option_map}
+use Rattle.std.specs.Prelude.{◌≡◌, ℕ, ◌+◌, ◌≤◌, ◌^◌, List, [], ◌∷◌, ◌++◌, length, map, replicate, is_none, Option, Some, None, option_map}
 use Rattle.std.specs.Arc.{arc_value}
 use Rattle.std.specs.Option.{IfSome}
 use Rattle.std.specs.List.{All}
@@ -8,6 +8,7 @@ use Rattle.frame_log.specs.Words.{Shown, entry_of}
 use Rattle.domain_parts.specs.declared.flight.InFlight.{InFlight}
 use Rattle.domain_parts.specs.declared.flight.Flight.TheInside.{Inside}
 use Rattle.request_handling.specs.Emissions.{Emission}
+use Rattle.tlp_view.specs.Malformed.{malformed}
 use Rattle.request_handling.specs.WellMade.{IsWellMade}
 
 abbrev pub emission : InFlight → Emission
@@ -16,9 +17,9 @@ emission slot = record { parties = slot.parties; bytes = (entry_of slot.token).b
 abbrev pub emissions : List (Option InFlight) → List (Option Emission)
 emissions slots = map (option_map emission) slots
 
--- the token is of this log, and the packet is well made and at most 272 bytes long
+-- the token is of this log, the packet is well made and at most 272 bytes long, and it is known whether it is well formed
 abbrev pub IsSlot : Log → Option InFlight → Type 0
-IsSlot log slot = IfSome slot (λ s. Shown log s.token × IsWellMade s.parties (entry_of s.token).bytes × (length (entry_of s.token).bytes ≤ 272))
+IsSlot log slot = IfSome slot (λ s. Shown log s.token × IsWellMade s.parties (entry_of s.token).bytes × (length (entry_of s.token).bytes ≤ 272) × (s.is_well_formed ≡ is_none (malformed (entry_of s.token).bytes)))
 
 -- how many slots hold a packet
 abbrev pub held_in : List (Option InFlight) → ℕ

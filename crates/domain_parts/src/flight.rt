@@ -1,6 +1,6 @@
 //! What a domain has in flight.
 
-ghost use Rattle.std.specs.Prelude.{◌≡◌, ◌≤◌, ◌++◌, ◌∷◌, [], Some, None, IfOk, OnErr, MatchOption, IfSome, ◌+◌, ◌<◌, ◌^◌, All, length, slice_set};
+ghost use Rattle.std.specs.Prelude.{◌≡◌, ◌≤◌, ◌++◌, ◌∷◌, [], Some, None, IfOk, OnErr, MatchOption, IfSome, is_none, ◌+◌, ◌<◌, ◌^◌, All, length, slice_set};
 ghost use Rattle.frame_log.specs.declared.log.Log.{Log};
 ghost use Rattle.request_handling.specs.Heads.{descriptor_of, head_of};
 ghost use Rattle.tlp_view.specs.Malformed.{malformed};
@@ -19,11 +19,12 @@ use tlp_view::ReadPacket;
 /// How many numbers may have no slot.
 const MOST_GONE: u64 = 1 << 63;
 
-/// A packet in flight: who made it and for whom, and what shows where its bytes are.
+/// A packet in flight: who made it and for whom, what shows where its bytes are, and whether they are well formed.
 #[derive(Drop)]
 struct InFlight {
     parties: Parties,
     token: Token,
+    is_well_formed: bool,
 }
 
 /// The packets in flight by their numbers, and the log that has their bytes.
@@ -113,8 +114,10 @@ impl Flight {
         domain: DomainId,
         parties: Parties,
         head: Head,
+        is_well_formed: bool,
         bytes: PacketBytes,
     ) -> Result<Frame, NoMemory>
+        requires read { is_well_formed ≡ is_none (malformed bytes) }
         requires head { head ≡ head_of (record { parties = parties; bytes = bytes }) }
         requires short { length bytes ≤ 272 }
         requires well_made { IsWellMade parties bytes }
@@ -125,7 +128,11 @@ impl Flight {
         self.slots.reserve(1)?;
         let number = self.made();
         let (frame, token) = self.log.emit_bytes(rt, domain, number, head, bytes)?;
-        self.slots.push_reserved(Some(InFlight { parties, token }));
+        self.slots.push_reserved(Some(InFlight {
+            parties,
+            token,
+            is_well_formed,
+        }));
         self.held += 1;
         Ok(frame)
     }
@@ -150,7 +157,7 @@ impl Flight {
         let head = well_formed_head(these, bytes);
         let alloc = *self.slots.allocator();
         let copy = PacketBytes::copy_of(alloc, bytes)?;
-        self.put(rt, domain, parties, head, copy)
+        self.put(rt, domain, parties, head, true, copy)
     }
 
     /// The same of a packet of others, well formed or not, that was read already and whose bytes need no copy.
@@ -171,7 +178,7 @@ impl Flight {
     {
         let these = parties;
         let head = head_of(these, packet);
-        self.put(rt, domain, parties, head, bytes)
+        self.put(rt, domain, parties, head, packet.is_well_formed(), bytes)
     }
 
     /// How many packets were emitted, which is the number of the next one.
@@ -191,6 +198,22 @@ impl Flight {
         let index = number.checked_sub(self.gone)?;
         match self.slots.get(index as usize) {
             Some(Some(slot)) => Some((slot.parties, self.log.lend(&slot.token).bytes.as_slice())),
+            _ => None,
+        }
+    }
+
+    /// The same with what was read of the packet when it was put into flight.
+    pub fn packet(&self, number: u64) -> Option<(Parties, ReadPacket<'_>)>
+        ensures well_made { IfSome result (λ item. IsWellMade item.0 item.1) }
+        ensures value { MatchOption result (item_at self.now number ≡ None)
+            (λ item. item_at self.now number ≡ Some (record { parties = item.0; bytes = item.1 })) }
+    {
+        let index = number.checked_sub(self.gone)?;
+        match self.slots.get(index as usize) {
+            Some(Some(slot)) => {
+                let bytes = self.log.lend(&slot.token).bytes.as_slice();
+                Some((slot.parties, ReadPacket::again(bytes, slot.is_well_formed)))
+            }
             _ => None,
         }
     }

@@ -1,10 +1,13 @@
 //! An endpoint function.
 
-ghost use Rattle.std.specs.Prelude.{◌≡◌, IfOk, length, vec_len};
+ghost use Rattle.std.specs.Prelude.{◌≡◌, ◌≤◌, IfOk, length, vec_len};
 ghost use Rattle.function.specs.Registers.{first_page};
 ghost use Rattle.function.specs.Plans.{page_after, plan_of, tick_of, OpensLineTag, PlanFits};
 ghost use Rattle.function.specs.Closings.{closed_by};
-ghost use Rattle.function.specs.Accesses.{accessed, answer, IsAccess};
+ghost use Rattle.function.specs.Accesses.{accessed, answer, read_data, IsAccess};
+ghost use Rattle.tlp_view.specs.Completions.{read_completion};
+ghost use Rattle.tlp_view.specs.Packet.{dw_count};
+ghost use Rattle.tlp_view.specs.declared.kind.Kind.TheVariants.{MRd};
 
 use crate::buffer::close;
 use crate::open_tags::OpenTags;
@@ -108,9 +111,18 @@ impl Function {
         }
     }
 
+    /// The completion of a read of the page.
+    /// The read is of at most 64 DW. The address counts modulo 4,096.
+    pub fn completion(&self, request: &TlpView) -> CplBuf
+        requires read { (request.now).kind ≡ MRd }
+        requires short { dw_count (request.now).length ≤ 64 }
+        ensures { result ≡ read_completion self.now.0 request.now (read_data self.now.1 request.now) }
+    {
+        completion_of(self.id, &self.bytes, request)
+    }
+
     /// What answers a request for the page, if anything does.
-    /// It is the completion of a read of at most 64 DW, and nothing for a write. The address counts modulo
-    /// 4,096.
+    /// It is the completion of a read of at most 64 DW, and nothing for a write.
     pub fn answer(&self, request: &TlpView) -> Option<CplBuf>
         requires { IsAccess request.now }
         ensures { result ≡ answer self.now.0 self.now.1 request.now }
@@ -118,7 +130,7 @@ impl Function {
         if matches!(request.kind(), Kind::MWr) {
             return None;
         }
-        Some(completion_of(self.id, &self.bytes, request))
+        Some(self.completion(request))
     }
 
     /// Does to the page what the request says. A read leaves it as it is.

@@ -1,6 +1,6 @@
 //! Reads of a page, and their completions.
 
-ghost use Rattle.std.specs.Prelude.{true, ◌≡◌, ◌+◌, ◌*◌, ◌<◌, ◌≤◌, length};
+ghost use Rattle.std.specs.Prelude.{true, ◌≡◌, ◌<◌, ◌≤◌, length};
 ghost use Rattle.function.specs.Accesses.{is_empty_read, place_of, read_data};
 ghost use Rattle.tlp_view.specs.declared.kind.Kind.TheVariants.{MRd};
 ghost use Rattle.tlp_view.specs.Kinds.{has_address};
@@ -35,7 +35,6 @@ pub(crate) fn completion_of(id: Bdf, page: &[u8], request: &TlpView) -> CplBuf
     requires size { length page.now ≡ 4096 }
     requires read { (request.now).kind ≡ MRd }
     requires short { dw_count (request.now).length ≤ 64 }
-    requires inside { place_of request.now + 4 * dw_count (request.now).length ≤ 4096 }
     ensures { result ≡ read_completion id request.now (read_data page.now request.now) }
 {
     let count = request.dw_length();

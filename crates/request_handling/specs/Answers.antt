@@ -5,7 +5,7 @@ use Rattle.fab_types.specs.declared.head.Answerer.{Answerer}
 use Rattle.fab_types.specs.declared.head.Answerer.TheVariants as by
 use Rattle.fab_types.specs.declared.head.Parties.{Parties}
 use Rattle.fab_types.specs.declared.head.Parties.TheVariants.{Answer, Downward, Upward}
-use Rattle.function.specs.Accesses.{IsAccess, answer as page_answer}
+use Rattle.function.specs.Accesses.{IsAccess, read_data, answer as page_answer}
 use Rattle.fab_types.specs.declared.origin.Origin.{Origin}
 use Rattle.fab_types.specs.declared.origin.Origin.TheVariants.{Function}
 use Rattle.fab_types.specs.declared.status.Status.{Status}
@@ -91,6 +91,10 @@ answered_by share function t completion = answer (by.Function function) (reach s
 -- a function's refusal of a request
 abbrev pub function_refusal : Share → ℕ → Packet → Emission
 function_refusal share function t = answered_by share function t (refusal function UR t)
+
+-- of a read, with what stands there
+abbrev pub function_data : Share → ℕ → List ℕ → Packet → Emission
+function_data share function page t = answered_by share function t (read_completion function t (read_data page t))
 
 abbrev pub function_answer : Share → ℕ → List ℕ → Packet → Option Emission
 function_answer share function page t = option_map (answered_by share function t) (page_answer function page t)

@@ -2,12 +2,11 @@
 
 ghost use Rattle.std.specs.Prelude.{◌≡◌, ◌+◌, ◌*◌, ◌%◌, ◌≤◌, IfSome, length, true, unwrap_or};
 ghost use Rattle.std.specs.Option.{option_copied};
-ghost use Rattle.host_memory.specs.Pages.{part_of};
 ghost use Rattle.tlp_view.specs.Completions.{HeadFits, atomic_completion, completion_of, read_completion};
 ghost use Rattle.tlp_view.specs.Kinds.{has_address, is_fetch_add};
 ghost use Rattle.tlp_view.specs.declared.kind.Kind.TheVariants.{MRd};
 ghost use Rattle.tlp_view.specs.Packet.{dw_count};
-ghost use Rattle.request_handling.specs.Answers.{address_of, blank, forwarded, function_answer, function_refusal, host_data, host_operand, host_refusal, port_answer, reads_nothing, shown};
+ghost use Rattle.request_handling.specs.Answers.{address_of, blank, forwarded, function_answer, function_data, function_refusal, host_data, host_operand, host_refusal, port_answer, reads_nothing, shown};
 ghost use Rattle.function.specs.Accesses.{IsAccess};
 
 use crate::handling::Reply;
@@ -15,7 +14,7 @@ use fab_types::{Answerer, Bdf, Origin, PortId, Status};
 use function::Function;
 use host_memory::HostMemory;
 use layout::Start;
-use tlp_view::{CompletionHead, CplBuf, RequestBuf, TlpView};
+use tlp_view::{CompletionHead, CplBuf, Kind, RequestBuf, TlpView};
 
 /// A port refuses a request of this function.
 pub(crate) fn port_answer(port: PortId, function: Bdf, status: Status, view: &TlpView) -> Reply
@@ -95,17 +94,28 @@ pub(crate) fn forwarded(function: Bdf, bar: u32, view: &TlpView) -> Reply
     Reply::request(function, RequestBuf::moved(view, page + place))
 }
 
-/// A function answers a read of its register page; a write has no answer.
+/// A function answers a read of its register page.
+pub fn function_data(start: &Start, function: &Function, view: &TlpView) -> Reply
+    requires read { (view.now).kind ≡ MRd }
+    requires short { dw_count (view.now).length ≤ 64 }
+    ensures { result ≡ function_data start.now (function.now).0 (function.now).1 view.now }
+{
+    Reply::answer(
+        Answerer::Function(function.id()),
+        start.reach(view.requester()),
+        function.completion(view),
+    )
+}
+
+/// The same of a request for the page; a write has no answer.
 pub(crate) fn function_answer(start: &Start, function: &Function, view: &TlpView) -> Option<Reply>
     requires { IsAccess view.now }
     ensures { result ≡ function_answer start.now (function.now).0 (function.now).1 view.now }
 {
-    let packet = function.answer(view)?;
-    Some(Reply::answer(
-        Answerer::Function(function.id()),
-        start.reach(view.requester()),
-        packet,
-    ))
+    if matches!(view.kind(), Kind::MWr) {
+        return None;
+    }
+    Some(function_data(start, function, view))
 }
 
 /// Does the read ask for no bytes?

@@ -28,7 +28,7 @@ use function::Functions;
 use host_table::{HostTable, Target};
 use layout::Start;
 use platform::{Access, DownstreamPort};
-use tlp_view::{Kind, TlpView};
+use tlp_view::{Kind, ReadPacket, TlpView};
 
 pub(crate) fn is_write(kind: Kind) -> bool
     ensures { result ≡ is_write kind }
@@ -204,38 +204,38 @@ fn carriage_past(
     table: &HostTable,
     functions: &Functions,
     function: Bdf,
-    bytes: &[u8],
+    packet: &ReadPacket<'_>,
 ) -> Option<Disposition>
     requires { table.now ≡ (start.now).maps }
-    ensures value { (frames : List (ℕ × List ℕ)) → option_map (handling start.now frames functions.now (packet_of bytes.now)) result ≡ carriage_by start.now frames functions.now bytes.now (fate_at start.now.ports function port.now bytes.now) }
-    ensures suits { IfSome result (λ d. Suits bytes.now d) }
+    ensures value { (frames : List (ℕ × List ℕ)) → option_map (handling start.now frames functions.now (packet_of packet.now)) result ≡ carriage_by start.now frames functions.now packet.now (fate_at start.now.ports function port.now packet.now) }
+    ensures suits { IfSome result (λ d. Suits packet.now d) }
 {
-    let Ok(view) = TlpView::read(bytes) else {
+    let Some(view) = packet.view() else {
         return None;
     };
-    match packet_fate(start, function, port, &view) {
-        Fate::ToHost => carried(start, table, &view),
-        Fate::Direct(peer) => carried_directly(start, functions, peer, &view),
+    match packet_fate(start, function, port, view) {
+        Fate::ToHost => carried(start, table, view),
+        Fate::Direct(peer) => carried_directly(start, functions, peer, view),
         Fate::Vanish => None,
         Fate::Refused(_) => None,
     }
 }
 
-/// What the host, or the function to which they go directly, does with these bytes.
-/// A function sent them. `None` where a port stops them, or nothing of the kind is carried.
+/// What the host, or the function to which it goes directly, does with this packet.
+/// A function sent it. `None` where a port stops it, or nothing of the kind is carried.
 pub fn carriage_up(
     start: &Start,
     table: &HostTable,
     functions: &Functions,
     function: Bdf,
-    bytes: &[u8],
+    packet: &ReadPacket<'_>,
 ) -> Option<Disposition>
     requires { table.now ≡ (start.now).maps }
-    ensures value { (frames : List (ℕ × List ℕ)) → option_map (handling start.now frames functions.now (packet_of bytes.now)) result ≡ carriage_by start.now frames functions.now bytes.now (fate start.now.ports function bytes.now) }
-    ensures suits { IfSome result (λ d. Suits bytes.now d) }
+    ensures value { (frames : List (ℕ × List ℕ)) → option_map (handling start.now frames functions.now (packet_of packet.now)) result ≡ carriage_by start.now frames functions.now packet.now (fate start.now.ports function packet.now) }
+    ensures suits { IfSome result (λ d. Suits packet.now d) }
 {
     match start.first_port(function) {
-        Some(port) => carriage_past(&port, start, table, functions, function, bytes),
+        Some(port) => carriage_past(&port, start, table, functions, function, packet),
         None => None,
     }
 }

@@ -11,7 +11,7 @@ use crate::answers::{
     port_answer,
 };
 use crate::handling::{Effect, Handling, Reply};
-use crate::page::place;
+use crate::page::function_of;
 use fab_types::{Bdf, PortId, Status};
 use function::Functions;
 use host_memory::HostMemory;
@@ -52,8 +52,8 @@ fn access_answer(start: &Start, functions: &Functions, id: Bdf, view: &TlpView) 
     requires { IsAccess view.now }
     ensures { result ≡ access_answer start.now id view.now (page_of functions.now id) }
 {
-    let at = place(functions, id)?;
-    function_answer(start, &functions.as_slice()[at], view)
+    let function = function_of(functions, id)?;
+    function_answer(start, function, view)
 }
 
 impl Disposition {

@@ -12,13 +12,13 @@ mod refusal;
 mod requests;
 mod taker;
 
-pub use answers::host_data;
+pub use answers::{function_data, host_data};
 pub use carriage::{access_of, carriage_up};
 pub use disposition::Disposition;
 pub use fate::{Fate, first_port_fate};
 pub use handling::{Effect, Handling, Made, Reply, discarded};
 pub use heads::{head_of, target_for, well_formed_head};
-pub use page::place;
+pub use page::{function_of, place};
 pub use refusal::{refusal_of, refusal_of_completion};
 pub use requests::{at_port, request_at_function, request_at_host};
 pub use taker::{Taker, taker_of};

@@ -16,35 +16,35 @@ use crate::fate::{Fate, packet_fate, returns_completion};
 use fab_types::{Answerer, Bdf};
 use layout::Start;
 use platform::DownstreamPort;
-use tlp_view::TlpView;
+use tlp_view::{ReadPacket, TlpView};
 
-/// How these bytes of a function end at this port of the layout, if they end there.
+/// How this packet of a function ends at this port of the layout, if it ends there.
 pub(crate) fn refusal_at(
     start: &Start,
     port: &DownstreamPort,
     function: Bdf,
-    bytes: &[u8],
+    packet: &ReadPacket<'_>,
 ) -> Option<Disposition>
-    ensures value { (share : Share) (frames registers : List (ℕ × List ℕ)) → option_map (handling share frames registers (packet_of bytes.now)) result ≡ refusal_by port.now.id function bytes.now (fate_at start.now.ports function port.now bytes.now) }
-    ensures suits { IfSome result (λ d. Suits bytes.now d) }
+    ensures value { (share : Share) (frames registers : List (ℕ × List ℕ)) → option_map (handling share frames registers (packet_of packet.now)) result ≡ refusal_by port.now.id function packet.now (fate_at start.now.ports function port.now packet.now) }
+    ensures suits { IfSome result (λ d. Suits packet.now d) }
 {
-    let Ok(view) = TlpView::read(bytes) else {
+    let Some(view) = packet.view() else {
         return Some(Disposition::Discarded);
     };
-    match packet_fate(start, function, port, &view) {
+    match packet_fate(start, function, port, view) {
         Fate::Vanish => Some(Disposition::Discarded),
         Fate::Refused(status) => Some(Disposition::RefusedByPort(port.id, function, status)),
         Fate::ToHost | Fate::Direct(_) => None,
     }
 }
 
-/// How these bytes of a function end at its first port, if they end there.
-pub fn refusal_of(start: &Start, function: Bdf, bytes: &[u8]) -> Option<Disposition>
-    ensures value { (frames registers : List (ℕ × List ℕ)) → option_map (handling start.now frames registers (packet_of bytes.now)) result ≡ refusal_of start.now bytes.now (Upward function) }
-    ensures suits { IfSome result (λ d. Suits bytes.now d) }
+/// How this packet of a function ends at its first port, if it ends there.
+pub fn refusal_of(start: &Start, function: Bdf, packet: &ReadPacket<'_>) -> Option<Disposition>
+    ensures value { (frames registers : List (ℕ × List ℕ)) → option_map (handling start.now frames registers (packet_of packet.now)) result ≡ refusal_of start.now packet.now (Upward function) }
+    ensures suits { IfSome result (λ d. Suits packet.now d) }
 {
     match start.first_port(function) {
-        Some(port) => refusal_at(start, &port, function, bytes),
+        Some(port) => refusal_at(start, &port, function, packet),
         None => Some(Disposition::Discarded),
     }
 }
@@ -65,14 +65,18 @@ fn is_returned(start: &Start, answerer: Answerer, view: &TlpView) -> bool
 /// How a completion of a function ends at its first port, if it ends there.
 /// That is the first port of the function that made it. With Upstream Forwarding clear the port discards what
 /// is for a bus below it (PCIe 4.0, 6.12.1.1). Completions of ports and of the host come to no such port.
-pub fn refusal_of_completion(start: &Start, answerer: Answerer, bytes: &[u8]) -> Option<Disposition>
-    ensures value { (frames registers : List (ℕ × List ℕ)) (t : Packet) → option_map (handling start.now frames registers t) result ≡ answer_refusal start.now (malformed bytes.now) answerer (packet_of bytes.now) }
-    ensures suits { IfSome result (λ d. Suits bytes.now d) }
+pub fn refusal_of_completion(
+    start: &Start,
+    answerer: Answerer,
+    packet: &ReadPacket<'_>,
+) -> Option<Disposition>
+    ensures value { (frames registers : List (ℕ × List ℕ)) (t : Packet) → option_map (handling start.now frames registers t) result ≡ answer_refusal start.now (malformed packet.now) answerer (packet_of packet.now) }
+    ensures suits { IfSome result (λ d. Suits packet.now d) }
 {
-    let Ok(view) = TlpView::read(bytes) else {
+    let Some(view) = packet.view() else {
         return None;
     };
-    if is_returned(start, answerer, &view) {
+    if is_returned(start, answerer, view) {
         Some(Disposition::Discarded)
     } else {
         None

@@ -5,7 +5,6 @@ ghost use Rattle.std.specs.List.{find};
 ghost use Rattle.platform.specs.Share.{Share};
 ghost use Rattle.tlp_view.specs.Bytes.{packet_of};
 ghost use Rattle.tlp_view.specs.Kinds.{class_of_kind, has_address, is_memory};
-ghost use Rattle.tlp_view.specs.Packet.{Packet};
 ghost use Rattle.tlp_view.specs.View.{address_type_in};
 ghost use Rattle.request_handling.specs.Answers.{function_refusal};
 ghost use Rattle.request_handling.specs.AtFunctions.{is_access, lies_in, request_at_function, unserved};
@@ -21,7 +20,7 @@ use function::Functions;
 use host_table::HostTable;
 use layout::Start;
 use platform::DownstreamPort;
-use tlp_view::TlpView;
+use tlp_view::{ReadPacket, TlpView};
 
 /// The host refuses a non-posted request, and discards any other.
 fn unserved_by_host(view: &TlpView) -> Disposition
@@ -164,10 +163,12 @@ pub fn at_port(start: &Start, port: &DownstreamPort, bytes: &[u8], sender: Parti
     ensures suits { Suits bytes.now result }
 {
     match sender {
-        Parties::Upward(function) => match refusal_at(start, port, function, bytes) {
-            Some(disposition) => disposition,
-            None => Disposition::Discarded,
-        },
+        Parties::Upward(function) => {
+            match refusal_at(start, port, function, &ReadPacket::new(bytes)) {
+                Some(disposition) => disposition,
+                None => Disposition::Discarded,
+            }
+        }
         Parties::Downward(_) | Parties::Answer(..) => Disposition::Discarded,
     }
 }

@@ -1,6 +1,6 @@
 //! A packet's bytes, read once.
 
-ghost use Rattle.std.specs.Prelude.{◌≡◌, MatchOption, IsSome, None};
+ghost use Rattle.std.specs.Prelude.{◌≡◌, MatchOption, IsSome, None, is_none};
 ghost use Rattle.tlp_view.specs.Bytes.{packet_of};
 ghost use Rattle.tlp_view.specs.Malformed.{malformed};
 
@@ -34,6 +34,27 @@ impl<'a> ReadPacket<'a> {
     {
         let view = TlpView::read(bytes).ok();
         ReadPacket { bytes, view }
+    }
+
+    /// The same of bytes of which it is known whether they are well formed.
+    /// It isn't tested again.
+    pub fn again(bytes: &'a [u8], is_well_formed: bool) -> ReadPacket<'a>
+        requires { is_well_formed ≡ is_none (malformed bytes.now) }
+        ensures { result ≡ bytes.now }
+    {
+        let view = if is_well_formed {
+            Some(TlpView::again(bytes))
+        } else {
+            None
+        };
+        ReadPacket { bytes, view }
+    }
+
+    /// Are the bytes well formed?
+    pub fn is_well_formed(&self) -> bool
+        ensures { result ≡ is_none (malformed self.now) }
+    {
+        self.view.is_some()
     }
 
     /// The bytes that were read.

@@ -187,6 +187,7 @@ impl<'a> TlpView<'a> {
     /// The Length field in DW, in which 0 stands for 1,024. Where the kind has no Length it is what stands
     /// in the field's place.
     pub fn dw_length(&self) -> u16
+        ensures sound { IsSound self.now }
         ensures value { result ≡ dw_count self.now.length }
         ensures some { 0 < result }
         ensures field { (self.now).length < 2 ^ 10 }

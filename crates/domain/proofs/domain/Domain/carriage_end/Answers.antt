@@ -14,7 +14,7 @@ use Rattle.domain.proofs.domain.Domain.carriage_end.Goals as goal
 pub returns-in-Downward : goal.returns-in-Downward
 returns-in-Downward c =
     let d = c.self.inside in
-    let b = c.in-Some.bytes.now in
+    let b = c.in-Some.packet in
     let f = c.in-Downward.function in
     let o = c.access_of.result in
     carried_here (domain_view d) c.args.self.now c.args.number _ o c.self.view_is c.in-Some.ensures.value

@@ -9,7 +9,7 @@ overflow_add-self g c = omega (arith, held-le c.self.inside.slots.items, c.self.
 pub invariant_of-self-3 : goal.invariant_of-self-3
 invariant_of-self-3 g c = record {
   slots = slots_push (arc_value c.self.inside.log) c.self.inside.slots.items c.reserve.new.self.items c.push_reserved.new.self.items _ _ c.args.bytes
-      c.self.invariant.slots c.reserve.ensures.items c.push_reserved.ensures.items (rw c.deref.ensures at c.in_ok-frame.ensures.token) c.in_ok-frame.ensures.entry refl c.requires.well_made c.requires.short;
+      c.self.invariant.slots c.reserve.ensures.items c.push_reserved.ensures.items (rw c.deref.ensures at c.in_ok-frame.ensures.token) c.in_ok-frame.ensures.entry refl c.requires.well_made c.requires.short c.requires.read;
   held = rw (c.push_reserved.ensures.items, c.reserve.ensures.items) (rw c.self.invariant.held (sym (held-push c.self.inside.slots.items _)));
   gone = c.self.invariant.gone;
 }
