@@ -1,6 +1,6 @@
 -- A packet that is answered and ends, and Tags that are closed.
-use Rattle.std.proofs.Common.{◌≡◌, ℕ, ◌+◌, ◌≤◌, Bool, true, false, cond, ◌||◌, ◌&&◌, not, ◌==◌, List, [], ◌∷◌, ◌++◌, length, Option, Some, None, refl, sym, ap, ◌∙◌, subst, arith, length-append}
-use Rattle.std.specs.Prelude.{filter, Result, IfOk, OnErr, Ok, Err}
+use Rattle.std.proofs.Common.{◌≡◌, ℕ, ◌+◌, ◌≤◌, Bool, true, false, cond, ◌||◌, ◌&&◌, not, ◌==◌, List, [], ◌∷◌, ◌++◌, length, Option, Some, None, refl, sym, ap, ◌∙◌, arith, length-append}
+use Rattle.std.specs.Prelude.{filter, Result, IfOk, Ok, Err}
 use Rattle.std.specs.List.{list_any, position}
 use Rattle.std.specs.Option.{IsSome}
 use Rattle.fab_types.specs.declared.origin.Origin.{Origin}
@@ -13,14 +13,7 @@ use Rattle.request_handling.specs.declared.handling.Effect.{Effect}
 use Rattle.request_handling.specs.declared.handling.Effect.TheVariants.{Leave, Block, Store, Add, Access}
 use Rattle.platform.specs.Share.{Share}
 use Rattle.request_handling.specs.declared.disposition.Disposition.{Disposition}
-use Rattle.request_handling.specs.declared.disposition.Disposition.TheVariants.{Accessed}
-use Rattle.request_handling.specs.Answers.{function_data}
-use Rattle.request_handling.specs.Dispositions.{Suits, may_answer, reply_of}
-use Rattle.request_handling.proofs.Suiting.{read_access, read_answered}
-use Rattle.function.specs.Accesses.{IsAccess}
-use Rattle.host_memory.specs.Pages.{page_of}
-use Rattle.tlp_view.specs.Packet.{Packet}
-use Rattle.tlp_view.specs.declared.kind.Kind.TheVariants.{MRd}
+use Rattle.request_handling.specs.Dispositions.{reply_of}
 use Rattle.domain.specs.Domains.{disposed}
 use Rattle.function.specs.declared.tags.OpenTag.{OpenTag}
 use Rattle.function.specs.declared.tags.TagUse.{TagUse}
@@ -45,10 +38,6 @@ pub if_ok : {A E : Type 0} (r : Result A E) (P Q : A → Type 0) → ((a : A) �
 if_ok (Ok a) P Q h p = h a p
 if_ok (Err e) P Q h p = tt
 
-pub on_err : {A E : Type 0} (r : Result A E) (P Q : Type 0) → (P → Q) → OnErr r P → OnErr r Q
-on_err (Ok a) P Q h p = tt
-on_err (Err e) P Q h p = h p
-
 -- what answers a packet that stands under a number, by the fields of the state
 pub answer_is : (share : Share) (inside seen : Alone) (n : ℕ) (x e : Emission) (d : Disposition) (memory pages : List (ℕ × List ℕ)) (reply : Option Emission) → inside ≡ seen → item_at inside.flight n ≡ Some x → item_at seen.flight n ≡ Some e
     → memory ≡ inside.frames → pages ≡ inside.registers → reply ≡ reply_of share memory pages (packet_of x.bytes) d → reply ≡ (disposed share seen e d).reply
@@ -58,22 +47,6 @@ answer_is share inside seen n x e d memory pages reply same there is frames regi
     ∙ ap (λ (r : List (ℕ × List ℕ)). reply_of share inside.frames r (packet_of x.bytes) d) registers
     ∙ ap (λ (s : Alone). reply_of share s.frames s.registers (packet_of x.bytes) d) same
     ∙ ap (λ (y : Emission). reply_of share seen.frames seen.registers (packet_of y.bytes) d) (one_item (item_at seen.flight n) x e (ap (λ (s : Alone). item_at s.flight n) (sym same) ∙ there) is)
-
--- a register page's access that may be answered is a read
-pub register_read : (bytes : List ℕ) (d : Disposition) (function : ℕ) (t : Packet) → Suits bytes d → d ≡ Accessed function → may_answer (packet_of bytes) d ≡ true → t ≡ packet_of bytes → t.kind ≡ MRd
-register_read bytes d function t suits ends may read =
-    let access : IsAccess (packet_of bytes) = (subst (Suits bytes) ends suits).1 in
-    ap (λ (u : Packet). u.kind) read ∙ (read_access (packet_of bytes) function access (sym (ap (may_answer (packet_of bytes)) ends) ∙ may)).0
-
--- what answers it
-pub register_answer_is : (share : Share) (inside seen : Alone) (n : ℕ) (x e : Emission) (d : Disposition) (function named : ℕ) (t : Packet) (page : List ℕ) (reply : Emission) → inside ≡ seen → item_at inside.flight n ≡ Some x → item_at seen.flight n ≡ Some e
-    → d ≡ Accessed function → t ≡ packet_of x.bytes → page_of inside.registers function ≡ Some page → named ≡ function → t.kind ≡ MRd → reply ≡ function_data share named page t → Some reply ≡ (disposed share seen e d).reply
-register_answer_is share inside seen n x e d function named t page reply same there is ends read stands id kind made =
-    answer_is share inside seen n x e d inside.frames inside.registers (Some reply) same there is refl refl
-    (ap (λ (r : Emission). Some r) (made ∙ ap (λ (g : ℕ). function_data share g page t) id)
-    ∙ sym (read_answered share function t page (page_of inside.registers function) stands kind)
-    ∙ ap (λ (u : Packet). reply_of share inside.frames inside.registers u (Accessed function)) read
-    ∙ ap (reply_of share inside.frames inside.registers (packet_of x.bytes)) (sym ends))
 
 -- ---- what the closing of a Tag leaves of the register pages
 

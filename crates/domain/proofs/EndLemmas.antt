@@ -29,7 +29,7 @@ use Rattle.request_handling.specs.Answers.{address_of, function_answer, host_ref
 use Rattle.request_handling.specs.AtFunctions.{request_at_function}
 use Rattle.domain.proofs.FunctionFits.{at_function_fits, effect_fits}
 use Rattle.request_handling.specs.Carries.{add_if, carriage_by, carriage_end, carriage_of, forward, frame_for, is_carried, port_id, read_from, refusal_by, refusal_end, refusal_of, serve, serve_add, serve_read, write_to}
-use Rattle.domain.specs.Domains.{Arrives, Disposes, DomainView, EndsBy, disposed}
+use Rattle.domain.specs.Domains.{Disposes, DomainView, EndsBy, disposed}
 use Rattle.domain_parts.specs.Ends.{EffectFits, conclude}
 use Rattle.request_handling.specs.Fates.{fate, fate_below, fate_unless}
 use Rattle.domain.specs.Machine.{change, ended}
@@ -193,9 +193,9 @@ pub delivered_so : (share : Share) (s t : Alone) (n : ℕ) (is_recorded : Bool) 
 delivered_so share s t n is_recorded h =
     ap (option_map (λ (b : Arrival). emits_nothing (arrived (without s n) b))) h.arrival_is ∙ ap (λ (u : Alone). Some (emits_nothing u)) (sym h.state_is)
 
-pub arrives_so : (v w : DomainView) (n : ℕ) (new : DomainView) (is_recorded : Bool) → v ≡ w → HasArrived v.state n new.state is_recorded → Arrives w n new is_recorded
-arrives_so v w n new is_recorded same h =
-    subst (λ (u : DomainView). Arrives u n new is_recorded) same (record { arrived = h.arrives; arrival_is = h.arrival_is; state_is = h.state_is; recorded_is = h.recorded_is })
+pub arrives_so : (v w : DomainView) (n : ℕ) (t : Alone) (is_recorded : Bool) → v ≡ w → HasArrived v.state n t is_recorded → HasArrived w.state n t is_recorded
+arrives_so v w n t is_recorded same h =
+    subst (λ (u : DomainView). HasArrived u.state n t is_recorded) same h
 
 -- what a packet in flight is to its addressee
 pub has_arrived : (s t : Alone) (n : ℕ) (x : Emission) (a : Arriving) → item_at s.flight n ≡ Some x → some (arrival_by a x.bytes) ≡ arrival_of s.open_tags x.bytes x.parties → t ≡ arrived (without s n) (arrival_by a x.bytes) → HasArrived s n t a.is_awaited

@@ -83,7 +83,8 @@ unexpected s = record {
 abbrev pub arrived : Alone → Arrival → Alone
 arrived s a = if a.is_awaited then recorded s a.delivery else unexpected s
 
--- the packet of this number left flight as a completion that arrived, and a record was made of it exactly where that is said
+-- the packet of this number left flight as a completion that arrived at whom it is for, and a record was made of it exactly where
+-- that is said
 pub record HasArrived (old : Alone) (n : ℕ) (new : Alone) (is_recorded : Bool) : Type 0 where
   pub emission : Emission
   pub waits : item_at old.flight n ≡ Some emission

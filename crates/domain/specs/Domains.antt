@@ -13,10 +13,9 @@ use Rattle.request_handling.specs.declared.handling.Handling.{Handling}
 use Rattle.request_handling.specs.Dispositions.{Suits, effect_of, handling}
 use Rattle.tlp_view.specs.Bytes.{packet_of}
 use Rattle.domain.specs.Deliveries.{Arrival, arrival, record_of_arrival}
-use Rattle.domain.specs.Deliveries.{arrived as arrived_state}
 use Rattle.domain_parts.specs.Ends.{EffectFits, conclude}
 use Rattle.request_handling.specs.Emissions.{Emission}
-use Rattle.domain_parts.specs.State.{Alone, Change, Delivery, item_at, without}
+use Rattle.domain_parts.specs.State.{Alone, Change, Delivery, item_at}
 use Rattle.request_handling.specs.Heads.{descriptor_of}
 use Rattle.domain.specs.Machine.{change, with_alien}
 
@@ -81,13 +80,6 @@ pub record EndsBy (old : DomainView) (entry : Entry) (n : ℕ) (d : Disposition)
   pub fits : EffectFits emission (effect_of d)
   pub step : change old.share old.state entry ≡ Some (conclude old.state n emission.bytes (disposed old.share old.state emission d))
   pub own : (aliens : ℕ) → with_alien entry aliens ≡ aliens
-
--- The completion of this number arrived at whom it is for, and a record was made of it exactly where that is said
-pub record Arrives (old : DomainView) (n : ℕ) (new : DomainView) (is_recorded : Bool) : Type 0 where
-  pub arrived : Arrival
-  pub arrival_is : arrival old.state.open_tags (item_at old.state.flight n) ≡ Some arrived
-  pub state_is : new.state ≡ arrived_state (without old.state n) arrived
-  pub recorded_is : is_recorded ≡ arrived.is_awaited
 
 -- the record is the one that the delivery of this number makes
 pub record Delivers (old : DomainView) (n : ℕ) (given : Option Delivery) : Type 0 where

@@ -25,7 +25,7 @@ use fab_types::{DomainId, NoMemory};
 use frame_log::Frame;
 use function::{Functions, OpenTags, TagUse};
 use layout::Start;
-use request_handling::{Disposition, Effect, Reply, function_data, function_of, host_data};
+use request_handling::{Disposition, Effect, Reply};
 use std::sync::Wait;
 use tlp_view::TlpView;
 
@@ -75,23 +75,6 @@ fn complete_line(functions: &mut Functions, tags: &OpenTags, arriving: &Arriving
 }
 
 impl State {
-    /// Emits what answers a packet. Where memory was refused nothing changes.
-    fn emit<R: Wait>(
-        &mut self,
-        rt: &R,
-        domain: DomainId,
-        reply: &Reply,
-    ) -> Result<Option<Frame>, NoMemory>
-        ensures state { IfOk result (λ _. self.new ≡ replied self.old (Some reply.now)) }
-        ensures sent { IfOk result (λ sent. sent ≡ option_map (descriptor_of domain (length self.old.flight)) (Some reply.now)) }
-        ensures err { OnErr result (self.new ≡ self.old) }
-    {
-        let frame = self
-            .flight
-            .emit_made(rt, domain, reply.parties(), reply.bytes())?;
-        Ok(Some(frame))
-    }
-
     /// Emits what answers a packet, if anything does. Where memory was refused nothing changes.
     pub(crate) fn send<R: Wait>(
         &mut self,
@@ -106,7 +89,10 @@ impl State {
         let Some(reply) = &reply else {
             return Ok(None);
         };
-        self.emit(rt, domain, reply)
+        let frame = self
+            .flight
+            .emit_made(rt, domain, reply.parties(), reply.bytes())?;
+        Ok(Some(frame))
     }
 
     /// Does what the end of the packet of this number does.
@@ -123,7 +109,8 @@ impl State {
         }
     }
 
-    /// Emits what answers the packet of this number, which ends so. Where memory was refused nothing changes.
+    /// Emits what answers the packet of this number, which ends so, made as a whole. Where memory was refused nothing changes.
+    // (apart from `answer`, which else would clear room for such an answer for each packet that ends)
     #[cold]
     fn send_reply<R: Wait>(
         &mut self,
@@ -146,7 +133,7 @@ impl State {
         self.send(rt, start.domain(), reply)
     }
 
-    /// The same, but the most frequent answers, which are large, are made where they are sent.
+    /// The same, but the data of a read's answer are lent where it is put together.
     #[tactic(auto, using(request_handling::proofs::Suiting::unanswered))]
     fn answer<R: Wait>(
         &mut self,
@@ -171,16 +158,8 @@ impl State {
             return Ok(None);
         }
         let (memory, registers) = (&self.contents.memory, &self.contents.registers);
-        if let Disposition::Shown(frame) = disposition {
-            let reply = host_data(start, memory, frame, &TlpView::again(bytes));
-            return self.emit(rt, start.domain(), &reply);
-        }
-        if let Disposition::Accessed(function) = disposition {
-            let Some(function) = function_of(registers, function) else {
-                return Ok(None);
-            };
-            let reply = function_data(start, function, &TlpView::again(bytes));
-            return self.emit(rt, start.domain(), &reply);
+        if let Some(reply) = disposition.data_reply(start, memory, registers, bytes) {
+            return Ok(Some(self.flight.emit_data(rt, start.domain(), &reply)?));
         }
         self.send_reply(rt, start, number, disposition)
     }

@@ -25,7 +25,8 @@ impl Domain {
     ghost use Rattle.domain.specs.declared.entry.Entry.{Entry};
     ghost use Rattle.domain.specs.declared.entry.Entry.TheVariants.{Carry, Deliver, Refuse};
     ghost use Rattle.request_handling.specs.Carries.{carriage_end, refusal_end};
-    ghost use Rattle.domain.specs.Domains.{Arrives, Delivers, Disposes, EndsBy, IsEntryFault, IsRefused, IsStray, Makes};
+    ghost use Rattle.domain.specs.Deliveries.{HasArrived};
+    ghost use Rattle.domain.specs.Domains.{Delivers, Disposes, EndsBy, IsEntryFault, IsRefused, IsStray, Makes};
     ghost use Rattle.domain_parts.specs.State.{item_at};
 
     /// How a packet in flight ends at its sender's first port, if it ends there.
@@ -117,7 +118,7 @@ impl Domain {
     /// The completion reached whom it answers. Did it close a Tag, so that a record was made? It answers
     /// `Illegal` where the machine has no such entry.
     pub(crate) fn end_delivered(&mut self, number: u64) -> Result<bool, EntryFault>
-        ensures ok { IfOk result (λ is_recorded. Makes self.old (Deliver number) self.new None × Arrives self.old number self.new is_recorded) }
+        ensures ok { IfOk result (λ is_recorded. Makes self.old (Deliver number) self.new None × HasArrived (self.old.state) number (self.new.state) is_recorded) }
         ensures fault { IfErr result (λ fault. (fault ≡ EntryFault.Illegal) × IsEntryFault self.old (Deliver number) fault) }
         ensures err { OnErr result (self.new ≡ self.old) }
     {
@@ -200,7 +201,7 @@ impl Domain {
     /// The record is the last one then. So the completion's bytes are copied once.
     pub fn complete(&mut self, frame: Frame) -> Result<bool, FrameFault>
         ensures ok { OnOk result ((frame.domain ≡ (self.old.share).domain) × Makes self.old (Deliver frame.number) self.new None) }
-        ensures delivery { IfOk result (λ is_recorded. Arrives self.old frame.number self.new is_recorded) }
+        ensures delivery { IfOk result (λ is_recorded. HasArrived (self.old.state) frame.number (self.new.state) is_recorded) }
         ensures fault { IfErr result (λ fault. IsStray self.old (Deliver frame.number) frame fault) }
         ensures err { OnErr result (self.new ≡ self.old) }
     {

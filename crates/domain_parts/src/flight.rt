@@ -10,7 +10,7 @@ ghost use Rattle.request_handling.specs.WellMade.{IsWellMade};
 
 use fab_types::{DomainId, Head, NoMemory, PacketBytes, Parties};
 use frame_log::{Frame, Log, Token};
-use request_handling::{head_of, well_formed_head};
+use request_handling::{DataReply, head_of, well_formed_head};
 use std::alloc::Global;
 use std::marker::Model;
 use std::sync::{Arc, Wait};
@@ -137,6 +137,26 @@ impl Flight {
         Ok(frame)
     }
 
+    /// Puts a packet of well-formed bytes into flight. Where memory was refused nothing is in flight that was not before.
+    fn emit_well_formed<R: Wait>(
+        &mut self,
+        rt: &R,
+        domain: DomainId,
+        parties: Parties,
+        bytes: PacketBytes,
+    ) -> Result<Frame, NoMemory>
+        requires well_formed { malformed bytes ≡ None }
+        requires short { length bytes ≤ 272 }
+        requires well_made { IsWellMade parties bytes }
+        ensures flight { IfOk result (λ _. self.new ≡ self.old ++ Some (record { parties = parties; bytes = bytes }) ∷ []) }
+        ensures frame { IfOk result (λ frame. frame ≡ descriptor_of domain (length self.old) (record { parties = parties; bytes = bytes })) }
+        ensures err { OnErr result (self.new ≡ self.old) }
+    {
+        let these = parties;
+        let head = well_formed_head(these, bytes.as_slice());
+        self.put(rt, domain, parties, head, true, bytes)
+    }
+
     /// Emits a packet that the domain itself makes, well formed and of at most 272 bytes, under the next number. Where
     /// memory was refused nothing is in flight that was not before.
     pub fn emit_made<R: Wait>(
@@ -153,11 +173,23 @@ impl Flight {
         ensures frame { IfOk result (λ frame. frame ≡ descriptor_of domain (length self.old) (record { parties = parties; bytes = bytes.now })) }
         ensures err { OnErr result (self.new ≡ self.old) }
     {
-        let these = parties;
-        let head = well_formed_head(these, bytes);
-        let alloc = *self.slots.allocator();
-        let copy = PacketBytes::copy_of(alloc, bytes)?;
-        self.put(rt, domain, parties, head, true, copy)
+        let copy = PacketBytes::copy_of(*self.slots.allocator(), bytes)?;
+        self.emit_well_formed(rt, domain, parties, copy)
+    }
+
+    /// The same of an answer whose data are lent: its bytes are put together here.
+    pub fn emit_data<R: Wait>(
+        &mut self,
+        rt: &R,
+        domain: DomainId,
+        reply: &DataReply<'_>,
+    ) -> Result<Frame, NoMemory>
+        ensures flight { IfOk result (λ _. self.new ≡ self.old ++ Some reply.now ∷ []) }
+        ensures frame { IfOk result (λ frame. frame ≡ descriptor_of domain (length self.old) reply.now) }
+        ensures err { OnErr result (self.new ≡ self.old) }
+    {
+        let bytes = reply.bytes(*self.slots.allocator())?;
+        self.emit_well_formed(rt, domain, reply.parties(), bytes)
     }
 
     /// The same of a packet of others, well formed or not, that was read already and whose bytes need no copy.

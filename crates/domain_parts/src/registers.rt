@@ -1,8 +1,7 @@
 //! The functions of a domain, and their register pages.
 
-ghost use Rattle.std.specs.Prelude.{◌≡◌, ◌==◌, ℕ, List, [], Some, IfOk, IfSome, option_map, slice_index_or};
+ghost use Rattle.std.specs.Prelude.{◌≡◌, ℕ, List, Some, IfOk, IfSome, option_map};
 ghost use Rattle.function.specs.Plans.{OpensLineTag, PlanFits, page_after, plan_of};
-ghost use Rattle.std.specs.List.{position};
 ghost use Rattle.std.specs.Option.{option_copied};
 ghost use Rattle.fab_types.specs.declared.origin.Origin.{Origin};
 ghost use Rattle.function.specs.Accesses.{IsAccess, accessed};
@@ -14,7 +13,7 @@ ghost use Rattle.domain_parts.specs.State.{first_registers};
 use fab_types::{Bdf, NoMemory, Origin, Status};
 use function::{Function, Functions, OpenTag, OpenTags, Plan, TagUse};
 use layout::Start;
-use request_handling::place;
+use request_handling::{function_of, place};
 use std::alloc::Global;
 use tlp_view::TlpView;
 
@@ -35,10 +34,8 @@ pub fn first_registers(alloc: Global, start: &Start) -> Result<Functions, NoMemo
 pub fn register_page(functions: &Functions, id: Bdf) -> Option<&[u8]>
     ensures { option_copied result ≡ page_of functions.now id }
 {
-    match place(functions, id) {
-        Some(at) => Some(functions.as_slice()[at].page()),
-        None => None,
-    }
+    let function = function_of(functions, id)?;
+    Some(function.page())
 }
 
 /// Does to this function's register page what the request asks for.
@@ -91,8 +88,8 @@ pub fn planned(functions: &Functions, id: Bdf, open_tags: &OpenTags) -> Option<P
     ensures fits { IfSome result (λ plan. (page : List ℕ) → page_of functions.now id ≡ Some page → PlanFits plan page) }
     ensures tag { IfSome result OpensLineTag }
 {
-    let at = place(functions, id)?;
-    Some(functions.as_slice()[at].planned(open_tags))
+    let function = function_of(functions, id)?;
+    Some(function.planned(open_tags))
 }
 
 /// Does to this function's register page what a tick with this plan does.

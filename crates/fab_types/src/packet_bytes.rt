@@ -1,6 +1,6 @@
 //! Bytes of packets.
 
-ghost use Rattle.std.specs.Prelude.{◌≡◌, ◌≤◌, IfOk, IfSome, IsOk, IsSome, length, nat_eq};
+ghost use Rattle.std.specs.Prelude.{◌≡◌, ◌≤◌, ◌<◌, ◌+◌, ◌^◌, ◌++◌, IfOk, IfSome, IsOk, IsSome, length, nat_eq};
 ghost use Rattle.std.specs.Cmp.{partial_equiv_from_equiv};
 ghost use Rattle.std.specs.Cmp.Lexicographic.{nat_list_eq_equiv, pointwise};
 
@@ -86,6 +86,44 @@ impl PacketBytes {
         match PacketBytes::short_copy(bytes) {
             Some(copy) => Ok(copy),
             None => PacketBytes::shared(Vec::from_slice(alloc, bytes)?),
+        }
+    }
+
+    /// A header and its payload in the value itself, if they fit.
+    fn short_joined(header: &[u8], payload: &[u8]) -> Option<PacketBytes>
+        ensures value { IfSome result (λ joined. joined ≡ header.now ++ payload.now) }
+        ensures fits { length header.now + length payload.now ≤ 16 → IsSome result }
+    {
+        let mut joined = ArrayVec::new();
+        joined.try_extend_from_slice(header).ok()?;
+        joined.try_extend_from_slice(payload).ok()?;
+        Some(PacketBytes {
+            kept: Kept::Short(joined),
+        })
+    }
+
+    /// A header and its payload in a piece of memory of their own.
+    fn long_joined(alloc: Global, header: &[u8], payload: &[u8]) -> Result<PacketBytes, NoMemory>
+        requires { length header.now + length payload.now < 2 ^ 63 }
+        ensures { IfOk result (λ joined. joined ≡ header.now ++ payload.now) }
+    {
+        let mut joined = Vec::with_capacity(alloc, header.len() + payload.len())?;
+        joined.extend_from_slice(header)?;
+        joined.extend_from_slice(payload)?;
+        Ok(PacketBytes {
+            kept: Kept::Long(joined),
+        })
+    }
+
+    /// A header and the payload after it. It answers `NoMemory` where memory was refused; at most 16 bytes ask for none.
+    pub fn joined(alloc: Global, header: &[u8], payload: &[u8]) -> Result<PacketBytes, NoMemory>
+        requires { length header.now + length payload.now < 2 ^ 63 }
+        ensures value { IfOk result (λ joined. joined ≡ header.now ++ payload.now) }
+        ensures short { length header.now + length payload.now ≤ 16 → IsOk result }
+    {
+        match PacketBytes::short_joined(header, payload) {
+            Some(joined) => Ok(joined),
+            None => PacketBytes::long_joined(alloc, header, payload),
         }
     }
 

@@ -33,6 +33,10 @@ enables_none (Some enables) = enables.first == 0
 abbrev pub is_empty_read : Packet → Bool
 is_empty_read t = (dw_count t.length == 1) && enables_none (enables_in t.body)
 
+-- what stands where a read asks, if it asks for any bytes
+abbrev pub shown_part : List ℕ → Packet → Option (List ℕ)
+shown_part page t = if is_empty_read t then None else Some (read_page page (place_of t) (4 * dw_count t.length))
+
 -- disabled bytes are shown too
 abbrev pub read_data : List ℕ → Packet → List ℕ
 read_data page t = if is_empty_read t then 0 ∷ 0 ∷ 0 ∷ 0 ∷ [] else read_page page (place_of t) (4 * dw_count t.length)

@@ -1,18 +1,18 @@
 //! An endpoint function.
 
-ghost use Rattle.std.specs.Prelude.{◌≡◌, ◌≤◌, IfOk, length, vec_len};
+ghost use Rattle.std.specs.Prelude.{◌≡◌, ◌≤◌, ◌*◌, IfOk, IfSome, length, vec_len};
 ghost use Rattle.function.specs.Registers.{first_page};
 ghost use Rattle.function.specs.Plans.{page_after, plan_of, tick_of, OpensLineTag, PlanFits};
 ghost use Rattle.function.specs.Closings.{closed_by};
-ghost use Rattle.function.specs.Accesses.{accessed, answer, read_data, IsAccess};
-ghost use Rattle.tlp_view.specs.Completions.{read_completion};
+ghost use Rattle.std.specs.Option.{option_copied};
+ghost use Rattle.function.specs.Accesses.{accessed, answer, read_data, shown_part, IsAccess};
 ghost use Rattle.tlp_view.specs.Packet.{dw_count};
 ghost use Rattle.tlp_view.specs.declared.kind.Kind.TheVariants.{MRd};
 
 use crate::buffer::close;
 use crate::open_tags::OpenTags;
 use crate::plan::{Plan, Tick, advance, plan_of};
-use crate::reads::{completion_of, place_of};
+use crate::reads::{completion_of, place_of, shown_part};
 use crate::registers::{FAULT, HALTED, PAGE, STATUS, write_page};
 use crate::tags::{OpenTag, TagUse};
 use fab_types::{Bdf, NoMemory, Status};
@@ -111,14 +111,16 @@ impl Function {
         }
     }
 
-    /// The completion of a read of the page.
-    /// The read is of at most 64 DW. The address counts modulo 4,096.
-    pub fn completion(&self, request: &TlpView) -> CplBuf
+    /// The bytes of the page that a read of at most 64 DW shows, disabled ones too; none of a read of no bytes.
+    /// The address counts modulo 4,096.
+    pub fn shown(&self, request: &TlpView) -> Option<&[u8]>
         requires read { (request.now).kind ≡ MRd }
         requires short { dw_count (request.now).length ≤ 64 }
-        ensures { result ≡ read_completion self.now.0 request.now (read_data self.now.1 request.now) }
+        ensures value { option_copied result ≡ shown_part self.now.1 request.now }
+        ensures data { IfSome result (λ part. part.now ≡ read_data self.now.1 request.now) }
+        ensures size { IfSome result (λ part. length part.now ≡ 4 * dw_count (request.now).length) }
     {
-        completion_of(self.id, &self.bytes, request)
+        shown_part(&self.bytes, request)
     }
 
     /// What answers a request for the page, if anything does.
@@ -130,7 +132,7 @@ impl Function {
         if matches!(request.kind(), Kind::MWr) {
             return None;
         }
-        Some(self.completion(request))
+        Some(completion_of(self.id, &self.bytes, request))
     }
 
     /// Does to the page what the request says. A read leaves it as it is.

@@ -6,7 +6,8 @@ use Rattle.std.specs.List.{position}
 use Rattle.frame_log.specs.Descriptor.{Descriptor}
 use Rattle.domain.specs.declared.entry.Entry.{Entry}
 use Rattle.domain.specs.declared.entry.Entry.TheVariants.{Deliver}
-use Rattle.domain.specs.Domains.{Arrives, DomainView, Emits, Makes}
+use Rattle.domain.specs.Deliveries.{HasArrived}
+use Rattle.domain.specs.Domains.{DomainView, Emits, Makes}
 use Rattle.domain.specs.Machine.{change, replay}
 use Rattle.domain_parts.specs.State.{item_at}
 
@@ -33,7 +34,7 @@ pub record CompletedThere (frame : Descriptor) (is_recorded : Bool) : Type 0 whe
   pub home : frame.domain ≡ before.share.domain
   pub replays : replay before.share before.journal ≡ Some before.state
   pub makes : Makes before (Deliver frame.number) after None
-  pub arrives : Arrives before frame.number after is_recorded
+  pub arrives : HasArrived before.state frame.number after.state is_recorded
 
 -- it was illegal, if the domain was the one of that number
 pub record IllegalThere (number : ℕ) (entry : Entry) : Type 0 where

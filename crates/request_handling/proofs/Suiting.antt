@@ -1,18 +1,16 @@
 -- What is served so may be answered so.
-use Rattle.std.proofs.Common.{true, false, not, Bool, cond, refl, ap, ◌∙◌, ◌≡◌, ◌≤◌, ℕ, List, Option, None, Some, option_map, sym, subst}
+use Rattle.std.proofs.Common.{true, false, not, Bool, cond, refl, ◌≡◌, ℕ, List, Option, None, Some, option_map, sym, subst}
 use Rattle.std.specs.Prelude.{IfSome}
 use Rattle.fab_types.specs.declared.head.Parties.TheVariants.{Downward}
 use Rattle.platform.specs.Share.{Share}
 use Rattle.tlp_view.specs.Bytes.{packet_of}
 use Rattle.tlp_view.specs.Malformed.{malformed}
 use Rattle.tlp_view.specs.Completions.{read_completion}
-use Rattle.tlp_view.specs.Packet.{Packet, dw_count}
-use Rattle.tlp_view.specs.declared.kind.Kind.{Kind}
-use Rattle.tlp_view.specs.declared.kind.Kind.TheVariants.{MRd, MWr}
+use Rattle.tlp_view.specs.Packet.{Packet}
 use Rattle.tlp_view.specs.Runs.{is_write}
-use Rattle.function.specs.Accesses.{IsAccess, IsAccessKind, read_data}
+use Rattle.function.specs.Accesses.{read_data}
 use Rattle.host_memory.specs.Pages.{page_of}
-use Rattle.request_handling.specs.Answers.{answered_by, function_data}
+use Rattle.request_handling.specs.Answers.{answered_by}
 use Rattle.request_handling.specs.declared.disposition.Disposition.{Disposition}
 use Rattle.request_handling.specs.declared.disposition.Disposition.TheVariants.{Discarded, RefusedByPort, RefusedByHost, RefusedByFunction, Blocked, BlockedAndRefused, Stored, Shown, Added, Forwarded, Accessed}
 use Rattle.request_handling.specs.Dispositions.{IsServed, Suits, access_answer, may_answer, reply_of}
@@ -54,21 +52,6 @@ none_written f false x e = absurd cc
 write_unanswered : (share : Share) (function : ℕ) (t : Packet) (page : Option (List ℕ)) → not (is_write t.kind) ≡ false → access_answer share function t page ≡ None
 write_unanswered share function t None e = refl
 write_unanswered share function t (Some page) e = none_written (answered_by share function t) (is_write t.kind) (read_completion function t (read_data page t)) e
-
--- an access that may be answered is a read
-read_kind : (k : Kind) (n : ℕ) → IsAccessKind k n → not (is_write k) ≡ true → (k ≡ MRd) × (n ≤ 64)
-read_kind MRd n access e = (refl, access)
-read_kind MWr n access e = absurd cc
-read_kind _ n access e = absurd access
-
-pub read_access : (t : Packet) (function : ℕ) → IsAccess t → may_answer t (Accessed function) ≡ true → (t.kind ≡ MRd) × (dw_count t.length ≤ 64)
-read_access t function access e = read_kind t.kind (dw_count t.length) access e
-
--- what answers it
-pub read_answered : (share : Share) (function : ℕ) (t : Packet) (page : List ℕ) (o : Option (List ℕ)) → o ≡ Some page → t.kind ≡ MRd → access_answer share function t o ≡ Some (function_data share function page t)
-read_answered share function t page o there is =
-    ap (access_answer share function t) there
-    ∙ ap (λ (k : Kind). option_map (answered_by share function t) (cond (is_write k) None (Some (read_completion function t (read_data page t))))) is
 
 pub unanswered : (share : Share) (frames registers : List (ℕ × List ℕ)) (t : Packet) (d : Disposition) → may_answer t d ≡ false → reply_of share frames registers t d ≡ None
 unanswered share frames registers t Discarded e = refl

@@ -1,11 +1,11 @@
 -- The completions by which ports and the host answer (PCIe 4.0, 2.2.9 and 2.3.1). That a locked read (MRdLk) is refused by a
 -- Cpl, where the standard has CplLk, is this project's own choice.
-use Rattle.std.specs.Prelude.{◌≡◌, ℕ, ◌+◌, ◌*◌, ◌/◌, ◌%◌, ◌==◌, Bool, false, ◌&&◌, List, Option, Some, None, option_map, unwrap_or, replicate, if◌then◌else◌}
+use Rattle.std.specs.Prelude.{◌≡◌, ℕ, ◌+◌, ◌*◌, ◌/◌, ◌%◌, ◌≤◌, ◌==◌, Bool, false, ◌&&◌, List, Option, Some, None, option_map, unwrap_or, length, replicate, if◌then◌else◌}
 use Rattle.fab_types.specs.declared.head.Answerer.{Answerer}
 use Rattle.fab_types.specs.declared.head.Answerer.TheVariants as by
 use Rattle.fab_types.specs.declared.head.Parties.{Parties}
 use Rattle.fab_types.specs.declared.head.Parties.TheVariants.{Answer, Downward, Upward}
-use Rattle.function.specs.Accesses.{IsAccess, read_data, answer as page_answer}
+use Rattle.function.specs.Accesses.{IsAccess, read_data, shown_part, answer as page_answer}
 use Rattle.fab_types.specs.declared.origin.Origin.{Origin}
 use Rattle.fab_types.specs.declared.origin.Origin.TheVariants.{Function}
 use Rattle.fab_types.specs.declared.status.Status.{Status}
@@ -15,7 +15,8 @@ use Rattle.domain_start.specs.Reach.{reach}
 use Rattle.platform.specs.Share.{Share}
 use Rattle.tlp_view.specs.declared.enables.Enables.{Enables}
 use Rattle.tlp_view.specs.Bytes.{packet_of}
-use Rattle.tlp_view.specs.Completions.{atomic_completion, completion_bytes, read_completion, refusal}
+use Rattle.tlp_view.specs.declared.completion.CompletionHead.{CompletionHead}
+use Rattle.tlp_view.specs.Completions.{HeadFits, atomic_completion, completion_bytes, read_completion, refusal}
 use Rattle.tlp_view.specs.Packet.{Packet, address_in, dw_count, enables_in}
 use Rattle.tlp_view.specs.Requests.{moved, packet_bytes}
 use Rattle.request_handling.specs.declared.handling.Made.{Made}
@@ -38,6 +39,12 @@ IsReply (Upward function) packet = Unit {0}
 IsReply (Downward function) (made.Completion t) = ⊥
 IsReply (Downward function) (made.Request t) = IsAccess t
 IsReply (Answer answerer addressee) packet = Unit {0}
+
+-- the data of an answer are of whole DW, at most 64
+pub record IsData (head : CompletionHead) (bytes : List ℕ) : Type 0 where
+  pub fits : HeadFits head
+  pub whole : length bytes % 4 ≡ 0
+  pub small : length bytes ≤ 256
 
 -- the ID of the host itself
 abbrev pub host_id : ℕ
@@ -75,6 +82,12 @@ reads_nothing t = (dw_count t.length == 1) && enables_nothing (enables_in t.body
 abbrev pub blank : Packet → List ℕ
 blank t = replicate (4 * dw_count t.length) 0
 
+-- what is stored in a frame where a read or an AtomicOp asks, if it asks for any bytes and they stand there
+abbrev pub stored_part : List (ℕ × List ℕ) → ℕ → Packet → Option (List ℕ)
+stored_part frames k t =
+    if reads_nothing t then None
+    else part_of frames k (address_of t % 4096) (address_of t % 4096 + 4 * dw_count t.length)
+
 -- What a read or an AtomicOp of a frame shows: what is stored there, disabled bytes too. A read of no bytes shows 0;
 -- that is this project's own choice
 abbrev pub shown : List (ℕ × List ℕ) → ℕ → Packet → List ℕ
@@ -95,6 +108,10 @@ function_refusal share function t = answered_by share function t (refusal functi
 -- of a read, with what stands there
 abbrev pub function_data : Share → ℕ → List ℕ → Packet → Emission
 function_data share function page t = answered_by share function t (read_completion function t (read_data page t))
+
+-- of a read of any bytes
+abbrev pub function_read : Share → ℕ → List ℕ → Packet → Option Emission
+function_read share function page t = option_map (λ bytes. answered_by share function t (read_completion function t bytes)) (shown_part page t)
 
 abbrev pub function_answer : Share → ℕ → List ℕ → Packet → Option Emission
 function_answer share function page t = option_map (answered_by share function t) (page_answer function page t)

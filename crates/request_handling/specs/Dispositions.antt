@@ -1,5 +1,5 @@
 -- What is done about a packet that ends, by what its taker decided (PCIe 4.0, 2.3).
-use Rattle.std.specs.Prelude.{◌≡◌, Bool, true, false, not, ℕ, ◌≤◌, List, Option, Some, None}
+use Rattle.std.specs.Prelude.{◌≡◌, Bool, true, false, not, ℕ, ◌≤◌, List, Option, Some, None, option_map}
 use Rattle.function.specs.Accesses.{IsAccess}
 use Rattle.host_memory.specs.Pages.{page_of}
 use Rattle.platform.specs.Share.{Share}
@@ -14,7 +14,7 @@ use Rattle.request_handling.specs.declared.disposition.Disposition.TheVariants.{
 use Rattle.request_handling.specs.declared.handling.Effect.{Effect}
 use Rattle.request_handling.specs.declared.handling.Effect.TheVariants.{Leave, Block, Store, Add, Access}
 use Rattle.request_handling.specs.declared.handling.Handling.{Handling}
-use Rattle.request_handling.specs.Answers.{forwarded, function_answer, function_refusal, host_data, host_operand, host_refusal, port_answer, shown}
+use Rattle.request_handling.specs.Answers.{forwarded, function_answer, function_read, function_refusal, host_data, host_operand, host_refusal, port_answer, shown, stored_part}
 use Rattle.request_handling.specs.Emissions.{Emission}
 
 -- a function without a register page answers nothing
@@ -63,6 +63,27 @@ reply_of share frames registers t (Shown k) = Some (host_data share t (shown fra
 reply_of share frames registers t (Added k first) = Some (host_operand share t (shown frames k t))
 reply_of share frames registers t (Forwarded function bar) = Some (forwarded function bar t)
 reply_of share frames registers t (Accessed function) = access_answer share function t (page_of registers function)
+
+-- ---- the answers whose data stand in memory or in a register page
+
+-- a function without a register page has none
+abbrev pub page_read : Share → ℕ → Packet → Option (List ℕ) → Option Emission
+page_read share function t None = None
+page_read share function t (Some page) = function_read share function page t
+
+-- what answers a read so, of a packet that may be answered
+abbrev pub data_reply_of : Share → List (ℕ × List ℕ) → List (ℕ × List ℕ) → Packet → Disposition → Option Emission
+data_reply_of share frames registers t Discarded = None
+data_reply_of share frames registers t (RefusedByPort port function status) = None
+data_reply_of share frames registers t RefusedByHost = None
+data_reply_of share frames registers t (RefusedByFunction function) = None
+data_reply_of share frames registers t Blocked = None
+data_reply_of share frames registers t BlockedAndRefused = None
+data_reply_of share frames registers t (Stored k first) = None
+data_reply_of share frames registers t (Shown k) = option_map (host_data share t) (stored_part frames k t)
+data_reply_of share frames registers t (Added k first) = None
+data_reply_of share frames registers t (Forwarded function bar) = None
+data_reply_of share frames registers t (Accessed function) = page_read share function t (page_of registers function)
 
 abbrev pub handling : Share → List (ℕ × List ℕ) → List (ℕ × List ℕ) → Packet → Disposition → Handling
 handling share frames registers t d = record { effect = effect_of d; reply = reply_of share frames registers t d }

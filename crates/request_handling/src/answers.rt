@@ -1,20 +1,21 @@
 //! The completions by which ports and the host answer.
 
-ghost use Rattle.std.specs.Prelude.{◌≡◌, ◌+◌, ◌*◌, ◌%◌, ◌≤◌, IfSome, length, true, unwrap_or};
+ghost use Rattle.std.specs.Prelude.{◌≡◌, ◌+◌, ◌*◌, ◌%◌, ◌≤◌, IfSome, length, option_map, true, unwrap_or};
 ghost use Rattle.std.specs.Option.{option_copied};
 ghost use Rattle.tlp_view.specs.Completions.{HeadFits, atomic_completion, completion_of, read_completion};
 ghost use Rattle.tlp_view.specs.Kinds.{has_address, is_fetch_add};
 ghost use Rattle.tlp_view.specs.declared.kind.Kind.TheVariants.{MRd};
 ghost use Rattle.tlp_view.specs.Packet.{dw_count};
-ghost use Rattle.request_handling.specs.Answers.{address_of, blank, forwarded, function_answer, function_data, function_refusal, host_data, host_operand, host_refusal, port_answer, reads_nothing, shown};
+ghost use Rattle.request_handling.specs.Answers.{address_of, blank, forwarded, function_answer, function_read, function_refusal, host_data, host_operand, host_refusal, port_answer, reads_nothing, shown, stored_part};
 ghost use Rattle.function.specs.Accesses.{IsAccess};
 
+use crate::data_reply::DataReply;
 use crate::handling::Reply;
 use fab_types::{Answerer, Bdf, Origin, PortId, Status};
 use function::Function;
 use host_memory::HostMemory;
 use layout::Start;
-use tlp_view::{CompletionHead, CplBuf, Kind, RequestBuf, TlpView};
+use tlp_view::{CompletionHead, CplBuf, RequestBuf, TlpView};
 
 /// A port refuses a request of this function.
 pub(crate) fn port_answer(port: PortId, function: Bdf, status: Status, view: &TlpView) -> Reply
@@ -49,8 +50,26 @@ pub(crate) fn function_refusal(start: &Start, function: Bdf, view: &TlpView) -> 
     Reply::answer(Answerer::Function(function), asker, CplBuf::new(head, 0))
 }
 
-/// The host answers a read of a frame of memory.
-pub fn host_data(start: &Start, memory: &HostMemory, frame: u16, view: &TlpView) -> Reply
+/// The host answers a read of a frame of memory with the data that stand there. `None` where it shows 0 since none do, or
+/// since it asks for no bytes.
+pub(crate) fn host_read<'a>(
+    start: &Start,
+    memory: &'a HostMemory,
+    frame: u16,
+    view: &TlpView,
+) -> Option<DataReply<'a>>
+    requires read { (view.now).kind ≡ MRd }
+    requires short { dw_count (view.now).length ≤ 64 }
+    ensures value { result ≡ option_map (host_data start.now view.now) (stored_part memory.now frame view.now) }
+    ensures shown { IfSome result (λ reply. reply ≡ host_data start.now view.now (shown memory.now frame view.now)) }
+{
+    let data = part_read(memory, frame, view)?;
+    let head = CompletionHead::of_read(Bdf::from_bits(0), view);
+    Some(DataReply::new(Answerer::Host, start.reach(view.requester()), head, data))
+}
+
+/// The same answer, whatever it shows.
+pub(crate) fn host_data(start: &Start, memory: &HostMemory, frame: u16, view: &TlpView) -> Reply
     requires read { (view.now).kind ≡ MRd }
     requires short { dw_count (view.now).length ≤ 64 }
     ensures { result ≡ host_data start.now view.now (shown memory.now frame view.now) }
@@ -94,28 +113,38 @@ pub(crate) fn forwarded(function: Bdf, bar: u32, view: &TlpView) -> Reply
     Reply::request(function, RequestBuf::moved(view, page + place))
 }
 
-/// A function answers a read of its register page.
-pub fn function_data(start: &Start, function: &Function, view: &TlpView) -> Reply
+/// A function answers a read of its register page with the data that stand there. `None` for a read of no bytes, which
+/// shows 0.
+pub(crate) fn function_read<'a>(
+    start: &Start,
+    function: &'a Function,
+    view: &TlpView,
+) -> Option<DataReply<'a>>
     requires read { (view.now).kind ≡ MRd }
     requires short { dw_count (view.now).length ≤ 64 }
-    ensures { result ≡ function_data start.now (function.now).0 (function.now).1 view.now }
+    ensures { result ≡ function_read start.now (function.now).0 (function.now).1 view.now }
 {
-    Reply::answer(
+    let data = function.shown(view)?;
+    let head = CompletionHead::of_read(function.id(), view);
+    Some(DataReply::new(
         Answerer::Function(function.id()),
         start.reach(view.requester()),
-        function.completion(view),
-    )
+        head,
+        data,
+    ))
 }
 
-/// The same of a request for the page; a write has no answer.
+/// A function answers a request for its register page, whatever it shows; a write has no answer.
 pub(crate) fn function_answer(start: &Start, function: &Function, view: &TlpView) -> Option<Reply>
     requires { IsAccess view.now }
     ensures { result ≡ function_answer start.now (function.now).0 (function.now).1 view.now }
 {
-    if matches!(view.kind(), Kind::MWr) {
-        return None;
-    }
-    Some(function_data(start, function, view))
+    let packet = function.answer(view)?;
+    Some(Reply::answer(
+        Answerer::Function(function.id()),
+        start.reach(view.requester()),
+        packet,
+    ))
 }
 
 /// Does the read ask for no bytes?
@@ -131,7 +160,8 @@ fn reads_nothing(view: &TlpView) -> bool
 /// The bytes that a read or an AtomicOp shows, where they are not all 0 for another cause.
 fn part_read<'a>(memory: &'a HostMemory, frame: u16, view: &TlpView) -> Option<&'a [u8]>
     requires { has_address (view.now).kind ≡ true }
-    ensures value { unwrap_or (option_copied result) (blank view.now) ≡ shown memory.now frame view.now }
+    ensures value { option_copied result ≡ stored_part memory.now frame view.now }
+    ensures shown { unwrap_or (option_copied result) (blank view.now) ≡ shown memory.now frame view.now }
     ensures size { IfSome result (λ part. length part.now ≡ 4 * dw_count (view.now).length) }
 {
     if reads_nothing(view) {

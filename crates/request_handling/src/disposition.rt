@@ -1,15 +1,16 @@
 //! What is done about a packet that ends, before what answers it is made.
 
-ghost use Rattle.std.specs.Prelude.{◌≡◌};
+ghost use Rattle.std.specs.Prelude.{◌≡◌, Some, true, IfSome};
 ghost use Rattle.function.specs.Accesses.{IsAccess};
 ghost use Rattle.host_memory.specs.Pages.{page_of};
 ghost use Rattle.tlp_view.specs.Bytes.{packet_of};
-ghost use Rattle.request_handling.specs.Dispositions.{Suits, access_answer, effect_of, handling, may_answer, reply_of};
+ghost use Rattle.request_handling.specs.Dispositions.{Suits, access_answer, data_reply_of, effect_of, handling, may_answer, reply_of};
 
 use crate::answers::{
-    forwarded, function_answer, function_refusal, host_data, host_operand, host_refusal,
-    port_answer,
+    forwarded, function_answer, function_read, function_refusal, host_data, host_operand,
+    host_read, host_refusal, port_answer,
 };
+use crate::data_reply::DataReply;
 use crate::handling::{Effect, Handling, Reply};
 use crate::page::function_of;
 use fab_types::{Bdf, PortId, Status};
@@ -128,6 +129,41 @@ impl Disposition {
             Disposition::Accessed(function) => {
                 access_answer(start, functions, *function, &TlpView::again(bytes))
             }
+        }
+    }
+
+    /// What answers the packet, where that is a read's answer whose data stand in memory or in a register page.
+    /// It is moved as a loan of them, and is most of the answers that a fabric makes. `None` where something else answers the
+    /// packet, which `reply` makes, or a read that shows 0 since nothing stands there, or since it asks for no bytes.
+    pub fn data_reply<'a>(
+        &self,
+        start: &Start,
+        memory: &'a HostMemory,
+        functions: &'a Functions,
+        bytes: &[u8],
+    ) -> Option<DataReply<'a>>
+        requires suits { Suits bytes.now self.now }
+        requires asked { may_answer (packet_of bytes.now) self.now ≡ true }
+        ensures value { result ≡ data_reply_of start.now memory.now functions.now (packet_of bytes.now) self.now }
+        ensures same { IfSome result (λ reply. reply_of start.now memory.now functions.now (packet_of bytes.now) self.now ≡ Some reply) }
+    {
+        match self {
+            Disposition::Shown(frame) => {
+                host_read(start, memory, *frame, &TlpView::again(bytes))
+            }
+            Disposition::Accessed(function) => {
+                let function = function_of(functions, *function)?;
+                function_read(start, function, &TlpView::again(bytes))
+            }
+            Disposition::Discarded
+            | Disposition::RefusedByPort(..)
+            | Disposition::RefusedByHost
+            | Disposition::RefusedByFunction(_)
+            | Disposition::Blocked
+            | Disposition::BlockedAndRefused
+            | Disposition::Stored(..)
+            | Disposition::Added(..)
+            | Disposition::Forwarded(..) => None,
         }
     }
 

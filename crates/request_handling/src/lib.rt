@@ -3,6 +3,7 @@
 
 mod answers;
 mod carriage;
+mod data_reply;
 mod disposition;
 mod fate;
 mod handling;
@@ -12,8 +13,8 @@ mod refusal;
 mod requests;
 mod taker;
 
-pub use answers::{function_data, host_data};
 pub use carriage::{access_of, carriage_up};
+pub use data_reply::DataReply;
 pub use disposition::Disposition;
 pub use fate::{Fate, first_port_fate};
 pub use handling::{Effect, Handling, Made, Reply, discarded};

@@ -37,7 +37,8 @@ impl CompletionHead {
     ghost use Rattle.tlp_view.specs.Kinds.{is_fetch_add};
     ghost use Rattle.tlp_view.specs.declared.kind.Kind.TheVariants.{MRd};
     ghost use Rattle.tlp_view.specs.Packet.{dw_count};
-    ghost use Rattle.tlp_view.specs.Completions.{atomic_completion, completion_of, read_completion, refusal};
+    ghost use Rattle.tlp_view.specs.Completions.{atomic_completion, completion_bytes, completion_of, read_completion, refusal};
+    ghost use Rattle.tlp_view.specs.Spelling.{Spells};
 
     /// Of the successful completion of this memory read, with its data.
     pub fn of_read(completer: Bdf, request: &TlpView) -> CompletionHead
@@ -96,6 +97,16 @@ impl CompletionHead {
             lower_address: 0,
             attributes: request.attr(),
         }
+    }
+
+    /// The header of a completion with so many DW of payload, at most 64, which stands before them.
+    pub fn header(self, count: usize) -> [u8; 12]
+        requires fits { HeadFits self }
+        requires small { count ≤ 64 }
+        ensures value { (payload : List ℕ) → length payload ≡ 4 * count → result ++ payload ≡ completion_bytes (completion_of self payload) }
+        ensures spelled { (payload : List ℕ) → length payload ≡ 4 * count → Spells (result ++ payload) (completion_of self payload) }
+    {
+        header_bytes(self, count)
     }
 }
 
