@@ -34,9 +34,9 @@ with_flight s flight = record { frames = s.frames; registers = s.registers; open
 pub one_item : (o : Option Emission) (x y : Emission) → o ≡ Some x → o ≡ Some y → x ≡ y
 one_item o x y e f = cc
 
-pub if_ok : {A E : Type 0} (r : Result A E) (P Q : A → Type 0) → ((a : A) → P a → Q a) → IfOk r P → IfOk r Q
-if_ok (Ok a) P Q h p = h a p
-if_ok (Err e) P Q h p = tt
+pub if_both : {A E : Type 0} (r : Result A E) (P Q R : A → Type 0) → ((a : A) → P a → Q a → R a) → IfOk r P → IfOk r Q → IfOk r R
+if_both (Ok a) P Q R h p q = h a p q
+if_both (Err e) P Q R h p q = tt
 
 -- what answers a packet that stands under a number, by the fields of the state
 pub answer_is : (share : Share) (inside seen : Alone) (n : ℕ) (x e : Emission) (d : Disposition) (memory pages : List (ℕ × List ℕ)) (reply : Option Emission) → inside ≡ seen → item_at inside.flight n ≡ Some x → item_at seen.flight n ≡ Some e

@@ -1,5 +1,5 @@
 -- How a packet in flight ends is what the machine says of its entry.
-use Rattle.std.proofs.Common.{◌≡◌, ℕ, ◌/◌, Bool, true, false, ◌&&◌, ◌||◌, ◌==◌, cond, List, length, Option, Some, None, refl, sym, ap, ◌∙◌, subst, inl}
+use Rattle.std.proofs.Common.{◌≡◌, ℕ, ◌/◌, Bool, true, false, ◌&&◌, ◌||◌, ◌==◌, cond, List, Option, Some, None, refl, sym, ap, ◌∙◌, subst, inl}
 use Rattle.std.specs.Prelude.{IfSome, MatchOption, nat_lt, option_map}
 use Rattle.fab_types.specs.declared.faults.malformed.Malformed.{Malformed}
 use Rattle.fab_types.specs.declared.head.Parties.{Parties}

@@ -13,7 +13,7 @@ use Rattle.request_handling.specs.declared.handling.Handling.{Handling}
 use Rattle.request_handling.specs.Dispositions.{Suits, effect_of, handling}
 use Rattle.tlp_view.specs.Bytes.{packet_of}
 use Rattle.domain.specs.Deliveries.{Arrival, arrival, record_of_arrival}
-use Rattle.domain_parts.specs.Ends.{EffectFits, conclude}
+use Rattle.domain_parts.specs.Ends.{EffectFits, conclude, replied}
 use Rattle.request_handling.specs.Emissions.{Emission}
 use Rattle.domain_parts.specs.State.{Alone, Change, Delivery, item_at}
 use Rattle.request_handling.specs.Heads.{descriptor_of}
@@ -22,6 +22,11 @@ use Rattle.domain.specs.Machine.{change, with_alien}
 -- what is done about a packet in flight that ends so
 abbrev pub disposed : Share → Alone → Emission → Disposition → Handling
 disposed share s e d = handling share s.frames s.registers (packet_of e.bytes) d
+
+-- What answers a packet in flight that ends so, if anything does, went into flight, and was sent
+pub record IsAnswered (share : Share) (old : Alone) (e : Emission) (d : Disposition) (new : Alone) (sent : Option Descriptor) : Type 0 where
+  pub state : new ≡ replied old (disposed share old e d).reply
+  pub frame : sent ≡ option_map (descriptor_of share.domain (length old.flight)) (disposed share old e d).reply
 
 -- what the layout gives the domain, its state, and its journal
 pub record DomainView : Type 0 where

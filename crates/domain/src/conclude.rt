@@ -14,7 +14,7 @@ ghost use Rattle.domain_parts.specs.Ends.{EffectFits, conclude, done, replied};
 ghost use Rattle.request_handling.specs.Heads.{descriptor_of};
 ghost use Rattle.request_handling.specs.Dispositions.{Suits, effect_of, may_answer, reply_of};
 ghost use Rattle.request_handling.specs.Emissions.{Emission};
-ghost use Rattle.domain.specs.Domains.{disposed};
+ghost use Rattle.domain.specs.Domains.{IsAnswered, disposed};
 ghost use Rattle.domain_parts.specs.State.{item_at};
 ghost use Rattle.domain_parts.specs.Tags.{is_open};
 
@@ -121,8 +121,7 @@ impl State {
     ) -> Result<Option<Frame>, NoMemory>
         requires waits { IsSome (item_at self.old.flight number) }
         requires suits { (e : Emission) → item_at self.old.flight number ≡ Some e → Suits e.bytes disposition }
-        ensures state { IfOk result (λ _. (e : Emission) → item_at self.old.flight number ≡ Some e → self.new ≡ replied self.old (disposed start.now self.old e disposition).reply) }
-        ensures sent { IfOk result (λ sent. (e : Emission) → item_at self.old.flight number ≡ Some e → sent ≡ option_map (descriptor_of start.now.domain (length self.old.flight)) (disposed start.now self.old e disposition).reply) }
+        ensures answered { IfOk result (λ sent. (e : Emission) → item_at self.old.flight number ≡ Some e → IsAnswered start.now self.old e disposition self.new sent) }
         ensures err { OnErr result ((self.new ≡ self.old) × ((e : Emission) → item_at self.old.flight number ≡ Some e → IsSome (disposed start.now self.old e disposition).reply)) }
     {
         let Some((_, bytes)) = self.flight.item(number) else {
@@ -144,8 +143,7 @@ impl State {
     ) -> Result<Option<Frame>, NoMemory>
         requires waits { IsSome (item_at self.old.flight number) }
         requires suits { (e : Emission) → item_at self.old.flight number ≡ Some e → Suits e.bytes disposition }
-        ensures state { IfOk result (λ _. (e : Emission) → item_at self.old.flight number ≡ Some e → self.new ≡ replied self.old (disposed start.now self.old e disposition).reply) }
-        ensures sent { IfOk result (λ sent. (e : Emission) → item_at self.old.flight number ≡ Some e → sent ≡ option_map (descriptor_of start.now.domain (length self.old.flight)) (disposed start.now self.old e disposition).reply) }
+        ensures answered { IfOk result (λ sent. (e : Emission) → item_at self.old.flight number ≡ Some e → IsAnswered start.now self.old e disposition self.new sent) }
         ensures err { OnErr result ((self.new ≡ self.old) × ((e : Emission) → item_at self.old.flight number ≡ Some e → IsSome (disposed start.now self.old e disposition).reply)) }
     {
         if is_silent(disposition) {

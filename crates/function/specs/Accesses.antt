@@ -39,7 +39,7 @@ shown_part page t = if is_empty_read t then None else Some (read_page page (plac
 
 -- disabled bytes are shown too
 abbrev pub read_data : List ℕ → Packet → List ℕ
-read_data page t = if is_empty_read t then 0 ∷ 0 ∷ 0 ∷ 0 ∷ [] else read_page page (place_of t) (4 * dw_count t.length)
+read_data page t = unwrap_or (shown_part page t) (0 ∷ 0 ∷ 0 ∷ 0 ∷ [])
 
 -- the completion, which bears the function's ID; a write has none
 abbrev pub answer : ℕ → List ℕ → Packet → Option Packet

@@ -55,13 +55,10 @@ pub(crate) fn completion_of(id: Bdf, page: &[u8], request: &TlpView) -> CplBuf
     requires short { dw_count (request.now).length ≤ 64 }
     ensures { result ≡ read_completion id request.now (read_data page.now request.now) }
 {
-    let count = request.dw_length();
-    let mut answer = CplBuf::new(CompletionHead::of_read(id, request), usize::from(count));
-    if !is_empty_read(request, count) {
-        let start = place_of(request);
-        answer
-            .payload_mut()
-            .copy_from_slice(&page[start..start + 4 * usize::from(count)]);
+    let count = usize::from(request.dw_length());
+    let mut answer = CplBuf::new(CompletionHead::of_read(id, request), count);
+    if let Some(part) = shown_part(page, request) {
+        answer.payload_mut().copy_from_slice(part);
     }
     answer
 }

@@ -5,7 +5,7 @@ use Rattle.fab_types.specs.declared.head.Answerer.{Answerer}
 use Rattle.fab_types.specs.declared.head.Answerer.TheVariants as by
 use Rattle.fab_types.specs.declared.head.Parties.{Parties}
 use Rattle.fab_types.specs.declared.head.Parties.TheVariants.{Answer, Downward, Upward}
-use Rattle.function.specs.Accesses.{IsAccess, read_data, shown_part, answer as page_answer}
+use Rattle.function.specs.Accesses.{IsAccess, shown_part, answer as page_answer}
 use Rattle.fab_types.specs.declared.origin.Origin.{Origin}
 use Rattle.fab_types.specs.declared.origin.Origin.TheVariants.{Function}
 use Rattle.fab_types.specs.declared.status.Status.{Status}
@@ -91,9 +91,7 @@ stored_part frames k t =
 -- What a read or an AtomicOp of a frame shows: what is stored there, disabled bytes too. A read of no bytes shows 0;
 -- that is this project's own choice
 abbrev pub shown : List (ℕ × List ℕ) → ℕ → Packet → List ℕ
-shown frames k t =
-    if reads_nothing t then blank t
-    else unwrap_or (part_of frames k (address_of t % 4096) (address_of t % 4096 + 4 * dw_count t.length)) (blank t)
+shown frames k t = unwrap_or (stored_part frames k t) (blank t)
 
 -- ---- a request to the register page of a function
 
@@ -105,11 +103,7 @@ answered_by share function t completion = answer (by.Function function) (reach s
 abbrev pub function_refusal : Share → ℕ → Packet → Emission
 function_refusal share function t = answered_by share function t (refusal function UR t)
 
--- of a read, with what stands there
-abbrev pub function_data : Share → ℕ → List ℕ → Packet → Emission
-function_data share function page t = answered_by share function t (read_completion function t (read_data page t))
-
--- of a read of any bytes
+-- of a read of any bytes, with what stands there
 abbrev pub function_read : Share → ℕ → List ℕ → Packet → Option Emission
 function_read share function page t = option_map (λ bytes. answered_by share function t (read_completion function t bytes)) (shown_part page t)
 

@@ -161,7 +161,6 @@ fn reads_nothing(view: &TlpView) -> bool
 fn part_read<'a>(memory: &'a HostMemory, frame: u16, view: &TlpView) -> Option<&'a [u8]>
     requires { has_address (view.now).kind ≡ true }
     ensures value { option_copied result ≡ stored_part memory.now frame view.now }
-    ensures shown { unwrap_or (option_copied result) (blank view.now) ≡ shown memory.now frame view.now }
     ensures size { IfSome result (λ part. length part.now ≡ 4 * dw_count (view.now).length) }
 {
     if reads_nothing(view) {

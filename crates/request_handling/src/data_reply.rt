@@ -33,7 +33,7 @@ impl<'a> Model for DataReply<'a> {
 }
 
 impl<'a> DataReply<'a> {
-    ghost use Rattle.std.specs.Prelude.{None, IfOk};
+    ghost use Rattle.std.specs.Prelude.{None, IfOk, IsOk};
     ghost use Rattle.tlp_view.specs.Malformed.{malformed};
     ghost use Rattle.request_handling.specs.WellMade.{IsWellMade};
 
@@ -69,7 +69,8 @@ impl<'a> DataReply<'a> {
         ensures value { IfOk result (λ bytes. bytes ≡ self.now.bytes) }
         ensures well_formed { IfOk result (λ bytes. malformed bytes ≡ None) }
         ensures well_made { IfOk result (λ bytes. IsWellMade self.now.parties bytes) }
-        ensures short { IfOk result (λ bytes. length bytes ≤ 272) }
+        ensures short { IfOk result (λ bytes. length bytes ≤ 268) }
+        ensures few { length self.now.bytes ≤ 16 → IsOk result }
     {
         let header = self.head.header(self.payload.len() / 4);
         PacketBytes::joined(alloc, &header, self.payload)

@@ -103,7 +103,7 @@ in_part pages start count t (Some page) long is = in_range page start count t (n
 pub shown_long : (frames : List (ℕ × List ℕ)) (k : ℕ) (t : Packet) → All IsPage frames → length (shown frames k t) ≡ 4 * dw_count t.length
 shown_long frames k t all = by (reads_nothing t)
   where
-    by : (b : Bool) → length (cond b (blank t) (unwrap_or (part_of frames k (address_of t % 4096) (address_of t % 4096 + 4 * dw_count t.length)) (blank t))) ≡ 4 * dw_count t.length
+    by : (b : Bool) → length (unwrap_or (cond b None (part_of frames k (address_of t % 4096) (address_of t % 4096 + 4 * dw_count t.length))) (blank t)) ≡ 4 * dw_count t.length
     by true = blank_long t
     by false = in_part frames (address_of t % 4096) (4 * dw_count t.length) t (page_of frames k) (λ page e. page_long frames k page all e) refl
 
@@ -117,7 +117,7 @@ read_few _ n read access = absurd access
 pub read_long : (bytes page : List ℕ) → malformed bytes ≡ None → dw_count (packet_of bytes).length ≤ 64 → length page ≡ 4096 → length (read_data page (packet_of bytes)) ≡ 4 * dw_count (packet_of bytes).length
 read_long bytes page well few long = by (is_empty_read (packet_of bytes)) refl
   where
-    by : (b : Bool) → is_empty_read (packet_of bytes) ≡ b → length (cond b (0 ∷ 0 ∷ 0 ∷ 0 ∷ []) (read_page page (place_of (packet_of bytes)) (4 * dw_count (packet_of bytes).length))) ≡ 4 * dw_count (packet_of bytes).length
+    by : (b : Bool) → is_empty_read (packet_of bytes) ≡ b → length (unwrap_or (cond b None (Some (read_page page (place_of (packet_of bytes)) (4 * dw_count (packet_of bytes).length)))) (0 ∷ 0 ∷ 0 ∷ 0 ∷ [])) ≡ 4 * dw_count (packet_of bytes).length
     by true e = let one = eqb-true (dw_count (packet_of bytes).length) 1 (and-first _ _ e) in omega (arith, one)
     by false e = part_long page (place_of (packet_of bytes)) (4 * dw_count (packet_of bytes).length) long (read_inside (packet_of bytes) (well_formed_sound bytes well) few)
 

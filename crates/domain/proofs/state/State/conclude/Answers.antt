@@ -10,11 +10,11 @@ use Rattle.domain.proofs.state.State.conclude.Goals as goal
 
 pub perform-requires-clause-blocks : goal.perform-requires-clause-blocks
 perform-requires-clause-blocks g c =
-    subst (λ (k : Counts). k.blocked + 1 < 2 ^ 64) (sym (unblocked c.args.self.now c.answer.new.self (λ x. (disposed c.args.start.now c.args.self.now x c.args.disposition).reply) c.args.number c.requires.waits c.in_ok-sent.ensures.state)) c.requires.blocks
+    subst (λ (k : Counts). k.blocked + 1 < 2 ^ 64) (sym (unblocked c.args.self.now c.answer.new.self (λ x. (disposed c.args.start.now c.args.self.now x c.args.disposition).reply) c.args.number c.requires.waits (λ x there. (c.in_ok-sent.ensures.answered x there).state))) c.requires.blocks
 
 pub perform-requires-clause-fits : goal.perform-requires-clause-fits
 perform-requires-clause-fits g c = λ e is.
-    fits_after c.args.self.now c.answer.new.self (λ x. (disposed c.args.start.now c.args.self.now x c.args.disposition).reply) c.args.number c.effect.result e c.requires.waits c.in_ok-sent.ensures.state
+    fits_after c.args.self.now c.answer.new.self (λ x. (disposed c.args.start.now c.args.self.now x c.args.disposition).reply) c.args.number c.effect.result e c.requires.waits (λ x there. (c.in_ok-sent.ensures.answered x there).state)
     (λ x there. subst (EffectFits x) (sym c.effect.ensures) (c.requires.fits x there)) is
 
 pub returns-clause-state : goal.returns-clause-state
@@ -23,5 +23,5 @@ returns-clause-state g c = λ e is.
     let reply = (disposed c.args.start.now s e c.args.disposition).reply in
     ap (with_flight (alone_of c.self.inside)) c.end.ensures
     ∙ ap (λ (s : Alone). without s c.args.number) c.self.view_is
-    ∙ concludes s c.answer.new.self c.perform.new.self reply c.args.number e c.effect.result c.requires.waits is (c.in_ok-sent.ensures.state e is) c.perform.ensures
+    ∙ concludes s c.answer.new.self c.perform.new.self reply c.args.number e c.effect.result c.requires.waits is (c.in_ok-sent.ensures.answered e is).state c.perform.ensures
     ∙ ap (λ (d : Effect). replied (done (without s c.args.number) e.bytes d) reply) c.effect.ensures
