@@ -14,6 +14,7 @@ here=$(cd "$(dirname "$0")/.." && pwd)
 
 # texts FOLDER
 texts() {
+    mkdir -p "$1"
     PYTHONPATH="$here/bench" PYTHONDONTWRITEBYTECODE=1 python3 - "$1" <<'GENERATOR'
 import random, sys
 
