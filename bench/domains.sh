@@ -1,11 +1,13 @@
 #!/usr/bin/env bash
 # Lets a domain spend the largest budget, 16,384 begins, and then replays its journal: how many begins a second, each
-# with what follows from it, and how many entries of the journal a second are replayed, by processor time, in the
-# slowest and the fastest of 20 rounds. The begins are submits, ticks of a running program, or requests of the host
-# for registers. The domain has one function and one map line, or it is the largest: 57 functions with 64 map lines
-# each, of which the last function acts, by its last map line. Each is measured twice: as it is, and with the memory of
-# earlier rounds kept, which leaves out what the system takes for fresh pages. It builds the program in a temporary
-# folder, from the sources of this repository, and proves what no check has proved there before.
+# with what follows from it, and how many entries of the journal a second are replayed, by processor time. The begins are
+# submits, ticks of a running program, or requests of the host for registers. The domain has one function and one map line,
+# or it is the largest: 57 functions with 64 map lines each, of which the last function acts, by its last map line. Beside
+# each stands the time of the simulator in plain Rust (bench/plain), which does the same, must make as many begins and
+# entries, and has its state built before its time is taken; and how many times its time the domain takes. Both run five
+# times in turns, of 20 rounds each, and the fastest round counts. Each is measured twice: as it is, and with the memory of
+# earlier rounds kept, which leaves out what the system takes for fresh pages. It builds both programs in a temporary
+# folder, from the sources of this repository, and proves what no check has proved there before; it wants rustc.
 set -euo pipefail
 here=$(cd "$(dirname "$0")/.." && pwd)
 work=$(mktemp -d)
@@ -355,6 +357,8 @@ PROGRAM
 # Not by rt try, whose build tests each access and is far slower.
 ( cd "$work/crates/begins" && rt run > "$work/domains.log" 2>&1 ) || { tail -20 "$work/domains.log"; exit 1; }
 
+rustc --edition 2021 -O -o "$work/plain" "$here/bench/plain/main.rs"
+
 cat > "$work/texts/one function" <<'TEXT'
 pciefab 1
 frames 1
@@ -371,19 +375,33 @@ mv "$work/largest/one domain, frames in turn, map lines: 64" "$work/texts/57 fun
 # The allocator gives no memory back to the system.
 keeping=glibc.malloc.mmap_threshold=1073741824:glibc.malloc.trim_threshold=2000000000
 
-# rate TEXT WORD DWS NAME: the slowest and the fastest of the program's rounds with this layout
+# rounds TEXT WORD DWS: a line for each round, of the domain's program and of the plain one
+rounds() {
+    for _ in 1 2 3 4 5; do
+        "$work/crates/begins/out/begins" "$work/texts/$1" "$2" "$3" > "$work/rounds"
+        "$work/plain" begins "$work/texts/$1" "$2" "$3" > "$work/plain_rounds"
+        paste -d ' ' "$work/rounds" "$work/plain_rounds"
+    done
+}
+
+# rate TEXT WORD DWS NAME: the fastest of the rounds with this layout
 rate() {
-    "$work/crates/begins/out/begins" "$work/texts/$1" "$2" "$3" > "$work/rounds"
-    awk -v name="$1, $4" '
-        { begins = $1 / $2 * 1e3; entries = $3 / $4 * 1e3 }
-        NR == 1 || begins < slow { slow = begins }
-        NR == 1 || entries < slowest { slowest = entries }
-        begins > fast { fast = begins }
-        entries > fastest { fastest = entries }
+    rounds "$1" "$2" "$3" | awk -v name="$1, $4" '
+        $1 != $5 || $3 != $7 {
+            print name ": the plain simulator makes " $5 " begins and " $7 " entries, and not " $1 " and " $3
+            exit failed = 1
+        }
+        NR == 1 || $2 < begun { begun = $2 }
+        NR == 1 || $4 < replayed { replayed = $4 }
+        NR == 1 || $6 < plain_begun { plain_begun = $6 }
+        NR == 1 || $8 < plain_replayed { plain_replayed = $8 }
         END {
-            printf "%s: %.2f to %.2f million a second (%d); replay %.2f to %.2f million entries a second (%d)\n",
-                name, slow, fast, $1, slowest, fastest, $3
-        }' "$work/rounds"
+            if (failed) exit 1
+            printf "%s: %.2f million a second (%d), plain Rust %.2f, so %.2f times its time; ",
+                name, $1 / begun * 1e3, $1, $1 / plain_begun * 1e3, begun / plain_begun
+            printf "replay %.2f million entries a second (%d), plain Rust %.2f, so %.2f times its time\n",
+                $3 / replayed * 1e3, $3, $3 / plain_replayed * 1e3, replayed / plain_replayed
+        }'
 }
 
 # rates WORD DWS NAME: with each layout, as it is and with memory kept

@@ -86,6 +86,12 @@ impl Journal {
     }
 }
 
+impl Journal {
+    pub fn entries(&self) -> impl ExactSizeIterator<Item = &Entry> {
+        self.lines.iter().map(|(entry, _)| entry)
+    }
+}
+
 impl Display for Way {
     fn fmt(&self, f: &mut Formatter) -> fmt::Result {
         f.write_str(match self {

@@ -5,7 +5,11 @@
 //!     plain run LAYOUT SCRIPT               prints what `pciefab run` prints
 //!     plain journal LAYOUT SCRIPT DOMAIN    prints what `pciefab journal` prints
 //!     plain time LAYOUT SCRIPT              prints NANOSECONDS MOVED ALL of the script's events, by processor time
+//!     plain begins LAYOUT WORD DWS          prints BEGINS NANOSECONDS ENTRIES NANOSECONDS of each round of a scene of
+//!                                           bench/domains.sh: what is begun, and what is replayed
 
+mod alone;
+mod begins;
 mod build;
 mod clock;
 mod domain;
@@ -33,9 +37,12 @@ fn file(name: &str) -> Result<String, String> {
     std::fs::read_to_string(name).map_err(|_| format!("file {name}: unreadable"))
 }
 
+fn faulty((line, cause): (u32, layout::Cause)) -> String {
+    format!("layout {line}: {} {cause:?}", cause as u8)
+}
+
 /// The fabric and the commands of two files, or the line that says what is wrong with them.
 fn read(layout: &str, script: &str) -> Result<(Fabric, Vec<(u32, Command)>), String> {
-    let faulty = |(line, cause)| format!("layout {line}: {} {cause:?}", cause as u8);
     let layout = Layout::read(&file(layout)?).map_err(faulty)?;
     let commands = script::read(&file(script)?).map_err(|line| format!("script {line}: Line"))?;
     Ok((build::fabric(&layout), commands))
@@ -78,6 +85,12 @@ fn time(layout: &str, script: &str) -> Result<String, String> {
     Ok(format!("{time} {} {}\n", fabric.count.moved, fabric.count.all))
 }
 
+fn begins(layout: &str, word: &str, count: &str) -> Result<String, String> {
+    let layout = Layout::read(&file(layout)?).map_err(faulty)?;
+    let count = count.parse().map_err(|_| "usage")?;
+    Ok(begins::rounds(&layout, word, count).ok_or("usage")?)
+}
+
 fn main() -> ExitCode {
     let words: Vec<String> = std::env::args().skip(1).collect();
     let words: Vec<&str> = words.iter().map(String::as_str).collect();
@@ -85,6 +98,7 @@ fn main() -> ExitCode {
         ["run", layout, script] => run(layout, script),
         ["journal", layout, script, domain] => journal(layout, script, domain),
         ["time", layout, script] => time(layout, script),
+        ["begins", layout, word, count] => begins(layout, word, count),
         _ => Err("usage".to_string()),
     };
     match answer {

@@ -3,6 +3,7 @@
 use crate::id::Id;
 use crate::words;
 
+#[derive(Clone)]
 pub enum Access {
     Write(Vec<u8>),
     /// So many DW.
