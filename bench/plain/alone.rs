@@ -1,5 +1,5 @@
-//! A domain of a guarded layout by itself: its packets don't travel, but are in flight by their numbers till an entry ends
-//! them.
+//! A domain of a guarded layout by itself, in which no function sends requests directly to another: its packets don't
+//! travel, but are in flight by their numbers till an entry ends them.
 
 use crate::domain::Fault;
 use crate::fabric::Fabric;

@@ -84,9 +84,7 @@ impl Journal {
         self.made += 1;
         number
     }
-}
 
-impl Journal {
     pub fn entries(&self) -> impl ExactSizeIterator<Item = &Entry> {
         self.lines.iter().map(|(entry, _)| entry)
     }
