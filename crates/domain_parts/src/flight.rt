@@ -19,12 +19,12 @@ use tlp_view::ReadPacket;
 /// How many numbers may have no slot.
 const MOST_GONE: u64 = 1 << 63;
 
-/// A packet in flight: who made it and for whom, what shows where its bytes are, and whether they are well formed.
+/// A packet in flight: who made it and for whom, whether it is well formed, and what shows where its bytes are.
 #[derive(Drop)]
 struct InFlight {
     parties: Parties,
-    token: Token,
     is_well_formed: bool,
+    token: Token,
 }
 
 /// The packets in flight by their numbers, and the log that has their bytes.
@@ -130,8 +130,8 @@ impl Flight {
         let (frame, token) = self.log.emit_bytes(rt, domain, number, head, bytes)?;
         self.slots.push_reserved(Some(InFlight {
             parties,
-            token,
             is_well_formed,
+            token,
         }));
         self.held += 1;
         Ok(frame)

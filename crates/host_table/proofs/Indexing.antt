@@ -1,5 +1,5 @@
 -- An index with one line more, and what it finds.
-use Rattle.std.proofs.Common.{◌≡◌, ℕ, ◌+◌, List, [], ◌∷◌, ◌++◌, get_or, set, sym, ◌∙◌, ap, subst, Result, Ok, Err, OnOk, inl, inr, arith}
+use Rattle.std.proofs.Common.{◌≡◌, ℕ, List, [], ◌∷◌, ◌++◌, get_or, set, sym, ◌∙◌, ap, subst, Result, Ok, Err, OnOk, inl, inr, arith}
 use Rattle.std.specs.Prelude.{Any}
 use Rattle.std.specs.List.{insert}
 use Rattle.std.proofs.lemmas.List.Elements.{All-contains, All-push, All-weaker}

@@ -1,9 +1,9 @@
 //! The map lines of a requester, by groups of 512 pages.
 
-ghost use Rattle.std.specs.Prelude.{◌≡◌, ◌≢◌, ◌∷◌, All, Contains, IfOk, MatchOption, OnOk};
+ghost use Rattle.std.specs.Prelude.{◌≡◌, ◌≢◌, ◌∷◌, All, Contains, IfOk, IfSome, MatchOption, OnOk};
 ghost use Rattle.std.specs.List.Sorted.{IsPermutation};
 ghost use Rattle.platform.specs.declared.parts.Mapping.{Mapping};
-ghost use Rattle.host_table.specs.Rising.{IsPlaceOf, RisesBy};
+ghost use Rattle.host_table.specs.Rising.{IsAt, IsPlaceOf, RisesBy};
 ghost use Rattle.host_table.specs.Groups.{HaveOneMore, IsGroup, StandsIn, group_number, group_of};
 
 use fab_types::NoMemory;
@@ -37,12 +37,36 @@ fn group_number(page: u64) -> u64
     page / GROUP_PAGES
 }
 
+/// The place of the line of this page, if none between it and the first is left out, as is most often so.
+fn place_by_count(lines: &[Mapping], page: u64) -> Option<usize>
+    ensures { IfSome result (IsAt (λ line. line.page) lines.now page) }
+{
+    let first = lines.first()?.page;
+    let place = page.checked_sub(first)? as usize;
+    if lines.get(place)?.page == page {
+        Some(place)
+    } else {
+        None
+    }
+}
+
 /// The place of the line of this page, or where one would go.
-fn place_of_page(lines: &[Mapping], page: u64) -> Result<usize, usize>
+fn place_by_halves(lines: &[Mapping], page: u64) -> Result<usize, usize>
     requires { RisesBy (λ line. line.page) lines.now }
     ensures { IsPlaceOf (λ line. line.page) lines.now page result }
 {
     lines.binary_search_by_key(&page, |line| line.page)
+}
+
+/// The same, which looks first where it is found at once.
+fn place_of_page(lines: &[Mapping], page: u64) -> Result<usize, usize>
+    requires { RisesBy (λ line. line.page) lines.now }
+    ensures { IsPlaceOf (λ line. line.page) lines.now page result }
+{
+    match place_by_count(lines, page) {
+        Some(place) => Ok(place),
+        None => place_by_halves(lines, page),
+    }
 }
 
 /// The place of the group of this number, or where it would go.

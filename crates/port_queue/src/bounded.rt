@@ -106,11 +106,11 @@ impl<T: Drop, const CAP: usize> PortQueue<T, CAP> {
     pub fn leaving(&self) -> LeavingClasses
         ensures { (class : Class) → has result class ≡ is_some (head_of class self.now.waiting) }
     {
-        LeavingClasses {
-            posted: self.head(Class::Posted).is_some(),
-            non_posted: self.head(Class::NonPosted).is_some(),
-            completion: self.head(Class::Completion).is_some(),
-        }
+        LeavingClasses::of(
+            self.head(Class::Posted).is_some(),
+            self.head(Class::NonPosted).is_some(),
+            self.head(Class::Completion).is_some(),
+        )
     }
 
     /// The eligible item of the class.

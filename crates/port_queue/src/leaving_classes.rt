@@ -1,37 +1,72 @@
 //! Of which classes an item may leave a queue (PCIe 4.0, 2.4.1).
 
-ghost use Rattle.std.specs.Prelude.{◌≡◌};
+ghost use Rattle.std.specs.Prelude.{⊤, ◌≡◌, [], ◌∷◌, codes};
+ghost use Rattle.fab_types.specs.declared.class.Class.TheVariants.{Completion, NonPosted, Posted};
 ghost use Rattle.port_queue.specs.Leaving.{has};
 
+use bitflags::{Flag, Flags, bitflag_items};
 use fab_types::Class;
 
 /// Of which classes an item may leave.
+// (one byte, so that it comes back in a register: three `bool`s are written apart into memory and read as one word,
+// for which the processor waits)
 #[derive(Clone, Copy, Debug, PartialEq, Eq)]
-pub struct LeavingClasses {
-    /// May a posted item leave?
-    pub posted: bool,
-    /// May a non-posted item leave?
-    pub non_posted: bool,
-    /// May a completion leave?
-    pub completion: bool,
+pub struct LeavingClasses(u8);
+
+bitflag_items! {
+    impl LeavingClasses: u8 {
+        /// A posted item may leave.
+        const POSTED = 1;
+        /// A non-posted item may leave.
+        const NON_POSTED = 2;
+        /// A completion may leave.
+        const COMPLETION = 4;
+    }
 }
 
 impl LeavingClasses {
     /// An item of none of the classes may leave.
-    pub const NONE: LeavingClasses = LeavingClasses {
-        posted: false,
-        non_posted: false,
-        completion: false,
-    };
+    pub const NONE: LeavingClasses = LeavingClasses(0);
+
+    /// Those classes of which an item may leave.
+    pub(crate) fn of(posted: bool, non_posted: bool, completion: bool) -> LeavingClasses
+        ensures posted { has result Posted ≡ posted }
+        ensures non_posted { has result NonPosted ≡ non_posted }
+        ensures completion { has result Completion ≡ completion }
+    {
+        LeavingClasses(u8::from(posted) + 2 * u8::from(non_posted) + 4 * u8::from(completion))
+    }
 
     /// May an item of this class?
     pub fn has(&self, class: Class) -> bool
         ensures { result ≡ has self.now class }
     {
         match class {
-            Class::Posted => self.posted,
-            Class::NonPosted => self.non_posted,
-            Class::Completion => self.completion,
+            Class::Posted => self.contains(LeavingClasses::POSTED),
+            Class::NonPosted => self.contains(LeavingClasses::NON_POSTED),
+            Class::Completion => self.contains(LeavingClasses::COMPLETION),
         }
+    }
+}
+
+impl Flags for LeavingClasses {
+    type Bits = u8;
+
+    ghost exact = { ⊤ };
+
+    ghost table = { (codes "POSTED", 1) ∷ (codes "NON_POSTED", 2) ∷ (codes "COMPLETION", 4) ∷ [] };
+
+    ghost set_of = { λ l. l.0 };
+
+    fn flags<'a>() -> &'a [Flag<LeavingClasses>] {
+        LeavingClasses::FLAGS
+    }
+
+    fn bits(&self) -> u8 {
+        self.0
+    }
+
+    fn from_bits_retain(bits: u8) -> LeavingClasses {
+        LeavingClasses(bits)
     }
 }

@@ -124,11 +124,11 @@ impl<T: Drop> Outbox<T> {
     pub fn leaving(&self) -> LeavingClasses
         ensures { (class : Class) → has result class ≡ is_some (head_of class self.now.queue.waiting) }
     {
-        LeavingClasses {
-            posted: self.head(Class::Posted).is_some(),
-            non_posted: self.head(Class::NonPosted).is_some(),
-            completion: self.head(Class::Completion).is_some(),
-        }
+        LeavingClasses::of(
+            self.head(Class::Posted).is_some(),
+            self.head(Class::NonPosted).is_some(),
+            self.head(Class::Completion).is_some(),
+        )
     }
 
     /// The eligible item of the class.

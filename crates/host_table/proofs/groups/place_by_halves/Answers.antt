@@ -1,7 +1,7 @@
 use Rattle.std.proofs.Common.{rules}
 use Rattle.std.proofs.lemmas.List.Sorted.{answers_always}
 use Rattle.host_table.proofs.Rising.{searched}
-use Rattle.host_table.proofs.groups.place_of_page.Goals as goal
+use Rattle.host_table.proofs.groups.place_by_halves.Goals as goal
 
 -- each call of the closure gives the key
 pub returns : goal.returns
