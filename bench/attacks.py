@@ -8,7 +8,8 @@ attacker's line. `attacks.py PROGRAM cleared LAYOUT [PAIRS]` clears each of the 
 and then PAIRS random pairs of them at two ports, and runs all candidates in each: writes, reads and FetchAdds of each function
 in each name, for each page that is a frame's number, mapped, a register page or none of these, with AT 00 and 10; and reads in
 the name of a function, ahead of one of its own for each page that it may read, by each number of sweeps from 1 to 20. Where one
-is seen to land in some way of harm, `explain` has to tell a witness of that way for these two domains. As many layouts are tried
+is seen to land in some way of harm, `explain` has to tell a witness of that way for these two domains, and where it is a read, one
+of `answers reads` for the two in turn; where fewer than two domains own a function it says nothing of any. As many layouts are tried
 side by side as there are processors. It prints what differs, and its last line counts.
 """
 
@@ -17,8 +18,8 @@ from concurrent.futures import ProcessPoolExecutor
 
 from deal import Deal
 
-FRAME_WRITTEN, FRAME_READ, PAGE_WRITTEN, PAGE_READ, TAG_CLOSED, COMPLETION, COUNTS = range(7)
-WORDS = ['write to frame', 'read of frame', 'write to registers', 'read of registers', 'Tag of', 'completion not asked for', 'counts changed']
+FRAME_WRITTEN, FRAME_READ, PAGE_WRITTEN, PAGE_READ, TAG_CLOSED, COMPLETION, COUNTS, ANSWERS = range(8)
+WORDS = ['write to frame', 'read of frame', 'write to registers', 'read of registers', 'Tag of', 'completion not asked for', 'counts changed', 'answers reads of']
 MOST_AHEAD = 20
 CONTROLS = [1, 2, 4, 8, 16]
 program = sys.argv[1]
@@ -79,6 +80,7 @@ class Lines:
         self.readable = [(each[1], int(each[2], 16)) for each in fields if each[0] == 'map' and 'r' in each[5]]
         self.frames = {int(target) for _, _, kind, target in self.maps if kind == 'frame'}
         self.is_guarded = all(int(each[6], 16) & 31 == 31 for each in self.ports)
+        self.has_nothing_to_keep = len({owner for owner, _ in self.functions.values()}) < 2
 
 
 def cleared(text, places):
@@ -186,7 +188,11 @@ def searched(layout, path):
     found = set()
     for function, (attacker, _) in layout.functions.items():
         for packet in candidates(layout, function):
-            found |= {(attacker, victim, way) for victim, way in harms(layout, path, function, packet, before)}
+            for victim, way in harms(layout, path, function, packet, before):
+                found.add((attacker, victim, way))
+                # (who reads another's data got an answer of that one)
+                if way in (FRAME_READ, PAGE_READ):
+                    found.add((victim, attacker, ANSWERS))
             if is_plain_read(packet) and not {(attacker, victim, TAG_CLOSED) for victim in layout.owners} <= found:
                 found |= {(attacker, victim, way) for victim, way in closings(layout, path, function, packet)}
     return found
@@ -202,7 +208,7 @@ def lands(layout, path, witness):
         alone, other = (closed(path, ''.join(lines), victim, reader) for lines in (own, [first, *own]))
         changed = layout.functions[reader][0] == victim and None not in (alone, other) and alone != other
     submitter = text.split()[1]
-    return changed and layout.functions[submitter][0] == attacker != victim
+    return changed and layout.functions[submitter][0] == (victim if way == ANSWERS else attacker) and attacker != victim
 
 
 def told_right(layout, path):
@@ -210,10 +216,11 @@ def told_right(layout, path):
     text, status = ran('explain', path)
     witnesses, pairs = told(text)
     wrong = sum(not lands(layout, path, witness) for witness in witnesses)
-    expected = 0 if layout.is_guarded else 3 if witnesses else 4
+    is_quiet = layout.has_nothing_to_keep or layout.is_guarded
+    expected = 6 if layout.has_nothing_to_keep else 0 if layout.is_guarded else 3 if witnesses else 4
     wrong += status != expected
-    wrong += layout.is_guarded and bool(witnesses)
-    wrong += not layout.is_guarded and pairs != set(itertools.permutations(layout.owners, 2))
+    wrong += is_quiet and bool(witnesses)
+    wrong += not is_quiet and pairs != set(itertools.permutations(layout.owners, 2))
     return witnesses, wrong
 
 

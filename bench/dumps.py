@@ -6,7 +6,8 @@
 Makes layouts by chance, the dump that `lspci -xxxx` would print of a machine with such ports, switches and functions, and the
 list of owners; and tests that `import` gives back the layout's lines: its tree, its owners by the list, and its controls. Then
 edits bytes of such dumps by chance, and tests that `import` gives a text that `run` takes, or one line on standard error that
-names a line of the dump or says what it hasn't, and no other exit status than 0 and 1. Prints how many of each there were.
+names a line of the dump or says what it hasn't, and no other exit status than 0, 5 and 1. A machine without a function has to be
+refused. Prints how many of each there were.
 """
 import random
 import subprocess
@@ -161,11 +162,18 @@ def main():
     dump, owners, script, layout = (room / name for name in ("dump", "owners", "script", "layout"))
     script.write_text("sweep 1\n")
     dumps = []
+    empty = 0
     for seed in range(machines):
         machine = Machine(random.Random(seed))
         dump.write_text(machine.dump())
         owners.write_text(machine.list())
         got = run(program, "import", str(dump), "--owners", str(owners))
+        if not any(line.startswith("function") for line in machine.layout()):
+            # A layout without a function isn't given.
+            if got.returncode != 1 or got.stdout:
+                sys.exit(f"machine {seed}: a layout without a function")
+            empty += 1
+            continue
         if got.returncode != 0:
             sys.exit(f"machine {seed}: {got.stderr.decode()}")
         lines = [line for line in got.stdout.decode().splitlines() if line.startswith(("port", "function", "switch")) and not line.endswith(" root")]
@@ -175,14 +183,14 @@ def main():
             sys.exit(f"machine {seed}: not its layout, see {room}")
         if len(dumps) < 100:
             dumps.append(machine.dump().encode())
-    print(f"{machines} machines have their layouts")
+    print(f"{machines - empty} machines have their layouts, {empty} have no function")
     counts = {}
     chance = random.Random(0)
     for number in range(edits):
         dump.write_bytes(edited(chance, chance.choice(dumps)))
         got = run(program, "import", str(dump))
         first = got.stderr.decode(errors="replace").split(":")[0].split(" ")[0]
-        if got.returncode == 0:
+        if got.returncode in (0, 5):
             layout.write_bytes(got.stdout)
             read = run(program, "run", str(layout), str(script))
             if read.returncode != 0:

@@ -7,7 +7,7 @@ use Rattle.tlp_view.specs.Malformed.{has_bad_enables}
 use Rattle.tlp_view.specs.Requests.{RequestFits}
 use Rattle.attacks.specs.declared.attack.Attack.{Attack}
 use Rattle.attacks.specs.declared.attack.Harm.{Harm}
-use Rattle.attacks.specs.declared.attack.Harm.TheVariants.{FrameWritten, FrameRead, RegistersWritten, RegistersRead, TagClosed, Completion, Counts}
+use Rattle.attacks.specs.declared.attack.Harm.TheVariants.{FrameWritten, FrameRead, RegistersWritten, RegistersRead, TagClosed, Completion, Counts, AnswersFrame, AnswersRegisters}
 use Rattle.attacks.specs.declared.own_read.OwnRead.{OwnRead}
 use Rattle.attacks.specs.Packets.{address_of, head_at, head_of, start_of}
 
@@ -20,6 +20,8 @@ place page (FrameRead frame) = inl (omega arith)
 place page (TagClosed read) = inl (omega arith)
 place page Completion = inl (omega arith)
 place page Counts = inl (omega arith)
+place page (AnswersFrame frame) = inl (omega arith)
+place page (AnswersRegisters peer) = inr (omega arith)
 
 aligned_at : (a : ℕ) → (a % 4096 ≡ 0) ⊎ (a % 4096 ≡ 1024) → a % 4 ≡ 0
 aligned_at a (inl h) = omega arith

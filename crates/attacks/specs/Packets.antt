@@ -7,7 +7,7 @@ use Rattle.tlp_view.specs.Packet.{Packet}
 use Rattle.tlp_view.specs.Requests.{packet_bytes, read_request, write_request}
 use Rattle.attacks.specs.declared.attack.Attack.{Attack}
 use Rattle.attacks.specs.declared.attack.Harm.{Harm}
-use Rattle.attacks.specs.declared.attack.Harm.TheVariants.{FrameWritten, FrameRead, RegistersWritten, RegistersRead, TagClosed, Completion, Counts}
+use Rattle.attacks.specs.declared.attack.Harm.TheVariants.{FrameWritten, FrameRead, RegistersWritten, RegistersRead, TagClosed, Completion, Counts, AnswersFrame, AnswersRegisters}
 use Rattle.attacks.specs.declared.attack.Deed.{Deed}
 use Rattle.attacks.specs.declared.attack.Deed.TheVariants.{Read, Write}
 use Rattle.attacks.specs.declared.own_read.OwnRead.{OwnRead}
@@ -19,7 +19,7 @@ payload = 222 ∷ 173 ∷ 190 ∷ 239 ∷ []
 abbrev pub start_of : ℕ → ℕ
 start_of page = page % 4503599627370496 * 4096
 
--- where a page begins, and of a register page that is harmed its buffer
+-- where a page begins, and of a register page its buffer
 abbrev pub address_of : ℕ → Harm → ℕ
 address_of page (RegistersWritten peer) = start_of page + 1024
 address_of page (RegistersRead peer) = start_of page + 1024
@@ -28,6 +28,8 @@ address_of page (FrameRead frame) = start_of page
 address_of page (TagClosed read) = start_of page
 address_of page Completion = start_of page
 address_of page Counts = start_of page
+address_of page (AnswersFrame frame) = start_of page
+address_of page (AnswersRegisters peer) = start_of page + 1024
 
 -- all bytes of one DW, with Tag 0
 abbrev pub head_at : ℕ → ℕ → AddressType → RequestHead

@@ -1,4 +1,5 @@
--- The requests that a function may try against a domain, in the order in which they are to be tried.
+-- The requests that a function may try where a domain is to be harmed, in the order in which they are to be tried. The other domain
+-- is the one to be harmed, or the one that answers, where reads are answered.
 use Rattle.std.specs.Prelude.{ℕ, ◌/◌, ◌==◌, ◌++◌, Bool, true, false, ◌&&◌, not, List, [], ◌∷◌, Option, Some, None, map, option_map, if◌then◌else◌}
 use Rattle.std.specs.List.{filter, filter_map, find, flat_map, list_any, range_with_len}
 use Rattle.std.specs.Option.{option_and_then, unwrap_or}
@@ -28,11 +29,13 @@ use Rattle.attacks.specs.Paths.{is_blocked, is_validated, is_validated_below, tu
 abbrev pub on_frame : Way → ℕ → Option (Deed × Harm)
 on_frame way.FrameWritten frame = Some (Write, harm.FrameWritten frame)
 on_frame way.FrameRead frame = Some (Read, harm.FrameRead frame)
+on_frame way.AnswersReads frame = Some (Read, harm.AnswersFrame frame)
 on_frame other frame = None
 
 abbrev pub on_registers : Way → ℕ → Option (Deed × Harm)
 on_registers way.RegistersWritten function = Some (Write, harm.RegistersWritten function)
 on_registers way.RegistersRead function = Some (Read, harm.RegistersRead function)
+on_registers way.AnswersReads function = Some (Read, harm.AnswersRegisters function)
 on_registers other function = None
 
 -- for a page that is mapped to this, with these rights

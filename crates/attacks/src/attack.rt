@@ -34,6 +34,8 @@ pub enum Way {
     Completion,
     /// The other's counts change.
     Counts,
+    /// A read that the harmed domain's function submits is answered by the other.
+    AnswersReads,
 }
 
 /// What is harmed, and how.
@@ -53,6 +55,10 @@ pub enum Harm {
     Completion,
     /// The other's counts change.
     Counts,
+    /// A read of this frame of the other, by its own address, is answered.
+    AnswersFrame(u16),
+    /// A read of the page of this function of the other, past the host, is answered.
+    AnswersRegisters(Bdf),
 }
 
 /// What a request does with a page.
@@ -64,10 +70,10 @@ pub enum Deed {
     Write,
 }
 
-/// A request that a function may submit to harm a domain.
+/// A request that a function may submit, and by which a domain is harmed.
 #[derive(Clone, Copy, Debug, PartialEq, Eq)]
 pub struct Attack {
-    /// The function that submits it.
+    /// The function that submits it. Where a read is answered it is the harmed domain's, or else the other's.
     pub function: Bdf,
     /// What it harms.
     pub harm: Harm,
@@ -85,18 +91,21 @@ pub struct Attack {
     pub page: u64,
 }
 
-/// The address of a page, and there of the buffer that a harmed register page has.
+/// The address of a page, and there of the buffer that a register page has.
 fn address_of(page: u64, harm: &Harm) -> u64
     ensures { result ≡ address_of page harm.now }
 {
     let start = start_of(page);
     match harm {
-        Harm::RegistersWritten(_) | Harm::RegistersRead(_) => start + BUFFER,
+        Harm::RegistersWritten(_) | Harm::RegistersRead(_) | Harm::AnswersRegisters(_) => {
+            start + BUFFER
+        }
         Harm::FrameWritten(_)
         | Harm::FrameRead(_)
         | Harm::TagClosed(_)
         | Harm::Completion
-        | Harm::Counts => start,
+        | Harm::Counts
+        | Harm::AnswersFrame(_) => start,
     }
 }
 

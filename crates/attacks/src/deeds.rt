@@ -15,6 +15,7 @@ pub(crate) fn on_frame(way: Way, frame: u16) -> Option<(Deed, Harm)>
     match way {
         Way::FrameWritten => Some((Deed::Write, Harm::FrameWritten(frame))),
         Way::FrameRead => Some((Deed::Read, Harm::FrameRead(frame))),
+        Way::AnswersReads => Some((Deed::Read, Harm::AnswersFrame(frame))),
         _ => None,
     }
 }
@@ -26,6 +27,7 @@ pub(crate) fn on_registers(way: Way, function: Bdf) -> Option<(Deed, Harm)>
     match way {
         Way::RegistersWritten => Some((Deed::Write, Harm::RegistersWritten(function))),
         Way::RegistersRead => Some((Deed::Read, Harm::RegistersRead(function))),
+        Way::AnswersReads => Some((Deed::Read, Harm::AnswersRegisters(function))),
         _ => None,
     }
 }

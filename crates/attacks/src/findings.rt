@@ -12,9 +12,9 @@ use fab_types::{Bdf, DomainId, PacketBytes, PortId};
 /// that is clear let it pass.
 #[derive(Drop)]
 pub struct Witness {
-    /// The domain whose function submitted it.
+    /// The domain that harms: its function submitted the packet, or it answered it.
     pub attacker: DomainId,
-    /// The domain that it harmed.
+    /// The domain that is harmed.
     pub victim: DomainId,
     /// What it harmed, and how.
     pub harm: Harm,
@@ -31,7 +31,7 @@ pub struct Witness {
 /// What one domain was seen to do to another.
 #[derive(Drop)]
 pub struct Pair {
-    /// The domain whose functions submit.
+    /// The domain that harms.
     pub attacker: DomainId,
     /// The domain that is harmed.
     pub victim: DomainId,
@@ -51,6 +51,8 @@ impl Pair {
 /// What an audit finds.
 #[derive(Drop)]
 pub enum Findings {
+    /// Fewer than two domains own a function.
+    NothingToKeep,
     /// The layout is guarded: no domain can tell the others from none.
     Guarded,
     /// It isn't: what was found for each two domains, in either order.

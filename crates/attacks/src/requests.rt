@@ -1,4 +1,4 @@
-//! The requests that a function may try against a domain.
+//! The requests that a function may try where a domain is to be harmed.
 
 ghost use Rattle.std.specs.Prelude.{◌≡◌, IfOk, Some, option_map};
 ghost use Rattle.std.specs.List.{filter_map};
@@ -15,10 +15,11 @@ use layout::{Layout, Start};
 use platform::{DownstreamPort, EndpointFunction, port_with_secondary};
 use std::alloc::{AllocError, Global};
 
-/// The requests by which a function may try to harm a domain in this way.
+/// The requests by which a function may try to harm another domain in this way.
 ///
-/// They stand in the order in which they are to be tried. The domain is another than the function's. A request is left out
-/// that a control of a port above the function stops whatever else there is.
+/// Where reads are answered, it is the harmed domain's function that submits them, and the other domain answers. They stand in
+/// the order in which they are to be tried. A request is left out that a control of a port above the function stops whatever
+/// else there is.
 ///
 /// It answers `NoMemory` where memory was refused.
 pub fn tries(
@@ -26,16 +27,16 @@ pub fn tries(
     layout: &Layout,
     way: Way,
     function: Bdf,
-    victim: &Start,
+    other: &Start,
 ) -> Result<Vec<Attack>, NoMemory>
-    ensures { IfOk result (λ attacks. attacks.items ≡ tries layout.now way function victim.now) }
+    ensures { IfOk result (λ attacks. attacks.items ≡ tries layout.now way function other.now) }
 {
     match way {
         Way::TagClosed => {
-            let reads = requests(alloc, layout, Way::Completion, function, victim)?;
-            Ok(closings(alloc, victim.maps(), &reads)?)
+            let reads = requests(alloc, layout, Way::Completion, function, other)?;
+            Ok(closings(alloc, other.maps(), &reads)?)
         }
-        _ => requests(alloc, layout, way, function, victim),
+        _ => requests(alloc, layout, way, function, other),
     }
 }
 

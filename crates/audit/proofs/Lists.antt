@@ -20,7 +20,7 @@ use Rattle.attacks.specs.declared.attack.Way.{Way}
 use Rattle.attacks.specs.declared.findings.Pair.{Pair}
 use Rattle.attacks.specs.declared.findings.Witness.{Witness}
 use Rattle.audit.specs.Landing.{Fails, Lands}
-use Rattle.audit.specs.Telling.{Adds, AddsFound, AreFound, ArePairsOf, IsFirst, IsFound, IsPairOf, attempts, candidates, couple_of, couples, couples_of, witness_by}
+use Rattle.audit.specs.Telling.{Adds, AddsFound, AreFound, ArePairsOf, IsFirst, IsFound, IsPairOf, attempts, candidates, couple_of, couples, couples_of, target, trier, witness_by}
 
 -- ---- requests
 
@@ -96,18 +96,21 @@ pub none_of_all : {X Y : Type 0} (p : Platform) (f : Y → Witness) (g : X → L
 none_of_all {X = X} p f g xs i le h = subst (λ (l : List X). All (Fails p) (map f (flat_map g l))) (take_all xs i le) h
 
 -- among what one function tries
-pub found_by_one : (p : Platform) (v : Share) (by : Way) (one other function : ℕ) (attacks : List Attack) (found : Option Witness) → other ≡ v.domain → attacks ≡ tries p by function v
-    → IsFound p (map (witness_by one other) attacks) found → IsFound p (map (witness_by one v.domain) (tries p by function v)) found
-found_by_one p v by one other function attacks found other_is attacks_is h =
-    let first = subst (λ (n : ℕ). IsFound p (map (witness_by one n) attacks) found) other_is h in
-    subst (λ (l : List Attack). IsFound p (map (witness_by one v.domain) l) found) attacks_is first
+pub found_by_one : (p : Platform) (t : Share) (by : Way) (one other function : ℕ) (attacks : List Attack) (found : Option Witness) → attacks ≡ tries p by function t
+    → IsFound p (map (witness_by one other) attacks) found → IsFound p (map (witness_by one other) (tries p by function t)) found
+found_by_one p t by one other function attacks found attacks_is h =
+    subst (λ (l : List Attack). IsFound p (map (witness_by one other) l) found) attacks_is h
 
--- among what one domain tries against another
-pub found_of : (p : Platform) (a v : Share) (by : Way) (one : ℕ) (own : List ℕ) (found : Option Witness) → one ≡ a.domain → own ≡ own_ids a
-    → IsFound p (map (witness_by one v.domain) (attempts p by own v)) found → IsFound p (candidates p a v by) found
-found_of p a v by one own found one_is own_is h =
-    let first = subst (λ (n : ℕ). IsFound p (map (witness_by n v.domain) (attempts p by own v)) found) one_is h in
-    subst (λ (l : List ℕ). IsFound p (map (witness_by a.domain v.domain) (attempts p by l v)) found) own_is first
+-- among what these functions try against a target
+pub found_of : (p : Platform) (a v r t : Share) (by : Way) (one other : ℕ) (own : List ℕ) (found : Option Witness) → one ≡ a.domain → other ≡ v.domain → own ≡ own_ids r
+    → r ≡ trier by a v → t ≡ target by a v
+    → IsFound p (map (witness_by one other) (attempts p by own t)) found → IsFound p (candidates p a v by) found
+found_of p a v r t by one other own found one_is other_is own_is r_is t_is h =
+    let first = subst (λ (n : ℕ). IsFound p (map (witness_by n other) (attempts p by own t)) found) one_is h in
+    let second = subst (λ (n : ℕ). IsFound p (map (witness_by a.domain n) (attempts p by own t)) found) other_is first in
+    let third = subst (λ (l : List ℕ). IsFound p (map (witness_by a.domain v.domain) (attempts p by l t)) found) own_is second in
+    let fourth = subst (λ (s : Share). IsFound p (map (witness_by a.domain v.domain) (attempts p by (own_ids s) t)) found) r_is third in
+    subst (λ (s : Share). IsFound p (map (witness_by a.domain v.domain) (attempts p by (own_ids (trier by a v)) s)) found) t_is fourth
 
 -- ---- ways
 

@@ -13,7 +13,7 @@ use Rattle.domain.specs.declared.entry.Entry.{Entry}
 use Rattle.domain.specs.declared.entry.Entry.TheVariants.{Alien}
 use Rattle.domain.specs.Domains.{DomainView}
 use Rattle.attacks.specs.declared.attack.Harm.{Harm}
-use Rattle.attacks.specs.declared.attack.Harm.TheVariants.{FrameWritten, FrameRead, RegistersWritten, RegistersRead, TagClosed, Completion, Counts}
+use Rattle.attacks.specs.declared.attack.Harm.TheVariants.{FrameWritten, FrameRead, RegistersWritten, RegistersRead, TagClosed, Completion, Counts, AnswersFrame, AnswersRegisters}
 
 abbrev pub is_successful : Status → Bool
 is_successful SC = true
@@ -35,11 +35,12 @@ abbrev pub is_served : ℕ → List ℕ → Entry → Bool
 is_served function bytes (Alien place sender others) = is_sent_by function sender && bytes_eq others bytes
 is_served function bytes _ = false
 
--- the domain carried the packet, and the function got a successful completion
+-- the one domain carried the packet, and the function of the other got a successful completion
 abbrev pub is_answered : ℕ → List ℕ → DomainView → DomainView → Bool
 is_answered function bytes victim attacker = list_any (is_served function bytes) victim.journal && list_any (is_success function) attacker.state.deliveries
 
--- what of the domain's old and new state, and of the attacker's new one, shows the harm; that a read is closed is shown by two runs
+-- What of the domain's old and new state, and of the attacker's new one, shows the harm; that a read is closed is shown by two runs. Of a read
+-- of the domain's own the attacker gave the data
 abbrev pub IsSeen : Harm → ℕ → List ℕ → DomainView → DomainView → DomainView → Type 0
 IsSeen (FrameWritten frame) function bytes old new attacker = page_of new.state.frames frame ≢ page_of old.state.frames frame
 IsSeen (FrameRead frame) function bytes old new attacker = is_answered function bytes new attacker ≡ true
@@ -48,6 +49,14 @@ IsSeen (RegistersRead peer) function bytes old new attacker = is_answered functi
 IsSeen (TagClosed read) function bytes old new attacker = ⊥
 IsSeen Completion function bytes old new attacker = old.state.counts.unexpected < new.state.counts.unexpected
 IsSeen Counts function bytes old new attacker = new.state.counts ≢ old.state.counts
+IsSeen (AnswersFrame frame) function bytes old new attacker = is_answered function bytes attacker new ≡ true
+IsSeen (AnswersRegisters peer) function bytes old new attacker = is_answered function bytes attacker new ≡ true
+
+-- the attacker only answers
+abbrev pub is_answering : Harm → Bool
+is_answering (AnswersFrame frame) = true
+is_answering (AnswersRegisters peer) = true
+is_answering _ = false
 
 -- the completion that closed a request of the function
 abbrev pub closing : ℕ → DomainView → Option Delivery

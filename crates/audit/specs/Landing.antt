@@ -1,5 +1,5 @@
 -- A packet that harms a domain: what a witness shows.
-use Rattle.std.specs.Prelude.{◌≡◌, ◌≢◌, ◌⊎◌, ℕ, Bool, true, false, MatchBool, List, Option, Some, None}
+use Rattle.std.specs.Prelude.{◌≡◌, ◌≢◌, ◌⊎◌, ℕ, Bool, true, false, MatchBool, List, Option, Some, None, if◌then◌else◌}
 use Rattle.fab_types.specs.declared.faults.begin.BeginFault.{BeginFault}
 use Rattle.fab_types.specs.declared.outcome.Outcome.{Outcome}
 use Rattle.fab_types.specs.declared.outcome.Outcome.TheVariants.{Moved}
@@ -16,7 +16,7 @@ use Rattle.attacks.specs.Packets.{own_bytes, own_read}
 use Rattle.attacks.specs.declared.attack.Harm.{Harm}
 use Rattle.attacks.specs.declared.findings.Witness.{Witness}
 use Rattle.attacks.specs.declared.own_read.OwnRead.{OwnRead}
-use Rattle.audit.specs.Harms.{IsAnother, IsSeen, closing}
+use Rattle.audit.specs.Harms.{IsAnother, IsSeen, closing, is_answering}
 
 -- up to 1,000 sweeps are made, until nothing moves
 pub record ComesToRest (sweep : List Event) (old new : World) : Type 0 where
@@ -84,23 +84,27 @@ pub record Closes (platform : Platform) (w : Witness) (read : OwnRead) : Type 0 
 
 -- ---- witnesses
 
+-- the domain whose function submits the packet: the attacker, or, where that only answers, the victim
+abbrev pub submitter : Witness → ℕ
+submitter w = if is_answering w.harm then w.victim else w.attacker
+
 -- harm is seen: of a read that is closed by two runs, of any other by one
 abbrev pub Harms : Platform → Witness → Option OwnRead → Type 0
 Harms platform w None = IsHarmful platform w
 Harms platform w (Some read) = Closes platform w read
 
--- The attacker's function submits the packet, and after that run harm is seen of the victim, which is another domain. The
--- control is clear at the port
+-- The submitter's function submits the packet, and after that run harm is seen of the victim, which is another domain than the
+-- attacker. The control is clear at the port
 pub record Lands (platform : Platform) (w : Witness) : Type 0 where
   pub other : w.attacker ≢ w.victim
-  pub own : home (world_of platform) (Submit w.function w.bytes) ≡ Some w.attacker
+  pub own : home (world_of platform) (Submit w.function w.bytes) ≡ Some (submitter w)
   pub clear : is_clear platform.ports w.port w.control ≡ true
   pub harms : Harms platform w (own_read w.harm)
 
--- the packet isn't begun: its function isn't the attacker's, or the fabric refuses it
+-- the packet isn't begun: its function isn't this domain's, or the fabric refuses it
 abbrev pub IsRefused : Platform → ℕ → ℕ → List ℕ → Type 0
-IsRefused platform attacker function bytes =
-    (home (world_of platform) (Submit function bytes) ≢ Some attacker) ⊎ ((fault : BeginFault) × (refusal (world_of platform) (Submit function bytes) ≡ Some fault))
+IsRefused platform domain function bytes =
+    (home (world_of platform) (Submit function bytes) ≢ Some domain) ⊎ ((fault : BeginFault) × (refusal (world_of platform) (Submit function bytes) ≡ Some fault))
 
 -- after a run of the packet no harm is seen
 pub record IsHarmless (platform : Platform) (w : Witness) : Type 0 where
@@ -123,11 +127,11 @@ Spares platform w (Some read) = IsRefused platform w.victim read.function (own_b
 
 -- the packet isn't begun, or no harm is seen
 abbrev pub Misses : Platform → Witness → Option OwnRead → Type 0
-Misses platform w read = IsRefused platform w.attacker w.function w.bytes ⊎ Spares platform w read
+Misses platform w read = IsRefused platform (submitter w) w.function w.bytes ⊎ Spares platform w read
 
 -- whether it was begun and harm is seen
 abbrev pub IsTried : Bool → Platform → Witness → Option OwnRead → Type 0
-IsTried lands platform w read = MatchBool lands ((home (world_of platform) (Submit w.function w.bytes) ≡ Some w.attacker) × Harms platform w read) (Misses platform w read)
+IsTried lands platform w read = MatchBool lands ((home (world_of platform) (Submit w.function w.bytes) ≡ Some (submitter w)) × Harms platform w read) (Misses platform w read)
 
 -- the packet doesn't land: its control isn't clear at the port, or it isn't begun, or no harm is seen
 abbrev pub Fails : Platform → Witness → Type 0

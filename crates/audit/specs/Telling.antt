@@ -1,5 +1,5 @@
 -- What an audit tells: of each two domains, for each way of harm, the first request that lands.
-use Rattle.std.specs.Prelude.{◌≡◌, ℕ, ◌==◌, ◌++◌, List, [], ◌∷◌, Option, Some, None, All, map, if◌then◌else◌}
+use Rattle.std.specs.Prelude.{◌≡◌, ⊤, ℕ, ◌==◌, ◌++◌, Bool, true, false, List, [], ◌∷◌, Option, Some, None, All, map, if◌then◌else◌}
 use Rattle.std.specs.List.{flat_map}
 use Rattle.std.specs.Option.{option_to_list}
 use Rattle.platform.specs.Platform.{Platform}
@@ -14,14 +14,14 @@ use Rattle.attacks.specs.declared.attack.Attack.{Attack}
 use Rattle.attacks.specs.declared.attack.Way.{Way}
 use Rattle.attacks.specs.declared.attack.Way.TheVariants as way
 use Rattle.attacks.specs.declared.findings.Findings.{Findings}
-use Rattle.attacks.specs.declared.findings.Findings.TheVariants.{Guarded, Unguarded}
+use Rattle.attacks.specs.declared.findings.Findings.TheVariants.{NothingToKeep, Guarded, Unguarded}
 use Rattle.attacks.specs.declared.findings.Pair.{Pair}
 use Rattle.attacks.specs.declared.findings.Witness.{Witness}
 use Rattle.audit.specs.Landing.{Fails, Lands}
 
 -- all ways of harm, the worst first
 abbrev pub ways : List Way
-ways = way.FrameWritten ∷ way.FrameRead ∷ way.RegistersWritten ∷ way.RegistersRead ∷ way.TagClosed ∷ way.Completion ∷ way.Counts ∷ []
+ways = way.FrameWritten ∷ way.FrameRead ∷ way.RegistersWritten ∷ way.RegistersRead ∷ way.TagClosed ∷ way.Completion ∷ way.Counts ∷ way.AnswersReads ∷ []
 
 -- a request of one domain against another, as a witness tells it
 abbrev pub witness_by : ℕ → ℕ → Attack → Witness
@@ -35,13 +35,26 @@ witness_by attacker victim attack = record {
   bytes = packet_bytes (packet_of attack);
 }
 
--- what each of these functions tries against the victim in one way
+-- what each of these functions tries against a domain in one way
 abbrev pub attempts : Platform → Way → List ℕ → Share → List Attack
 attempts platform way functions victim = flat_map (λ function. tries platform way function victim) functions
 
--- those of the attacker
+abbrev pub is_answer : Way → Bool
+is_answer way.AnswersReads = true
+is_answer _ = false
+
+-- whose functions try: the attacker's, or, where that only answers, the victim's
+abbrev pub trier : Way → Share → Share → Share
+trier way attacker victim = if is_answer way then victim else attacker
+
+-- against whom: the other
+abbrev pub target : Way → Share → Share → Share
+target way attacker victim = if is_answer way then attacker else victim
+
+-- what they try
 abbrev pub candidates : Platform → Share → Share → Way → List Witness
-candidates platform attacker victim way = map (witness_by attacker.domain victim.domain) (attempts platform way (own_ids attacker) victim)
+candidates platform attacker victim way =
+    map (witness_by attacker.domain victim.domain) (attempts platform way (own_ids (trier way attacker victim)) (target way attacker victim))
 
 -- it is one of these, and lands; those before it don't
 pub record IsFirst (platform : Platform) (ws : List Witness) (w : Witness) : Type 0 where
@@ -99,7 +112,8 @@ pub record Adds (platform : Platform) (couples : List (DomainView × DomainView)
   pub of : ArePairsOf platform couples added
   pub all : new ≡ old ++ added
 
--- what findings say: no domain can tell the others from none, or of each two domains what was seen
+-- what findings say: no domain can tell the others from none, or of each two domains what was seen, if two own a function
 abbrev pub Tell : Platform → Findings → Type 0
+Tell platform NothingToKeep = ⊤
 Tell platform Guarded = NoneCanTell (world_of platform)
 Tell platform (Unguarded pairs) = ArePairsOf platform (couples (world_of platform).agents.domains) pairs.items

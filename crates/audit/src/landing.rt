@@ -1,12 +1,13 @@
 //! Whether an attack lands.
 
-ghost use Rattle.std.specs.Prelude.{◌≡◌, ◌≢◌, ◌↔◌, IfOk, IsTrue, MatchOption, Some, None};
+ghost use Rattle.std.specs.Prelude.{◌≡◌, ◌≢◌, ◌↔◌, IfOk, IsTrue, MatchOption, Some, None, if◌then◌else◌};
 ghost use Rattle.attacks.specs.Packets.{own_read};
 ghost use Rattle.audit.specs.Settings.{IsSetting};
 ghost use Rattle.audit.specs.Landing.{Fails, IsClosedByAnother, IsTried, Lands, Shows};
+ghost use Rattle.audit.specs.Harms.{is_answering};
 ghost use Rattle.audit.specs.Telling.{witness_by};
 
-use crate::seen::{is_closed_otherwise, is_seen};
+use crate::seen::{is_answering, is_closed_otherwise, is_seen};
 use crate::setting::Setting;
 use crate::trial::{raced, ran};
 use attacks::{Attack, Harm, OwnRead, Witness, is_clear};
@@ -39,6 +40,13 @@ fn shows(
     !old.has_same_journal(new) && is_seen(harm, function, bytes, old, new, attacker)
 }
 
+/// The domain whose function submits the packet: the attacker, or, where that only answers, the victim.
+fn submitter(attacker: DomainId, victim: DomainId, harm: &Harm) -> DomainId
+    ensures { result ≡ (if is_answering harm.now then victim else attacker) }
+{
+    if is_answering(harm) { victim } else { attacker }
+}
+
 /// Is harm seen after the packet alone?
 fn harms<R: Wait>(
     rt: &R,
@@ -52,8 +60,9 @@ fn harms<R: Wait>(
     ensures { IfOk result (λ harms. IsTried harms setting.now.layout.now (witness_by attacker victim attack.now) None) }
 {
     let function = attack.function;
+    let by = submitter(attacker, victim, &attack.harm);
     let packet = attack.bytes(alloc)?;
-    let Some(end) = ran(rt, alloc, setting, attacker, function, packet)? else {
+    let Some(end) = ran(rt, alloc, setting, by, function, packet)? else {
         return Ok(false);
     };
     let bytes = attack.bytes(alloc)?;
@@ -95,8 +104,9 @@ fn closes<R: Wait>(
     requires { IsSetting setting.now }
     ensures { IfOk result (λ closes. IsTried closes setting.now.layout.now (witness_by attacker victim attack.now) (Some read.now)) }
 {
+    let by = submitter(attacker, victim, &attack.harm);
     let packet = attack.bytes(alloc)?;
-    let Some(raced) = raced(rt, alloc, setting, attacker, attack.function, packet, read)? else {
+    let Some(raced) = raced(rt, alloc, setting, by, attack.function, packet, read)? else {
         return Ok(false);
     };
     let own = read.bytes(alloc)?;

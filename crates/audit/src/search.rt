@@ -1,16 +1,17 @@
 //! The audit of a layout.
 
-ghost use Rattle.std.specs.Prelude.{◌≡◌, ◌≢◌, ◌↔◌, ◌++◌, true, IfOk, OnOk, map};
+ghost use Rattle.std.specs.Prelude.{◌≡◌, ◌≢◌, ◌↔◌, ◌++◌, false, true, IfOk, OnOk, map};
 ghost use Rattle.std.specs.List.{list_all};
 ghost use Rattle.std.specs.Option.{option_to_list};
 ghost use Rattle.platform.specs.Share.{is_guarded_port};
-ghost use Rattle.attacks.specs.declared.findings.Findings.TheVariants.{Guarded};
+ghost use Rattle.attacks.specs.Owners.{has_nothing_to_keep};
+ghost use Rattle.attacks.specs.declared.findings.Findings.TheVariants.{Guarded, NothingToKeep};
 ghost use Rattle.audit.specs.Settings.{IsSetting};
-ghost use Rattle.audit.specs.Telling.{Adds, AddsFound, AreFound, ArePairsOf, IsFound, IsPairOf, Tell, attempts, candidates, couple_of, couples, couples_of, ways, witness_by};
+ghost use Rattle.audit.specs.Telling.{Adds, AddsFound, AreFound, ArePairsOf, IsFound, IsPairOf, Tell, attempts, candidates, couple_of, couples, couples_of, is_answer, target, trier, ways, witness_by};
 
 use crate::landing::witness_of;
 use crate::setting::Setting;
-use attacks::{Attack, Findings, Pair, Way, Witness, own_functions, tries};
+use attacks::{Attack, Findings, Pair, Way, Witness, has_nothing_to_keep, own_functions, tries};
 use domain::Domain;
 use fab_types::{Bdf, DomainId, NoMemory};
 use layout::{Layout, Start};
@@ -19,16 +20,21 @@ use std::sync::Wait;
 
 /// Says whether the domains of a layout are kept apart.
 ///
-/// Where they aren't, it says what shows it. A layout is guarded where each downstream port has all five ACS controls set.
+/// Where fewer than two domains own a function there is nothing to keep apart, and nothing is tried.
+/// Where they aren't kept apart, it says what shows it. A layout is guarded where each downstream port has all five ACS controls set.
 /// Then no domain can tell the others from none, and nothing is tried. In any other, for each two domains and each way of
 /// harm, the functions of the one try requests against the other (`attacks::tries`), each in a fresh fabric, until one is
-/// seen to land. That one is told, and none where none of them lands. That there is no other attack isn't claimed.
+/// seen to land; where the one only answers, those of the other try. That one is told, and none where none of them lands. That there is no other attack isn't claimed.
 ///
 /// It answers `NoMemory` where memory was refused.
 pub fn audit<R: Wait>(rt: &R, alloc: Global, layout: &Layout) -> Result<Findings, NoMemory>
-    ensures guarded { IfOk result (λ findings. (findings ≡ Guarded) ↔ (list_all is_guarded_port layout.now.ports ≡ true)) }
+    ensures nothing { IfOk result (λ findings. (findings ≡ NothingToKeep) ↔ (has_nothing_to_keep layout.now ≡ true)) }
+    ensures guarded { IfOk result (λ findings. (findings ≡ Guarded) ↔ ((has_nothing_to_keep layout.now ≡ false) × (list_all is_guarded_port layout.now.ports ≡ true))) }
     ensures told { IfOk result (Tell layout.now) }
 {
+    if has_nothing_to_keep(layout) {
+        return Ok(Findings::NothingToKeep);
+    }
     let setting = Setting::new(alloc, layout)?;
     if layout.is_guarded() {
         return Ok(Findings::Guarded);
@@ -114,7 +120,7 @@ fn pair_of<R: Wait>(
 }
 
 /// All ways of harm, the worst first.
-fn ways() -> [Way; 7]
+fn ways() -> [Way; 8]
     ensures { result ≡ ways }
 {
     [
@@ -125,6 +131,7 @@ fn ways() -> [Way; 7]
         Way::TagClosed,
         Way::Completion,
         Way::Counts,
+        Way::AnswersReads,
     ]
 }
 
@@ -179,6 +186,27 @@ fn add_some(witnesses: &mut Vec<Witness>, found: Option<Witness>) -> Result<(), 
     }
 }
 
+/// Does the attacker only answer in this way of harm?
+fn is_answer(way: Way) -> bool
+    ensures { result ≡ is_answer way }
+{
+    matches!(way, Way::AnswersReads)
+}
+
+/// Whose functions try: the attacker's, or, where that only answers, the victim's.
+fn trier<'a>(way: Way, attacker: &'a Start, victim: &'a Start) -> &'a Start
+    ensures { result.now ≡ trier way attacker.entry.now victim.entry.now }
+{
+    if is_answer(way) { victim } else { attacker }
+}
+
+/// Against whom they try: the other.
+fn target<'a>(way: Way, attacker: &'a Start, victim: &'a Start) -> &'a Start
+    ensures { result.now ≡ target way attacker.entry.now victim.entry.now }
+{
+    if is_answer(way) { attacker } else { victim }
+}
+
 /// The first witness of this way of harm.
 fn found<R: Wait>(
     rt: &R,
@@ -192,29 +220,32 @@ fn found<R: Wait>(
     requires other { attacker.now.domain ≢ victim.now.domain }
     ensures { IfOk result (IsFound setting.now.layout.now (candidates setting.now.layout.now attacker.now victim.now way)) }
 {
-    let own = own_functions(alloc, attacker)?;
-    let found = found_by(rt, alloc, setting, way, attacker.domain(), &own, victim)?;
+    let (one, other) = (attacker.domain(), victim.domain());
+    let own = own_functions(alloc, trier(way, attacker, victim))?;
+    let target = target(way, attacker, victim);
+    let found = found_by(rt, alloc, setting, way, one, other, &own, target)?;
     Ok(found)
 }
 
-/// The witness of the first request of these functions that lands. What a function tries is listed once nothing landed
-/// of what those before it tried.
+/// The witness of the first request of these functions against the target that lands. What a function tries is listed
+/// once nothing landed of what those before it tried.
 fn found_by<R: Wait>(
     rt: &R,
     alloc: Global,
     setting: &Setting<'_>,
     way: Way,
     attacker: DomainId,
+    victim: DomainId,
     functions: &[Bdf],
-    victim: &Start,
+    target: &Start,
 ) -> Result<Option<Witness>, NoMemory>
     requires setting { IsSetting setting.now }
-    requires other { attacker ≢ victim.now.domain }
-    ensures { IfOk result (IsFound setting.now.layout.now (map (witness_by attacker victim.now.domain) (attempts setting.now.layout.now way functions.now victim.now))) }
+    requires other { attacker ≢ victim }
+    ensures { IfOk result (IsFound setting.now.layout.now (map (witness_by attacker victim) (attempts setting.now.layout.now way functions.now target.now))) }
 {
     for function in functions {
-        let attacks = tries(alloc, setting.layout, way, *function, victim)?;
-        let found = first_of(rt, alloc, setting, attacker, victim.domain(), &attacks)?;
+        let attacks = tries(alloc, setting.layout, way, *function, target)?;
+        let found = first_of(rt, alloc, setting, attacker, victim, &attacks)?;
         if found.is_some() {
             return Ok(found);
         }

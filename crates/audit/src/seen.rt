@@ -3,7 +3,7 @@
 ghost use Rattle.std.specs.Prelude.{◌≡◌, ◌≢◌, ◌↔◌, IsTrue};
 ghost use Rattle.std.specs.List.{list_any};
 ghost use Rattle.std.specs.Option.{option_copied};
-ghost use Rattle.audit.specs.Harms.{IsAnother, IsSeen, closing, is_answered, is_served, is_success};
+ghost use Rattle.audit.specs.Harms.{IsAnother, IsSeen, closing, is_answered, is_answering, is_served, is_success};
 ghost use Rattle.host_memory.specs.Pages.{page_of};
 
 use attacks::Harm;
@@ -73,11 +73,18 @@ fn has_success(domain: &Domain, function: Bdf) -> bool
         .any(|delivery| is_success(delivery, function))
 }
 
-/// Did the function get data that the domain gave for the packet?
-fn has_answer(new: &Domain, attacker: &Domain, function: Bdf, bytes: &PacketBytes) -> bool
-    ensures { result ≡ is_answered function bytes.now new.now attacker.now }
+/// Did the function, which is of the asker, get data that the giver gave for the packet?
+fn has_answer(giver: &Domain, asker: &Domain, function: Bdf, bytes: &PacketBytes) -> bool
+    ensures { result ≡ is_answered function bytes.now giver.now asker.now }
 {
-    has_served(new, function, bytes) && has_success(attacker, function)
+    has_served(giver, function, bytes) && has_success(asker, function)
+}
+
+/// Is the harm that the attacker answers a read of the domain's own?
+pub(crate) fn is_answering(harm: &Harm) -> bool
+    ensures { result ≡ is_answering harm.now }
+{
+    matches!(harm, Harm::AnswersFrame(_) | Harm::AnswersRegisters(_))
 }
 
 /// Is the harm seen of the domain, which was in the old state and is in the new one?
@@ -101,6 +108,9 @@ pub(crate) fn is_seen(
         Harm::TagClosed(_) => false,
         Harm::Completion => old.counts().unexpected < new.counts().unexpected,
         Harm::Counts => old.counts() != new.counts(),
+        Harm::AnswersFrame(_) | Harm::AnswersRegisters(_) => {
+            has_answer(attacker, new, function, bytes)
+        }
     }
 }
 

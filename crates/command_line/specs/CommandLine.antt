@@ -6,7 +6,9 @@ use Rattle.clap.specs.declared.builder.action.ArgAction.TheVariants.{Set, SetTru
 use Rattle.clap.specs.declared.builder.command.Command.{Command}
 use Rattle.clap.specs.declared.builder.command.Command.TheViews.{out-Command}
 use Rattle.clap.specs.declared.parser.matches.ArgMatches.{ArgMatches}
-use Rattle.text.specs.Text.{◌>>=◌, decimal, id_at}
+use Rattle.lspci.specs.Lines.{location_of}
+use Rattle.lspci.specs.declared.lines.Location.{Location}
+use Rattle.text.specs.Text.{◌>>=◌, decimal}
 use Rattle.command_line.specs.declared.request.Request.{Request}
 use Rattle.command_line.specs.declared.request.Request.TheVariants as request
 
@@ -61,7 +63,7 @@ abbrev pub explain_command : App
 explain_command = with_rule (with_rule (with_rule (new_app (codes "explain")) (word_rule (codes "LAYOUT"))) (option_rule (codes "scripts"))) (flag_rule (codes "linux"))
 
 abbrev pub import_command : App
-import_command = with_rule (with_rule (with_rule (new_app (codes "import")) (word_rule (codes "DUMP"))) (option_rule (codes "owners"))) (option_rule (codes "root"))
+import_command = with_rule (with_rule (with_rule (with_rule (new_app (codes "import")) (word_rule (codes "DUMP"))) (option_rule (codes "owners"))) (option_rule (codes "root"))) (flag_rule (codes "partial"))
 
 abbrev pub program : App
 program = let plain = new_app (codes "pciefab") in record plain { top = record plain.top { no_binary_name = true; subcommand_required = true } }
@@ -76,7 +78,7 @@ journal_commands = with_subcommand (with_subcommand (with_subcommand run_command
 
 -- `first HEX`, `run LAYOUT SCRIPT`, `alone LAYOUT SCRIPT DOMAIN`, `journal LAYOUT SCRIPT DOMAIN`,
 -- `replay LAYOUT JOURNAL DOMAIN`, `threads LAYOUT SCRIPT TURNS`, `draw LAYOUT`, `explain LAYOUT [--scripts FOLDER] [--linux]`
--- and `import DUMP [--owners FILE] [--root ID]`; help is the library's own
+-- and `import DUMP [--owners FILE] [--root ID] [--partial]`; help is the library's own
 unfoldable pub commands : App
 commands = with_subcommand (with_subcommand (with_subcommand journal_commands draw_command.top) explain_command.top) import_command.top
 
@@ -95,7 +97,7 @@ pub data Asked : Type 0 where
   Threads : Text → Text → ℕ → Asked  -- a run of the files on threads, each of which makes so many turns
   Draw : Text → Asked  -- the drawing of the file of this name, a layout
   Explain : Text → Option Text → Bool → Asked  -- whether the domains of that layout are kept apart, with scripts in this folder, and with Linux's groups
-  Import : Text → Option Text → Option ℕ → Asked  -- the layout of the file of this name, a dump, with a list of owners, below this root port
+  Import : Text → Option Text → Option Location → Bool → Asked  -- the layout of the file of this name, a dump, with a list of owners, below this root port, of which endpoints may be left out
 
 -- the names of the files of a layout and of this
 abbrev pub files_in : Text → List Row → Option (Text × Text)
@@ -117,10 +119,10 @@ domain_in second rows = number_in second (codes "DOMAIN") rows
 abbrev pub turns_within : Text × Text × ℕ → Option Asked
 turns_within words = if nat_le 1 words.2 && nat_le words.2 1000000 then Some (Threads words.0 words.1 words.2) else None
 
--- the ID behind `--root`, if it is there
-abbrev pub root_in : Option Text → Option (Option ℕ)
+-- the place behind `--root`, if it is there
+abbrev pub root_in : Option Text → Option (Option Location)
 root_in None = Some None
-root_in (Some word) = option_map Some (id_at word)
+root_in (Some word) = option_map Some (location_of word)
 
 -- is a name there behind `--`?
 abbrev pub is_flag : Option Text → Bool
@@ -134,7 +136,7 @@ abbrev pub import_in : List Row → Option Asked
 import_in rows = do
   dump ← first_of (codes "DUMP") rows
   root ← root_in (first_of (codes "root") rows)
-  Some (Import dump (first_of (codes "owners") rows) root)
+  Some (Import dump (first_of (codes "owners") rows) root (is_flag (first_of (codes "partial") rows)))
 
 -- what the words of a subcommand ask for, by its name
 abbrev pub asked_of : Text × List Row → Option Asked
@@ -173,7 +175,7 @@ asked_by (request.Replay layout journal domain) = Some (Replay layout.now journa
 asked_by (request.Threads files turns) = Some (Threads files.layout.now files.script.now turns)
 asked_by (request.Draw layout) = Some (Draw layout.now)
 asked_by (request.Explain asked) = Some (Explain asked.layout.now (option_map (λ word. word.now) asked.scripts) asked.groups)
-asked_by (request.Import dump owners root) = Some (Import dump.now (option_map (λ word. word.now) owners) root)
+asked_by (request.Import asked) = Some (Import asked.dump.now (option_map (λ word. word.now) asked.owners) asked.root asked.partial)
 
 -- a request is for what was asked
 abbrev pub IsAsked : Request → Asked → Type 0

@@ -32,7 +32,7 @@ const DRAW_ABOUT: &str =
     "Prints the tree of a layout as a drawing in SVG: switches, ports with their controls, and functions in the colours of their domains";
 
 const EXPLAIN_ABOUT: &str =
-    "Prints the tree of a layout as text, and whether its domains are kept apart: where they aren't, for each two of them what one was seen to do to the other, with a script for `run` that shows it. Exit status 0: guarded; 3: not, and something was seen; 4: not, and nothing was seen";
+    "Prints the tree of a layout as text, and whether its domains are kept apart: where they aren't, for each two of them what one was seen to do to the other, with a script for `run` that shows it. Exit status 0: guarded; 3: something was seen; 4: not guarded, and nothing was seen; 5: as 0 or 4, of a part of the machine's endpoints alone; 6: fewer than two domains own a function, so there is nothing to keep apart";
 
 const SCRIPTS_HELP: &str =
     "A folder: each script is written there too, as ATTACKER-reaches-VICTIM-NN.script by the numbers of the domains";
@@ -41,7 +41,7 @@ const LINUX_HELP: &str =
     "Adds the IOMMU groups that Linux makes of the tree, and the domains that they keep apart though one reaches the other";
 
 const IMPORT_ABOUT: &str =
-    "Prints the layout of a real machine, from what `lspci -xxxx` printed there: what is below its root ports, or below one of them";
+    "Prints the layout of a real machine, from what `lspci -xxxx` printed there as root: what is below its root ports, or below one of them. Exit status 0: each endpoint has a place in it; 5: some have none, and the layout's lines `# left out` name them";
 
 const PACKET_HELP: &str = "The bytes of the packet in lower-case hexadecimal, or - for no bytes";
 
@@ -63,7 +63,11 @@ const DUMP_HELP: &str = "The file of what `lspci -xxxx` printed";
 const OWNERS_HELP: &str =
     "A file of who owns what: in each line the ID of a device in its machine, a blank, and a domain";
 
-const ROOT_HELP: &str = "The ID of the only root port whose tree is wanted, as 00:1c.0";
+const ROOT_HELP: &str =
+    "The only root port whose tree is wanted, as 00:1c.0, or in another PCI segment as 0001:00:1c.0";
+
+const PARTIAL_HELP: &str =
+    "Endpoints may be left out of the layout: the exit status is 0 then too. What is left out isn't isolated";
 
 const EXAMPLE: &str = "\
 Example: a posted write of the bytes 11 22 33 44 to address 0x1000, which is mapped to frame 0
@@ -72,7 +76,7 @@ Example: a posted write of the bytes 11 22 33 44 to address 0x1000, which is map
   frame 0 000 11223344000000000000000000000000
 
 Layouts are described in docs/LAYOUT.md; scripts, journals and what is printed in docs/FORMATS.md.
-The exit status is 0, 2 where memory is refused, or 1 for any other fault.";
+The exit status is 0, 2 where memory is refused, or 1 for any other fault; import and explain have more.";
 
 /// A subcommand without words.
 fn subcommand<'a>(alloc: Global, name: &'a str, about: &'a str) -> Command<'a>
@@ -216,7 +220,8 @@ fn import_definition<'a>(alloc: Global) -> Result<Command<'a>, AllocError>
     let plain = subcommand(alloc, "import", IMPORT_ABOUT);
     let with_dump = with_word(alloc, plain, "DUMP", DUMP_HELP)?;
     let with_owners = with_option(alloc, with_dump, "owners", OWNERS_HELP)?;
-    with_option(alloc, with_owners, "root", ROOT_HELP)
+    let with_root = with_option(alloc, with_owners, "root", ROOT_HELP)?;
+    with_flag(alloc, with_root, "partial", PARTIAL_HELP)
 }
 
 /// The program with the commands of a run.

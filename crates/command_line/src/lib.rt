@@ -4,4 +4,4 @@
 mod description;
 mod request;
 
-pub use request::{Explaining, Files, Request, WordsFault, read_request};
+pub use request::{Explaining, Files, Importing, Request, WordsFault, read_request};

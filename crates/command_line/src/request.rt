@@ -8,10 +8,10 @@ ghost use Rattle.command_line.specs.CommandLine.{Ask, Asked, IsAsked, asked_by, 
 use crate::description::definition;
 use clap::ArgMatches;
 use clap::error::ErrorKind;
-use fab_types::Bdf;
+use lspci::{Location, location_of};
 use std::alloc::{AllocError, Global};
 use std::convert::AsStr;
-use text::{decimal, id};
+use text::decimal;
 use thiserror::Error;
 
 /// The most turns that a worker may be asked to make.
@@ -84,9 +84,7 @@ pub enum Request<'a> {
     },
     /// To print the layout of what a dump shows below a root port.
     Import {
-        dump: &'a str,
-        owners: Option<&'a str>,
-        root: Option<Bdf>,
+        asked: Importing<'a>,
     },
 }
 
@@ -108,6 +106,19 @@ pub struct Explaining<'a> {
     pub scripts: Option<&'a str>,
     /// Are Linux's groups wanted?
     pub groups: bool,
+}
+
+/// What `import` is asked for.
+#[derive(Clone, Copy, Debug, PartialEq, Eq)]
+pub struct Importing<'a> {
+    /// The name of the dump's file.
+    pub dump: &'a str,
+    /// The name of the file of a list of owners, if there is one.
+    pub owners: Option<&'a str>,
+    /// The only root port whose tree is wanted.
+    pub root: Option<Location>,
+    /// May endpoints be left out?
+    pub partial: bool,
 }
 
 /// Reads the words of the command line, without the program's name.
@@ -184,13 +195,13 @@ fn word_in<'a>(words: &ArgMatches<'a>, name: &str) -> Option<&'a str>
     words.get_str(name)
 }
 
-/// The ID that the word behind `--root` is, if it is there. None where it is none.
-fn root_in<'a>(words: &ArgMatches<'a>) -> Option<Option<Bdf>>
+/// The place that the word behind `--root` names, if it is there. None where it names none.
+fn root_in<'a>(words: &ArgMatches<'a>) -> Option<Option<Location>>
     ensures { result ≡ root_in (first_of (codes "root") (rows_of (found_of words.now))) }
 {
     match word_in(words, "root") {
         None => Some(None),
-        Some(word) => Some(Some(id(word.as_bytes())?)),
+        Some(word) => Some(Some(location_of(word.as_bytes())?)),
     }
 }
 
@@ -226,7 +237,14 @@ fn import_in<'a>(words: &ArgMatches<'a>) -> Option<Request<'a>>
     let dump = word_in(words, "DUMP")?;
     let owners = word_in(words, "owners");
     let root = root_in(words)?;
-    Some(Request::Import { dump, owners, root })
+    let partial = is_flag(words, "partial");
+    let asked = Importing {
+        dump,
+        owners,
+        root,
+        partial,
+    };
+    Some(Request::Import { asked })
 }
 
 /// The names of the files of a layout and of this.

@@ -2,7 +2,6 @@
 use Rattle.std.specs.Prelude.{ℕ, ◌++◌, ◌==◌, ◌&&◌, Bool, true, false, not, List, [], codes, Option, Some, None, if◌then◌else◌}
 use Rattle.std.specs.List.{find, flat_map, list_any}
 use Rattle.fab_types.specs.Id.{bus_of}
-use Rattle.fab_types.specs.Texts.{id_text}
 use Rattle.platform.specs.Owners.{holds_bus}
 use Rattle.platform.specs.Platform.{Platform}
 use Rattle.platform.specs.declared.parts.DownstreamPort.{DownstreamPort}
@@ -10,11 +9,13 @@ use Rattle.attacks.specs.Controls.{control_name, is_set}
 use Rattle.attacks.specs.declared.control.Control.{Control}
 use Rattle.attacks.specs.declared.control.Control.TheVariants.{SourceValidation, TranslationBlocking, RequestRedirect, CompletionRedirect, UpstreamForwarding}
 use Rattle.attacks.specs.declared.findings.Findings.{Findings}
-use Rattle.attacks.specs.declared.findings.Findings.TheVariants.{Guarded, Unguarded}
+use Rattle.attacks.specs.declared.findings.Findings.TheVariants.{NothingToKeep, Guarded, Unguarded}
 use Rattle.attacks.specs.declared.findings.Pair.{Pair}
 use Rattle.attacks.specs.declared.findings.Witness.{Witness}
 use Rattle.findings_text.specs.declared.idle.Obstacle.{Obstacle}
 use Rattle.findings_text.specs.declared.idle.Obstacle.TheVariants.{Above, Below, Nothing}
+use Rattle.findings_text.specs.declared.remarks.Named.{Named}
+use Rattle.findings_text.specs.Remarks.{named_id}
 
 abbrev pub is_source : Control → Bool
 is_source SourceValidation = true
@@ -61,42 +62,47 @@ obstacle_among (Some other) below = Above other.id
 abbrev pub obstacle_of : List DownstreamPort → DownstreamPort → Control → Obstacle
 obstacle_of ports port control = obstacle_among (find (is_set_above port control) ports) (find (is_set_below port control) ports)
 
-abbrev pub above_text : ℕ → List ℕ
-above_text other = id_text other ++ codes " above it still stops "
+-- a port above stops this too
+abbrev pub above_text : List Named → ℕ → List ℕ → List ℕ
+above_text names other stopped = named_id names other ++ codes " above it still stops " ++ stopped
 
 -- a port below stops what comes from below itself alone
-abbrev pub below_text : ℕ → List ℕ
-below_text other = id_text other ++ codes " below it stops what comes from there by that control\n"
+abbrev pub below_text : List Named → ℕ → List ℕ
+below_text names other = named_id names other ++ codes " below it stops what comes from there by that control\n"
 
 -- what still stops this, if anything
-abbrev pub reason_text : Obstacle → List ℕ → List ℕ
-reason_text (Above other) stopped = above_text other ++ stopped
-reason_text (Below other) stopped = below_text other
-reason_text Nothing stopped = codes "nothing below it was seen to use that\n"
+abbrev pub reason_text : List Named → Obstacle → List ℕ → List ℕ
+reason_text names (Above other) stopped = above_text names other stopped
+reason_text names (Below other) stopped = below_text names other
+reason_text names Nothing stopped = codes "nothing below it was seen to use that\n"
 
-abbrev pub idle_head : DownstreamPort → Control → List ℕ
-idle_head port control = id_text port.id ++ codes " lacks " ++ control_name control ++ codes "; "
+abbrev pub lack_text : Control → List ℕ
+lack_text control = codes " lacks " ++ control_name control ++ codes "; "
 
-abbrev pub stop_text : List DownstreamPort → DownstreamPort → Control → List ℕ
-stop_text ports port SourceValidation = reason_text (obstacle_of ports port SourceValidation) (codes "a spoofed ID\n")
-stop_text ports port TranslationBlocking = reason_text (obstacle_of ports port TranslationBlocking) (codes "a translated address\n")
-stop_text ports port RequestRedirect = codes "no function below it was seen to reach one of another domain beside it\n"
-stop_text ports port CompletionRedirect = codes "a completion still goes to whom it answers\n"
-stop_text ports port UpstreamForwarding = codes "a request for its own window is still refused there\n"
+abbrev pub idle_head : List Named → DownstreamPort → Control → List ℕ
+idle_head names port control = named_id names port.id ++ lack_text control
 
-abbrev pub idle_line : List DownstreamPort → DownstreamPort → Control → List ℕ
-idle_line ports port control = idle_head port control ++ stop_text ports port control
+abbrev pub stop_text : List Named → List DownstreamPort → DownstreamPort → Control → List ℕ
+stop_text names ports port SourceValidation = reason_text names (obstacle_of ports port SourceValidation) (codes "a spoofed ID\n")
+stop_text names ports port TranslationBlocking = reason_text names (obstacle_of ports port TranslationBlocking) (codes "a translated address\n")
+stop_text names ports port RequestRedirect = codes "no function below it was seen to reach one of another domain beside it\n"
+stop_text names ports port CompletionRedirect = codes "a completion still goes to whom it answers\n"
+stop_text names ports port UpstreamForwarding = codes "a request for its own window is still refused there\n"
 
-abbrev pub idle_of : List DownstreamPort → List Pair → DownstreamPort → Control → List ℕ
-idle_of ports pairs port control = if is_idle pairs port control then idle_line ports port control else []
+abbrev pub idle_line : List Named → List DownstreamPort → DownstreamPort → Control → List ℕ
+idle_line names ports port control = idle_head names port control ++ stop_text names ports port control
+
+abbrev pub idle_of : List Named → List DownstreamPort → List Pair → DownstreamPort → Control → List ℕ
+idle_of names ports pairs port control = if is_idle pairs port control then idle_line names ports port control else []
 
 -- the lines of a port
-abbrev pub idle_lines : List DownstreamPort → List Pair → DownstreamPort → List ℕ
-idle_lines ports pairs port =
-    idle_of ports pairs port SourceValidation ++ idle_of ports pairs port TranslationBlocking ++ idle_of ports pairs port RequestRedirect
-    ++ idle_of ports pairs port CompletionRedirect ++ idle_of ports pairs port UpstreamForwarding
+abbrev pub idle_lines : List Named → List DownstreamPort → List Pair → DownstreamPort → List ℕ
+idle_lines names ports pairs port =
+    idle_of names ports pairs port SourceValidation ++ idle_of names ports pairs port TranslationBlocking ++ idle_of names ports pairs port RequestRedirect
+    ++ idle_of names ports pairs port CompletionRedirect ++ idle_of names ports pairs port UpstreamForwarding
 
 -- and of all ports, in a layout that isn't guarded
-abbrev pub idle_text : Platform → Findings → List ℕ
-idle_text platform Guarded = []
-idle_text platform (Unguarded pairs) = flat_map (idle_lines platform.ports pairs.items) platform.ports
+abbrev pub idle_text : Platform → List Named → Findings → List ℕ
+idle_text platform names NothingToKeep = []
+idle_text platform names Guarded = []
+idle_text platform names (Unguarded pairs) = flat_map (idle_lines names platform.ports pairs.items) platform.ports

@@ -1,4 +1,7 @@
 pub mod Idle
 pub mod Linux
+pub mod RemarkViews
+pub mod Remarks
+pub mod Summary
 pub mod Tree
 pub mod Witnesses

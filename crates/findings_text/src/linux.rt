@@ -5,6 +5,7 @@ ghost use Rattle.std.specs.Io.KnownBytes.{Appends};
 ghost use Rattle.std.specs.List.{flat_map};
 ghost use Rattle.findings_text.specs.Linux.{apart_head, apart_line, apart_lines, apart_tail, apart_text, group_line, group_lines, linux_text, member_text};
 
+use crate::remarks::{Remarks, write_with_id};
 use attacks::{Findings, Pair};
 use fab_types::{Bdf, DomainId};
 use iommu_groups::{Member, have_common_group, members_of};
@@ -14,51 +15,70 @@ use std::io;
 use std::io::Write;
 
 /// Writes the ID of a device, if it is in this group.
-fn write_member<W: Write>(out: &mut W, group: Bdf, member: &Member) -> io::Result<()>
-    ensures { OnOk result (Appends (W.contents out.old) (W.contents out.new) (member_text group member.now)) }
+fn write_member<W: Write>(
+    out: &mut W,
+    remarks: &Remarks,
+    group: Bdf,
+    member: &Member,
+) -> io::Result<()>
+    ensures { OnOk result (Appends (W.contents out.old) (W.contents out.new) (member_text remarks.now.names group member.now)) }
 {
-    let device = member.device;
     if member.group == group {
-        write!(out, " {device}")
+        write_with_id(out, remarks, b" ", member.device)
     } else {
         Ok(())
     }
 }
 
-fn write_members<W: Write>(out: &mut W, group: Bdf, members: &[Member]) -> io::Result<()>
-    ensures { OnOk result (Appends (W.contents out.old) (W.contents out.new) (flat_map (member_text group) members.now)) }
+fn write_members<W: Write>(
+    out: &mut W,
+    remarks: &Remarks,
+    group: Bdf,
+    members: &[Member],
+) -> io::Result<()>
+    ensures { OnOk result (Appends (W.contents out.old) (W.contents out.new) (flat_map (member_text remarks.now.names group) members.now)) }
 {
     for member in members {
-        write_member(out, group, member)?;
+        write_member(out, remarks, group, member)?;
     }
     Ok(())
 }
 
-fn write_group<W: Write>(out: &mut W, members: &[Member], group: Bdf) -> io::Result<()>
-    ensures { OnOk result (Appends (W.contents out.old) (W.contents out.new) (group_line members.now group)) }
+fn write_group<W: Write>(
+    out: &mut W,
+    remarks: &Remarks,
+    members: &[Member],
+    group: Bdf,
+) -> io::Result<()>
+    ensures { OnOk result (Appends (W.contents out.old) (W.contents out.new) (group_line remarks.now.names members.now group)) }
 {
     out.write_all(b"linux group")?;
-    write_members(out, group, members)?;
+    write_members(out, remarks, group, members)?;
     out.write_all(b"\n")?;
     Ok(())
 }
 
 /// Writes the line of the group that this device is the first of, if it is.
-fn write_group_of<W: Write>(out: &mut W, members: &[Member], member: &Member) -> io::Result<()>
-    ensures { OnOk result (Appends (W.contents out.old) (W.contents out.new) (group_lines members.now member.now)) }
+fn write_group_of<W: Write>(
+    out: &mut W,
+    remarks: &Remarks,
+    members: &[Member],
+    member: &Member,
+) -> io::Result<()>
+    ensures { OnOk result (Appends (W.contents out.old) (W.contents out.new) (group_lines remarks.now.names members.now member.now)) }
 {
     if member.group == member.device {
-        write_group(out, members, member.device)
+        write_group(out, remarks, members, member.device)
     } else {
         Ok(())
     }
 }
 
-fn write_groups<W: Write>(out: &mut W, members: &[Member]) -> io::Result<()>
-    ensures { OnOk result (Appends (W.contents out.old) (W.contents out.new) (flat_map (group_lines members.now) members.now)) }
+fn write_groups<W: Write>(out: &mut W, remarks: &Remarks, members: &[Member]) -> io::Result<()>
+    ensures { OnOk result (Appends (W.contents out.old) (W.contents out.new) (flat_map (group_lines remarks.now.names members.now) members.now)) }
 {
     for member in members {
-        write_group_of(out, members, member)?;
+        write_group_of(out, remarks, members, member)?;
     }
     Ok(())
 }
@@ -108,7 +128,7 @@ fn write_all_apart<W: Write>(out: &mut W, members: &[Member], findings: &Finding
     ensures { OnOk result (Appends (W.contents out.old) (W.contents out.new) (apart_lines members.now findings.now)) }
 {
     match findings {
-        Findings::Guarded => Ok(()),
+        Findings::NothingToKeep | Findings::Guarded => Ok(()),
         Findings::Unguarded(pairs) => write_pairs_apart(out, members, pairs),
     }
 }
@@ -119,12 +139,13 @@ pub(crate) fn write_linux<W: Write>(
     alloc: Global,
     out: &mut W,
     layout: &Layout,
+    remarks: &Remarks,
     findings: &Findings,
 ) -> io::Result<()>
-    ensures { OnOk result (Appends (W.contents out.old) (W.contents out.new) (linux_text layout.now findings.now)) }
+    ensures { OnOk result (Appends (W.contents out.old) (W.contents out.new) (linux_text layout.now remarks.now.names findings.now)) }
 {
     let members = members_of(alloc, layout)?;
-    write_groups(out, &members)?;
+    write_groups(out, remarks, &members)?;
     write_all_apart(out, &members, findings)?;
     Ok(())
 }

@@ -1,46 +1,75 @@
 //! A witness as text, and the script that shows it.
 
-ghost use Rattle.std.specs.Prelude.{◌≡◌, OnOk};
+ghost use Rattle.std.specs.Prelude.{◌≡◌, ◌++◌, OnOk};
 ghost use Rattle.std.specs.Io.KnownBytes.{Appends};
 ghost use Rattle.attacks.specs.Packets.{own_read};
-ghost use Rattle.findings_text.specs.Witnesses.{closed_text, harm_text, head_text, own_text, read_text, script_text, submitter_text, sweeps_text, witness_text};
+ghost use Rattle.findings_text.specs.Witnesses.{closed_text, control_text, harm_text, head_text, own_text, pair_text, read_text, script_text, steps_text, submitter_text, sweeps_text, witness_text};
 ghost use Rattle.reports.specs.Report.{packet_text};
 
-use attacks::{Harm, OwnRead, Witness};
-use fab_types::Bdf;
+use crate::remarks::{Remarks, write_with_id};
+use attacks::{Control, Harm, OwnRead, Witness};
+use fab_types::{Bdf, DomainId};
 use std::alloc::Global;
 use std::io;
 use std::io::{ErrorKind, Write};
 
-fn write_closed<W: Write>(out: &mut W, function: Bdf) -> io::Result<()>
-    ensures { OnOk result (Appends (W.contents out.old) (W.contents out.new) (closed_text function)) }
+fn write_closed<W: Write>(out: &mut W, remarks: &Remarks, function: Bdf) -> io::Result<()>
+    ensures { OnOk result (Appends (W.contents out.old) (W.contents out.new) (closed_text remarks.now.names function)) }
 {
-    write!(out, "Tag of {function} closed by another's completion")
+    write_with_id(out, remarks, b"Tag of ", function)?;
+    out.write_all(b" closed by another's completion")?;
+    Ok(())
 }
 
-fn write_harm<W: Write>(out: &mut W, harm: &Harm) -> io::Result<()>
-    ensures { OnOk result (Appends (W.contents out.old) (W.contents out.new) (harm_text harm.now)) }
+/// Writes how a packet harms that this function submits.
+fn write_harm<W: Write>(
+    out: &mut W,
+    remarks: &Remarks,
+    submitter: Bdf,
+    harm: &Harm,
+) -> io::Result<()>
+    ensures { OnOk result (Appends (W.contents out.old) (W.contents out.new) (harm_text remarks.now.names submitter harm.now)) }
 {
     match harm {
         Harm::FrameWritten(frame) => write!(out, "write to frame {frame}"),
         Harm::FrameRead(frame) => write!(out, "read of frame {frame}"),
-        Harm::RegistersWritten(function) => write!(out, "write to registers of {function}"),
-        Harm::RegistersRead(function) => write!(out, "read of registers of {function}"),
-        Harm::TagClosed(read) => write_closed(out, read.function),
+        Harm::RegistersWritten(function) => {
+            write_with_id(out, remarks, b"write to registers of ", *function)
+        }
+        Harm::RegistersRead(function) => {
+            write_with_id(out, remarks, b"read of registers of ", *function)
+        }
+        Harm::TagClosed(read) => write_closed(out, remarks, read.function),
         Harm::Completion => write!(out, "completion not asked for"),
         Harm::Counts => write!(out, "counts changed"),
+        Harm::AnswersFrame(_) | Harm::AnswersRegisters(_) => {
+            write_with_id(out, remarks, b"answers reads of ", submitter)
+        }
     }
 }
 
-/// Writes who reaches whom, how, and past which port and control.
-fn write_head<W: Write>(out: &mut W, witness: &Witness) -> io::Result<()>
-    ensures { OnOk result (Appends (W.contents out.old) (W.contents out.new) (head_text witness.now)) }
+fn write_pair_head<W: Write>(out: &mut W, attacker: DomainId, victim: DomainId) -> io::Result<()>
+    ensures { OnOk result (Appends (W.contents out.old) (W.contents out.new) (pair_text attacker victim)) }
 {
-    let (attacker, victim) = (witness.attacker, witness.victim);
-    let (port, control) = (witness.port, witness.control.name());
-    write!(out, "domain {attacker} reaches domain {victim}: ")?;
-    write_harm(out, &witness.harm)?;
-    writeln!(out, " at {port}, {control} clear")
+    write!(out, "domain {attacker} reaches domain {victim}: ")
+}
+
+fn write_control<W: Write>(out: &mut W, control: Control) -> io::Result<()>
+    ensures { OnOk result (Appends (W.contents out.old) (W.contents out.new) (control_text control)) }
+{
+    let name = control.name();
+    writeln!(out, ", {name} clear")
+}
+
+/// Writes who reaches whom, how, and past which port and control.
+fn write_head<W: Write>(out: &mut W, remarks: &Remarks, witness: &Witness) -> io::Result<()>
+    ensures { OnOk result (Appends (W.contents out.old) (W.contents out.new) (head_text remarks.now.names witness.now)) }
+{
+    write_pair_head(out, witness.attacker, witness.victim)?;
+    write_harm(out, remarks, witness.function, &witness.harm)?;
+    write_with_id(out, remarks, b" at ", witness.port.id())?;
+    write_control(out, witness.control)?;
+    Ok(())
 }
 
 /// Writes the bytes of a packet, and ends the line.
@@ -86,10 +115,10 @@ fn write_own<W: Write>(alloc: Global, out: &mut W, harm: &Harm) -> io::Result<()
     }
 }
 
-/// Writes the script that shows a witness.
-/// It has the packet, a read of the harmed domain's own if there is one, and sweeps.
-pub fn write_script<W: Write>(alloc: Global, out: &mut W, witness: &Witness) -> io::Result<()>
-    ensures { OnOk result (Appends (W.contents out.old) (W.contents out.new) (script_text witness.now)) }
+/// Writes what shows a witness.
+/// That is the packet, a read of the harmed domain's own if there is one, and sweeps.
+fn write_steps<W: Write>(alloc: Global, out: &mut W, witness: &Witness) -> io::Result<()>
+    ensures { OnOk result (Appends (W.contents out.old) (W.contents out.new) (steps_text witness.now)) }
 {
     write_submitter(out, witness.function)?;
     write_packet(alloc, out, witness.bytes.as_slice())?;
@@ -98,15 +127,31 @@ pub fn write_script<W: Write>(alloc: Global, out: &mut W, witness: &Witness) -> 
     Ok(())
 }
 
-/// Writes a witness, and the script that shows it.
+/// Writes a witness, and what shows it.
 pub(crate) fn write_witness<W: Write>(
     alloc: Global,
     out: &mut W,
+    remarks: &Remarks,
     witness: &Witness,
 ) -> io::Result<()>
-    ensures { OnOk result (Appends (W.contents out.old) (W.contents out.new) (witness_text witness.now)) }
+    ensures { OnOk result (Appends (W.contents out.old) (W.contents out.new) (witness_text remarks.now.names witness.now)) }
 {
-    write_head(out, witness)?;
-    write_script(alloc, out, witness)?;
+    write_head(out, remarks, witness)?;
+    write_steps(alloc, out, witness)?;
+    Ok(())
+}
+
+/// Writes the script that shows a witness, which begins with a comment that says what it shows.
+/// Behind the ID of a device there stands where its machine has it, if the remarks say so.
+pub fn write_script<W: Write>(
+    alloc: Global,
+    out: &mut W,
+    remarks: &Remarks,
+    witness: &Witness,
+) -> io::Result<()>
+    ensures { OnOk result (Appends (W.contents out.old) (W.contents out.new) (script_text remarks.now witness.now)) }
+{
+    out.write_all(b"# ")?;
+    write_witness(alloc, out, remarks, witness)?;
     Ok(())
 }

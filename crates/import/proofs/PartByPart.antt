@@ -2,7 +2,7 @@
 use Rattle.std.proofs.Common.{◌≡◌, ℕ, ◌+◌, ◌<◌, ◌≤◌, List, ◌∷◌, length, drop, refl, sym, ap, ◌∙◌, subst}
 use Rattle.std.specs.Prelude.{slice_index_or}
 use Rattle.std.proofs.lemmas.List.{drop_all, drop_more}
-use Rattle.import.specs.declared.fault.LeftOut.{LeftOut}
+use Rattle.import.specs.declared.reason.LeftOut.{LeftOut}
 use Rattle.layout_draft.specs.DraftViews.{Written}
 use Rattle.import.specs.Told.{IsToldOf, TellEach}
 

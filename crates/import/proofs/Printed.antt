@@ -1,6 +1,6 @@
 -- What comments have is printable.
-use Rattle.std.proofs.Common.{◌≡◌, ℕ, zero, suc, length, ◌-◌, ◌/◌, ◌%◌, ◌<◌, ◌^◌, ◌==◌, Bool, true, false, cond, List, [], ◌∷◌, ◌++◌, replicate, refl, ◌∙◌, arith}
-use Rattle.std.specs.Prelude.{IsAscii, codes, slice_index}
+use Rattle.std.proofs.Common.{◌≡◌, ℕ, zero, suc, length, ◌-◌, ◌/◌, ◌%◌, ◌<◌, ◌^◌, ◌==◌, Bool, true, false, cond, List, [], ◌∷◌, ◌++◌, replicate, Option, Some, None, refl, ap, ◌∙◌, arith}
+use Rattle.std.specs.Prelude.{IfSome, IsAscii, codes, slice_index}
 use Rattle.std.specs.Fmt.{decimal, digit_glyph, digits, digits_onto, format_spec, number_padding, padded_integral}
 use Rattle.std.specs.List.{list_all}
 use Rattle.std.proofs.lemmas.Bool.{and_from, and_parts}
@@ -10,7 +10,12 @@ use Rattle.fab_types.specs.Id.{bus_of, device_of, function_of}
 use Rattle.fab_types.specs.Texts.{byte_text, id_text}
 use Rattle.lspci.specs.declared.lines.Location.{Location}
 use Rattle.layout_draft.specs.Comments.{IsPrintable, is_printable}
-use Rattle.import.specs.Names.{location_text}
+use Rattle.import.specs.declared.reason.MachineId.{MachineId}
+use Rattle.import.specs.declared.reason.Reason.{Reason}
+use Rattle.import.specs.declared.reason.Reason.TheVariants as reason
+use Rattle.import.specs.declared.reason.Why.{Why}
+use Rattle.import.specs.Reasons.{reason_words, why_words, words_behind}
+use Rattle.lspci.specs.Lines.{location_text}
 
 pub joined : (front back : List ℕ) → IsPrintable front → IsPrintable back → IsPrintable (front ++ back)
 joined front back one other = list_all-append is_printable front back ∙ and_from (list_all is_printable front) (list_all is_printable back) one other
@@ -88,6 +93,39 @@ is_ascii (b ∷ words) h =
     let parts = and_parts (is_printable b) (list_all is_printable words) h in
     ascii_before b words (small b parts.0) (is_ascii words parts.1)
 
--- the words of a part that is left out
-pub words_printable : (name reason : List ℕ) → IsPrintable name → IsPrintable reason → IsPrintable (codes "left out: " ++ (name ++ (codes ": " ++ reason)))
-words_printable name reason h k = joined (codes "left out: ") (name ++ (codes ": " ++ reason)) refl (joined name (codes ": " ++ reason) h k)
+-- ---- why a device has no place
+
+abbrev IfPrintable : Option (List ℕ) → Type 0
+IfPrintable words = IfSome words IsPrintable
+
+reason_printable : (r : Reason) → IfPrintable (reason_words r)
+reason_printable reason.Segment = refl
+reason_printable reason.OtherRoot = refl
+reason_printable reason.Kind = refl
+reason_printable reason.Conventional = refl
+reason_printable reason.Virtual = refl
+reason_printable reason.Outside = refl
+reason_printable reason.Above = refl
+reason_printable reason.Integrated = refl
+reason_printable reason.Unreached = refl
+reason_printable reason.Function = refl
+reason_printable reason.Buses = refl
+reason_printable reason.Window = refl
+reason_printable reason.Page = refl
+reason_printable (reason.Rule cause) = tt
+
+behind_printable : (port : Option MachineId) (words : Option (List ℕ)) → IfPrintable words → IfPrintable (words_behind port words)
+behind_printable None words h = h
+behind_printable (Some port) None h = tt
+behind_printable (Some port) (Some words) h =
+    let location : Location = record { segment = port.segment; id = port.bits } in
+    let place = location_text location ++ (codes ", has no place: " ++ words) in
+    joined (codes "the port above it, ") place refl (joined (location_text location) (codes ", has no place: " ++ words) (location_printable location) (joined (codes ", has no place: ") words refl h))
+
+-- where words that are the own ones aren't printable there are none
+unless_printable : (own : Option (List ℕ)) (words none : List ℕ) → none ≡ [] → IfPrintable own → IfSome own (λ w. words ≡ w) → list_all is_printable words ≡ false → IfSome own (λ w. none ≡ w)
+unless_printable None words none empty h e not_so = tt
+unless_printable (Some w) words none empty h e not_so = let yes : list_all is_printable words ≡ true = ap (list_all is_printable) e ∙ h in absurd cc
+
+pub none_printable : (why : Why) (words none : List ℕ) → none ≡ [] → IfSome (why_words why) (λ own. words ≡ own) → list_all is_printable words ≡ false → IfSome (why_words why) (λ own. none ≡ own)
+none_printable why words none empty = unless_printable (why_words why) words none empty (behind_printable why.port (reason_words why.reason) (reason_printable why.reason))

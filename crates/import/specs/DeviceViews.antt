@@ -1,7 +1,7 @@
 -- What a clause sees of a layout that is made device by device.
 use Rattle.std.specs.Prelude.{List}
 use Rattle.import.specs.declared.devices.Devices.TheInside.{Inside}
-use Rattle.import.specs.declared.fault.LeftOut.{LeftOut}
+use Rattle.import.specs.declared.reason.LeftOut.{LeftOut}
 use Rattle.layout_draft.specs.DraftViews.{Written}
 
 -- a layout, and what it hasn't of the devices, in the order of their lines

@@ -1,11 +1,10 @@
 -- What a device is called in comments, and what is told there of a port.
-use Rattle.std.specs.Prelude.{ℕ, ◌-◌, ◌^◌, Bool, false, ◌&&◌, nat_le, List, [], ◌++◌, length, Option, Some, None, codes, slice_get, if◌then◌else◌}
-use Rattle.std.specs.Fmt.{digits, format_spec, padded_integral}
+use Rattle.std.specs.Prelude.{ℕ, ◌-◌, Bool, ◌&&◌, nat_le, List, length, Option, Some, None, codes, slice_get, if◌then◌else◌}
 use Rattle.std.specs.List.{list_all}
-use Rattle.fab_types.specs.Texts.{id_text}
 use Rattle.lspci.specs.declared.acs.Acs.{Acs}
 use Rattle.lspci.specs.declared.acs.Acs.TheVariants.{Absent, Unknown, Standard, Wide}
 use Rattle.lspci.specs.declared.lines.Location.{Location}
+use Rattle.lspci.specs.Lines.{location_text, trimmed}
 use Rattle.text.specs.Text.{pieces}
 use Rattle.layout_draft.specs.Comments.{is_printable}
 
@@ -17,13 +16,9 @@ line_at text number = slice_get (pieces text) (number - 1)
 abbrev pub is_name : List ℕ → Bool
 is_name line = nat_le (length line) 120 && list_all is_printable line
 
--- a location as `0000:00:1c.0`: the segment in four hexadecimal digits at least
-abbrev pub location_text : Location → List ℕ
-location_text location = padded_integral (format_spec 32 0 4 4 (2 ^ 64 - 1)) false [] (digits 16 false location.segment) ++ (codes ":" ++ id_text location.id)
-
 abbrev pub name_or : Option (List ℕ) → List ℕ → List ℕ
 name_or None place = place
-name_or (Some line) place = if is_name line then line else place
+name_or (Some line) place = if is_name (trimmed line) then trimmed line else place
 
 -- the line of a dump in which a device begins, or only where the device is
 abbrev pub name_of : List ℕ → ℕ → Location → List ℕ

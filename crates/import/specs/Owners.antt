@@ -2,7 +2,8 @@
 use Rattle.std.specs.Prelude.{ℕ, ◌&&◌, nat_le, List, [], ◌∷◌, Option, Some, None, option_map, Result, if◌then◌else◌}
 use Rattle.fab_types.specs.declared.faults.script.ScriptFault.{ScriptFault}
 use Rattle.line_reader.specs.Reading as lines
-use Rattle.text.specs.Text.{◌>>=◌, at_blank, decimal, id_at}
+use Rattle.lspci.specs.Lines.{location_of}
+use Rattle.text.specs.Text.{◌>>=◌, at_blank, decimal}
 use Rattle.import.specs.declared.owners.Owner.{Owner}
 
 -- domains have the numbers 1 to 31
@@ -12,13 +13,13 @@ if_domain number = if nat_le 1 number && nat_le number 31 then Some number else 
 abbrev pub domain_text : List ℕ → Option ℕ
 domain_text field = decimal field >>= if_domain
 
--- `03:00.0 1`
+-- `03:00.0 1`, or `0001:03:00.0 1`
 abbrev pub owner_text : List ℕ → Option Owner
 owner_text line = do
   fields ← at_blank line
-  id ← id_at fields.0
+  location ← location_of fields.0
   domain ← domain_text fields.1
-  Some (record { id = id; domain = domain })
+  Some (record { location = location; domain = domain })
 
 abbrev pub said : ℕ → List ℕ → Option (List Owner)
 said number line = option_map (λ owner. owner ∷ []) (owner_text line)

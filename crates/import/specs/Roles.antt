@@ -1,15 +1,13 @@
--- What a device is to a layout, and what a layout takes of it.
-use Rattle.std.specs.Prelude.{ℕ, ◌%◌, ◌^◌, ◌==◌, Bool, true, false, ◌&&◌, nat_le, nat_lt, List, Option, Some, None, is_some, if◌then◌else◌}
-use Rattle.lspci.specs.declared.acs.Acs.{Acs}
-use Rattle.lspci.specs.declared.acs.Acs.TheVariants.{Absent, Unknown, Standard, Wide}
+-- What a device is to a layout, and what window a layout takes of it.
+use Rattle.std.specs.Prelude.{ℕ, ◌^◌, ◌==◌, Bool, true, false, ◌&&◌, ◌||◌, not, nat_lt, List, Option, Some, None, is_some, if◌then◌else◌}
 use Rattle.lspci.specs.declared.capabilities.PortType.{PortType}
 use Rattle.lspci.specs.declared.capabilities.PortType.TheVariants as port
 use Rattle.lspci.specs.declared.header.HeaderKind.{HeaderKind}
 use Rattle.lspci.specs.declared.header.HeaderKind.TheVariants as kind
 use Rattle.lspci.specs.declared.header.Window.{Window}
-use Rattle.lspci.specs.Acs.{acs_of, is_number}
+use Rattle.lspci.specs.Acs.{is_number, passes}
 use Rattle.lspci.specs.Capabilities.{port_type_of}
-use Rattle.lspci.specs.Headers.{class_of, kind_of, memory_window, prefetchable_window}
+use Rattle.lspci.specs.Headers.{class_of, device_of, kind_of, memory_window, prefetchable_window, vendor_of}
 use Rattle.import.specs.declared.role.LowWindow.{LowWindow}
 use Rattle.import.specs.declared.role.Role.{Role}
 use Rattle.import.specs.declared.role.Role.TheVariants as role
@@ -64,17 +62,20 @@ port_window bytes = first_window (set_window (memory_window bytes)) (set_window 
 abbrev pub has_further_window : List ℕ → Bool
 has_further_window bytes = is_some (set_window (memory_window bytes)) && is_some (set_window (prefetchable_window bytes))
 
--- a port without the capability has no controls
-abbrev pub control_register : Acs → ℕ
-control_register Absent = 0
-control_register Unknown = 0
-control_register (Standard capability control) = control
-control_register (Wide capability control) = control
+-- ---- functions that are no bridges
 
--- the five controls, V, B, R, C and U
-abbrev pub controls_of : List ℕ → ℕ
-controls_of bytes = control_register (acs_of bytes) % 32
+abbrev pub is_plain : Option HeaderKind → Bool
+is_plain (Some kind.Endpoint) = true
+is_plain _ = false
 
--- further ones are set
-abbrev pub has_further_controls : List ℕ → Bool
-has_further_controls bytes = nat_le 32 (control_register (acs_of bytes))
+-- a virtual function has no IDs of its own (PCIe 4.0, 9.3.4)
+abbrev pub is_virtual : List ℕ → Bool
+is_virtual bytes = is_plain (kind_of bytes) && is_number 0xffff (vendor_of bytes) && is_number 0xffff (device_of bytes)
+
+-- a host bridge, an ISA bridge, an SMBus controller
+abbrev pub is_board_class : ℕ → Bool
+is_board_class class = (class == 0x0600) || (class == 0x0601) || (class == 0x0c05)
+
+-- somebody may want it isolated: it is no bridge, and no part of the board
+abbrev pub is_endpoint : List ℕ → Bool
+is_endpoint bytes = is_plain (kind_of bytes) && passes (λ class. not (is_board_class class)) (class_of bytes)

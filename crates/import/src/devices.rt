@@ -1,21 +1,23 @@
 //! A layout that is made device by device.
 
-ghost use Rattle.std.specs.Prelude.{◌≡◌, ◌≤◌, IfOk};
-ghost use Rattle.import.specs.Devices.{first_map, leaving_out, no_devices, with_device, with_extras, with_map, with_more, with_statement};
+ghost use Rattle.std.specs.Prelude.{◌≡◌, ◌≤◌, IfOk, None, Some, if◌then◌else◌};
+ghost use Rattle.import.specs.Devices.{first_map, leaving_out, no_devices, version_of, with_device, with_line_of, with_map, with_more, with_statement, with_vector};
 ghost use Rattle.layout_draft.specs.Stated.{IsStated};
 ghost use Rattle.import.specs.Told.{IsTold};
 
-use crate::fault::{LeftOut, Reason};
 use crate::names::Names;
 use crate::owners::Owner;
-use crate::role::{has_further_controls, has_further_window};
+use crate::places::why_not;
+use crate::reason::{LeftOut, Reason, Why};
+use crate::role::is_endpoint;
 use crate::statements::statement_of;
 use crate::telling::{tell_device, tell_left_out};
 use crate::tree::Tree;
 use fab_types::NoMemory;
 use layout_draft::Draft;
-use layout_line::{FunctionText, LayoutLine, MapText, RightsText, TargetText};
+use layout_line::{EgressText, FunctionText, LayoutLine, MapText, RightsText, TargetText};
 use lspci::{Device, Dump};
+use platform::LayoutVersion;
 use std::alloc::Global;
 use std::marker::Model;
 
@@ -66,41 +68,49 @@ fn first_map(function: &FunctionText, count: usize) -> LayoutLine
     })
 }
 
+/// Vectors can be said from version 2 on.
+fn version_of(vectors: &[EgressText]) -> LayoutVersion
+    ensures { result ≡ version_of vectors.now }
+{
+    match vectors {
+        [] => LayoutVersion::One,
+        [_, ..] => LayoutVersion::Two,
+    }
+}
+
 impl Devices {
-    /// No device.
-    pub fn start(alloc: Global) -> Result<Devices, NoMemory>
-        ensures { IfOk result (λ devices. devices ≡ no_devices) }
+    /// No device, in a layout with these vectors.
+    pub fn start(alloc: Global, vectors: &[EgressText]) -> Result<Devices, NoMemory>
+        ensures { IfOk result (λ devices. devices ≡ no_devices vectors.now) }
     {
-        let draft = Draft::start(alloc)?;
+        let draft = Draft::start(alloc, version_of(vectors))?;
         Ok(Devices {
             draft,
             left_out: Vec::new(alloc),
         })
     }
 
-    fn leave_out(&mut self, device: &Device, reason: Reason) -> Result<(), NoMemory>
-        ensures { IfOk result (λ _. self.new ≡ leaving_out self.old device.now reason) }
+    fn leave_out(&mut self, dump: &Dump, device: &Device, why: Why) -> Result<(), NoMemory>
+        ensures { IfOk result (λ _. self.new ≡ leaving_out dump.now self.old device.now why) }
     {
         self.left_out.push(LeftOut {
             line: device.line,
             location: device.location,
-            reason,
+            is_endpoint: is_endpoint(&dump.space(device)),
+            why,
         })?;
         Ok(())
     }
 
-    /// Leaves out what a layout hasn't of a port that it has.
-    fn leave_extras_out(&mut self, dump: &Dump, device: &Device) -> Result<(), NoMemory>
-        ensures { IfOk result (λ _. self.new ≡ with_extras dump.now device.now self.old) }
+    fn leave_out_by_itself(
+        &mut self,
+        dump: &Dump,
+        device: &Device,
+        reason: Reason,
+    ) -> Result<(), NoMemory>
+        ensures { IfOk result (λ _. self.new ≡ leaving_out dump.now self.old device.now (record { port = None; reason = reason })) }
     {
-        let space = dump.space(device);
-        if has_further_window(&space) {
-            self.leave_out(device, Reason::FurtherWindow)?;
-        }
-        if has_further_controls(&space) {
-            self.leave_out(device, Reason::FurtherControls)?;
-        }
-        Ok(())
+        self.leave_out(dump, device, Why { port: None, reason })
     }
 
     /// Adds the mapping of a function.
@@ -113,17 +123,10 @@ impl Devices {
     }
 
     /// Adds what goes with a line.
-    fn add_more(
-        &mut self,
-        alloc: Global,
-        dump: &Dump,
-        device: &Device,
-        line: &LayoutLine,
-    ) -> Result<(), NoMemory>
-        ensures { IfOk result (λ _. self.new ≡ with_more dump.now device.now line.now self.old) }
+    fn add_more(&mut self, alloc: Global, line: &LayoutLine) -> Result<(), NoMemory>
+        ensures { IfOk result (λ _. self.new ≡ with_more line.now self.old) }
     {
         match line {
-            LayoutLine::Port(_) => self.leave_extras_out(dump, device),
             LayoutLine::Function(function) => self.map(alloc, function),
             _ => Ok(()),
         }
@@ -134,21 +137,42 @@ impl Devices {
         &mut self,
         alloc: Global,
         dump: &Dump,
+        vectors: &[EgressText],
         names: &mut Names<'_>,
         device: &Device,
         line: &LayoutLine,
     ) -> Result<(), NoMemory>
         requires { IsStated line.now }
-        ensures made { IfOk result (λ _. self.new ≡ with_statement names.old dump.now device.now line.now self.old) }
+        ensures made { IfOk result (λ _. self.new ≡ with_statement names.old dump.now vectors.now device.now line.now self.old) }
         ensures names { names.new ≡ names.old }
     {
         match self.draft.add(alloc, line)? {
-            Some(cause) => self.leave_out(device, Reason::Rule(cause)),
+            Some(cause) => self.leave_out_by_itself(dump, device, Reason::Rule(cause)),
             None => {
                 let name = names.name_of(alloc, device.line, &device.location)?;
-                tell_device(alloc, &mut self.draft, dump, device, line, &name)?;
-                self.add_more(alloc, dump, device, line)
+                let space = dump.space(device);
+                tell_device(alloc, &mut self.draft, &space, vectors, line, &name)?;
+                self.add_more(alloc, line)
             }
+        }
+    }
+
+    /// Adds a device by its own line, or leaves it out.
+    fn take_line(
+        &mut self,
+        alloc: Global,
+        source: &Source<'_>,
+        vectors: &[EgressText],
+        names: &mut Names<'_>,
+        device: &Device,
+    ) -> Result<(), NoMemory>
+        ensures made { IfOk result (λ _. self.new ≡ with_line_of names.old source.now.dump.now source.now.tree source.now.owners.now vectors.now self.old device.now) }
+        ensures names { names.new ≡ names.old }
+    {
+        let ports = self.draft.layout().ports();
+        match statement_of(source, vectors, ports, device) {
+            Ok(line) => self.state(alloc, source.dump, vectors, names, device, &line),
+            Err(reason) => self.leave_out_by_itself(source.dump, device, reason),
         }
     }
 
@@ -158,16 +182,30 @@ impl Devices {
         &mut self,
         alloc: Global,
         source: &Source<'_>,
+        vectors: &[EgressText],
         names: &mut Names<'_>,
         device: &Device,
     ) -> Result<(), NoMemory>
-        ensures made { IfOk result (λ _. self.new ≡ with_device names.old source.now.dump.now source.now.tree source.now.owners.now self.old device.now) }
+        ensures made { IfOk result (λ _. self.new ≡ with_device names.old source.now.dump.now source.now.tree source.now.owners.now vectors.now self.old device.now) }
         ensures names { names.new ≡ names.old }
     {
-        let ports = self.draft.layout().ports();
-        match statement_of(source.dump, &source.tree, source.owners, ports, device) {
-            Ok(line) => self.state(alloc, source.dump, names, device, &line),
-            Err(reason) => self.leave_out(device, reason),
+        match why_not(source.dump, &source.tree, &self.left_out, device) {
+            Some(why) => self.leave_out(source.dump, device, why),
+            None => self.take_line(alloc, source, vectors, names, device),
+        }
+    }
+
+    /// Adds a vector. It answers whether no rule of layouts is against it.
+    pub fn take_vector(&mut self, alloc: Global, vector: &EgressText) -> Result<bool, NoMemory>
+        ensures { IfOk result (λ taken. with_vector vector.now self.old ≡ (if taken then Some self.new else None)) }
+    {
+        // for the proof: an ID has 16 bits, a vector 32
+        let (port, vector) = (vector.port, vector.vector);
+        let _ = port.bits();
+        let line = LayoutLine::Egress(EgressText { port, vector });
+        match self.draft.add(alloc, &line)? {
+            Some(_) => Ok(false),
+            None => Ok(true),
         }
     }
 

@@ -6,16 +6,20 @@ ghost use Rattle.import.specs.Domains.{first_in, free_from, is_given, is_in, is_
 use crate::owners::Owner;
 use crate::tree::Tree;
 use fab_types::Bdf;
-use lspci::BridgeBuses;
+use lspci::{BridgeBuses, Location};
 use platform::{DownstreamPort, domain_of};
 
-/// Is the device of this ID the port itself, or below it?
+/// Is what stands at this place the port itself, or below it?
 #[tactic(auto, unfolding(crate::specs::Domains::is_in))]
-pub fn is_in(port: Bdf, buses: &BridgeBuses, id: Bdf) -> bool
-    ensures { result ≡ is_in port buses.now id }
+pub fn is_in(port: &Location, buses: &BridgeBuses, place: &Location) -> bool
+    ensures { result ≡ is_in port.now buses.now place.now }
 {
-    id == port
-        || port.bus() < id.bus() && buses.secondary <= id.bus() && id.bus() <= buses.subordinate
+    let (above, below) = (port.id, place.id);
+    port.segment == place.segment
+        && (below == above
+            || above.bus() < below.bus()
+                && buses.secondary <= below.bus()
+                && below.bus() <= buses.subordinate)
 }
 
 fn is_listed(owners: &[Owner], number: u8) -> bool
@@ -50,11 +54,11 @@ fn free_from(owners: &[Owner], ports: &[DownstreamPort], left: u8, number: u8) -
 }
 
 /// The first device of the list that is the port or below it.
-pub fn first_in(owners: &[Owner], port: Bdf, buses: &BridgeBuses) -> Option<Owner>
-    ensures { result ≡ first_in owners.now port buses.now }
+pub fn first_in(owners: &[Owner], port: &Location, buses: &BridgeBuses) -> Option<Owner>
+    ensures { result ≡ first_in owners.now port.now buses.now }
 {
     for owner in owners {
-        if is_in(port, buses, owner.id) {
+        if is_in(port, buses, &owner.location) {
             return Some(*owner);
         }
     }
@@ -63,8 +67,8 @@ pub fn first_in(owners: &[Owner], port: Bdf, buses: &BridgeBuses) -> Option<Owne
 
 /// The owner of a port of the top switch: that of the first device in the list that is below it, or a domain of its
 /// own. Where there is none left it is 32, which is no domain.
-fn top_owner(owners: &[Owner], ports: &[DownstreamPort], port: Bdf, buses: &BridgeBuses) -> u8
-    ensures { result ≡ top_owner owners.now ports.now port buses.now }
+fn top_owner(owners: &[Owner], ports: &[DownstreamPort], port: &Location, buses: &BridgeBuses) -> u8
+    ensures { result ≡ top_owner owners.now ports.now port.now buses.now }
 {
     match first_in(owners, port, buses) {
         Some(owner) => owner.domain.get(),
@@ -77,13 +81,13 @@ pub fn owner_of(
     tree: &Tree,
     owners: &[Owner],
     ports: &[DownstreamPort],
-    port: Bdf,
+    port: &Location,
     buses: &BridgeBuses,
     bus: u8,
 ) -> u8
-    ensures { result ≡ owner_of tree.now owners.now ports.now port buses.now bus }
+    ensures { result ≡ owner_of tree.now owners.now ports.now port.now buses.now bus }
 {
-    if port.bus() == tree.bus {
+    if port.id.bus() == tree.bus {
         top_owner(owners, ports, port, buses)
     } else {
         domain_of(

@@ -4,10 +4,10 @@ ghost use Rattle.std.specs.Prelude.{◌≡◌, ◌≤◌, IfOk, IfSome, MatchOpt
 ghost use Rattle.lspci.specs.Acs.{acs_of};
 ghost use Rattle.text.specs.Text.{pieces};
 ghost use Rattle.layout_draft.specs.Comments.{IsPrintable};
-ghost use Rattle.import.specs.Names.{is_name, line_at, location_text, name_of, remark_of};
+ghost use Rattle.import.specs.Names.{is_name, line_at, name_of, remark_of};
 
 use crate::comments::is_printable;
-use lspci::{Acs, ConfigSpace, Location};
+use lspci::{Acs, ConfigSpace, Location, trimmed};
 use std::alloc::{AllocError, Global};
 use std::marker::Model;
 use text::cut;
@@ -75,14 +75,6 @@ fn printed(alloc: Global, words: &[u8]) -> Result<String, AllocError>
     }
 }
 
-/// Where a device is, as `0000:00:1c.0`.
-fn location_text(alloc: Global, location: &Location) -> Result<String, AllocError>
-    ensures { IfOk result (λ text. string_bytes text ≡ location_text location.now) }
-{
-    let (segment, id) = (location.segment, location.id);
-    format!(in alloc; "{segment:04x}:{id}")
-}
-
 impl<'a> Names<'a> {
     /// The lines of this text.
     pub fn new(text: &'a str) -> Names<'a>
@@ -130,8 +122,8 @@ impl<'a> Names<'a> {
         ensures same { self.new ≡ self.old }
     {
         match self.line(line) {
-            Some(words) if is_name(words) => printed(alloc, words),
-            _ => location_text(alloc, location),
+            Some(words) if is_name(trimmed(words)) => printed(alloc, trimmed(words)),
+            _ => format!(in alloc; "{location}"),
         }
     }
 }

@@ -4,10 +4,11 @@ ghost use Rattle.std.specs.Prelude.{◌≡◌, List, Option};
 ghost use Rattle.line_reader.specs.Reading.{IsReading, list_of};
 ghost use Rattle.import.specs.Owners.{domain_text, owner_text, reading, said};
 
-use fab_types::{Bdf, DomainId, ScriptCause, ScriptFault};
+use fab_types::{DomainId, ScriptCause, ScriptFault};
 use line_reader::{LineReader, read_lines};
+use lspci::{Location, location_of};
 use std::alloc::Global;
-use text::{at_blank, decimal, id};
+use text::{at_blank, decimal};
 
 /// The greatest number of a line.
 const LAST_LINE: u32 = 65_536;
@@ -15,8 +16,8 @@ const LAST_LINE: u32 = 65_536;
 /// A device, and the domain that owns it.
 #[derive(Clone, Copy, Debug, PartialEq, Eq)]
 pub struct Owner {
-    /// The ID of the device in its machine.
-    pub id: Bdf,
+    /// Where the device is in its machine.
+    pub location: Location,
     /// The domain.
     pub domain: DomainId,
 }
@@ -27,14 +28,14 @@ fn domain_text(field: &[u8]) -> Option<DomainId>
     DomainId::new(u8::try_from(decimal(field)?).ok()?)
 }
 
-/// What a line says: an ID, a blank, and the number of a domain.
+/// What a line says: a device's place, a blank, and the number of a domain.
 fn owner_text(line: &[u8]) -> Option<Owner>
     ensures { result ≡ owner_text line.now }
 {
     let fields = at_blank(line)?;
-    let id = id(fields.before)?;
+    let location = location_of(fields.before)?;
     let domain = domain_text(fields.after)?;
-    Some(Owner { id, domain })
+    Some(Owner { location, domain })
 }
 
 /// Knows what a line of such a list says.
@@ -59,7 +60,7 @@ impl LineReader for OwnerReader {
     }
 }
 
-/// Reads a list of owners. Each line has an ID, a blank, and the number of a domain, 1 to 31.
+/// Reads a list of owners. Each line has an ID, with or without its segment, a blank, and the number of a domain, 1 to 31.
 /// A line that begins with `#` is a comment.
 ///
 /// # Errors

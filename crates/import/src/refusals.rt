@@ -1,21 +1,30 @@
 //! Why there is no layout of a dump.
 
 ghost use Rattle.std.specs.Prelude.{◌≡◌};
-ghost use Rattle.import.specs.Refusals.{has_device, is_only, is_top, mixed, mixed_at, mixed_below, other_in, refusal, unknown_owner};
+ghost use Rattle.std.specs.List.{list_all};
+ghost use Rattle.import.specs.Refusals.{has_device, is_hidden, is_only, is_top, mixed, mixed_at, mixed_below, other_in, refusal, unknown_owner};
 
 use crate::domains::{first_in, is_in};
 use crate::fault::ImportFault;
 use crate::owners::Owner;
+use crate::reason::MachineId;
 use crate::role::is_port;
-use crate::tree::{Tree, role_at};
+use crate::tree::{Tree, is_at, role_at};
 use fab_types::{Bdf, DomainId};
-use lspci::{BridgeBuses, Device, Dump};
+use lspci::{BridgeBuses, Device, Dump, Location};
+
+/// Is no more shown of each device than what everybody may read, the first 64 bytes?
+pub fn is_hidden(dump: &Dump) -> bool
+    ensures { result ≡ is_hidden dump.now }
+{
+    dump.devices().iter().all(|device| device.count == 64)
+}
 
 #[tactic(auto, unfolding(crate::specs::Refusals::has_device))]
-fn has_device(dump: &Dump, id: Bdf) -> bool
-    ensures { result ≡ has_device dump.now id }
+fn has_device(dump: &Dump, location: &Location) -> bool
+    ensures { result ≡ has_device dump.now location.now }
 {
-    dump.devices().iter().any(|device| device.location.segment == 0 && device.location.id == id)
+    dump.devices().iter().any(|device| is_at(location, device))
 }
 
 /// The first device of the list that the dump hasn't.
@@ -23,7 +32,7 @@ fn unknown_owner(dump: &Dump, owners: &[Owner]) -> Option<Owner>
     ensures { result ≡ unknown_owner dump.now owners.now }
 {
     for owner in owners {
-        if !has_device(dump, owner.id) {
+        if !has_device(dump, &owner.location) {
             return Some(*owner);
         }
     }
@@ -35,13 +44,14 @@ fn is_top(dump: &Dump, tree: &Tree, device: &Device) -> bool
     ensures { result ≡ is_top dump.now tree.now device.now }
 {
     let id = device.location.id;
-    device.location.segment == 0
+    device.location.segment == tree.segment
         && id.bus() == tree.bus
         && is_only(tree.only, id)
         && is_port(role_at(dump, device))
 }
 
-fn is_only(only: Option<Bdf>, id: Bdf) -> bool
+/// Is it that one, where it is one alone?
+pub fn is_only(only: Option<Bdf>, id: Bdf) -> bool
     ensures { result ≡ is_only only id }
 {
     match only {
@@ -51,11 +61,16 @@ fn is_only(only: Option<Bdf>, id: Bdf) -> bool
 }
 
 /// The first device of the list that is the port or below it, and has another owner.
-fn other_in(owners: &[Owner], port: Bdf, buses: &BridgeBuses, domain: DomainId) -> Option<Owner>
-    ensures { result ≡ other_in owners.now port buses.now domain }
+fn other_in(
+    owners: &[Owner],
+    port: &Location,
+    buses: &BridgeBuses,
+    domain: DomainId,
+) -> Option<Owner>
+    ensures { result ≡ other_in owners.now port.now buses.now domain }
 {
     for owner in owners {
-        if is_in(port, buses, owner.id) && owner.domain != domain {
+        if is_in(port, buses, &owner.location) && owner.domain != domain {
             return Some(*owner);
         }
     }
@@ -63,14 +78,14 @@ fn other_in(owners: &[Owner], port: Bdf, buses: &BridgeBuses, domain: DomainId) 
 }
 
 /// Two devices of the list with different owners, if such are the port or below it.
-fn mixed_below(owners: &[Owner], port: Bdf, buses: &BridgeBuses) -> Option<ImportFault>
-    ensures { result ≡ mixed_below owners.now port buses.now }
+fn mixed_below(owners: &[Owner], port: &Location, buses: &BridgeBuses) -> Option<ImportFault>
+    ensures { result ≡ mixed_below owners.now port.now buses.now }
 {
     let one = first_in(owners, port, buses)?;
     let other = other_in(owners, port, buses, one.domain)?;
     Some(ImportFault::TwoOwners {
-        one: one.id,
-        other: other.id,
+        one: MachineId::of(&one.location),
+        other: MachineId::of(&other.location),
     })
 }
 
@@ -83,7 +98,7 @@ fn mixed_at(dump: &Dump, tree: &Tree, owners: &[Owner], device: &Device) -> Opti
         return None;
     }
     let buses = dump.space(device).buses()?;
-    mixed_below(owners, device.location.id, &buses)
+    mixed_below(owners, &device.location, &buses)
 }
 
 /// Two devices of the list with different owners below one port of the top switch.
@@ -98,12 +113,14 @@ fn mixed(dump: &Dump, tree: &Tree, owners: &[Owner]) -> Option<ImportFault>
     None
 }
 
-/// Why there is no layout of these devices, if there is none.
+/// Why the list of owners doesn't fit these devices, if it doesn't.
 pub fn refusal(dump: &Dump, tree: &Tree, owners: &[Owner]) -> Option<ImportFault>
     ensures { result ≡ refusal dump.now tree.now owners.now }
 {
     if let Some(owner) = unknown_owner(dump, owners) {
-        return Some(ImportFault::NoDevice { id: owner.id });
+        return Some(ImportFault::NoDevice {
+            device: MachineId::of(&owner.location),
+        });
     }
     mixed(dump, tree, owners)
 }

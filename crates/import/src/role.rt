@@ -1,9 +1,9 @@
 //! What a device is to a layout.
 
 ghost use Rattle.std.specs.Prelude.{◌≡◌};
-ghost use Rattle.import.specs.Roles.{bridge_role, control_register, controls_of, has_further_controls, has_further_window, is_port, is_root, is_upstream, low_window, port_window, role_of, set_window};
+ghost use Rattle.import.specs.Roles.{bridge_role, has_further_window, is_board_class, is_endpoint, is_port, is_root, is_upstream, is_virtual, low_window, port_window, role_of, set_window};
 
-use lspci::{Acs, ConfigSpace, HeaderKind, PortType, Window};
+use lspci::{ConfigSpace, HeaderKind, PortType, Window};
 
 /// What a device is to a layout.
 #[derive(Clone, Copy, Debug, PartialEq, Eq)]
@@ -118,27 +118,29 @@ pub fn has_further_window(space: &ConfigSpace<'_>) -> bool
     set_window(space.memory_window()).is_some() && set_window(space.prefetchable_window()).is_some()
 }
 
-/// The ACS control register, or 0 where none is shown.
-fn control_register(acs: Acs) -> u32
-    ensures { result ≡ control_register acs }
+/// Is it a virtual function, which has no IDs of its own (PCIe 4.0, 9.3.4)?
+pub fn is_virtual(space: &ConfigSpace<'_>) -> bool
+    ensures { result ≡ is_virtual space.now.bytes.now }
 {
-    match acs {
-        Acs::Absent | Acs::Unknown => 0,
-        Acs::Standard { control, .. } => u32::from(control),
-        Acs::Wide { control, .. } => control,
+    match (space.kind(), space.vendor(), space.device()) {
+        (Some(HeaderKind::Endpoint), Some(0xffff), Some(0xffff)) => true,
+        _ => false,
     }
 }
 
-/// The five controls of a port that a layout has.
-pub fn controls_of(space: &ConfigSpace<'_>) -> u8
-    ensures { result ≡ controls_of space.now.bytes.now }
+/// Is this the class of a host bridge, an ISA bridge or an SMBus controller?
+fn is_board_class(class: u16) -> bool
+    ensures { result ≡ is_board_class class }
 {
-    (control_register(space.acs()) % 32) as u8
+    class == 0x0600 || class == 0x0601 || class == 0x0c05
 }
 
-/// Are controls set besides these five?
-pub fn has_further_controls(space: &ConfigSpace<'_>) -> bool
-    ensures { result ≡ has_further_controls space.now.bytes.now }
+/// Is it a function that somebody may want isolated: no bridge, and no part of the board?
+pub fn is_endpoint(space: &ConfigSpace<'_>) -> bool
+    ensures { result ≡ is_endpoint space.now.bytes.now }
 {
-    control_register(space.acs()) >= 32
+    match (space.kind(), space.class()) {
+        (Some(HeaderKind::Endpoint), Some(class)) => !is_board_class(class),
+        _ => false,
+    }
 }

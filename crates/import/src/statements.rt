@@ -3,16 +3,18 @@
 ghost use Rattle.std.specs.Prelude.{◌≡◌, ◌<◌, ◌^◌, IfOk};
 ghost use Rattle.fab_types.specs.Id.{id_of};
 ghost use Rattle.layout_draft.specs.Stated.{IsStated};
-ghost use Rattle.import.specs.Statements.{function_line, only_at, port_bus, port_line, statement_of, switch_line};
+ghost use Rattle.import.specs.Statements.{function_line, line_id, only_at, port_bus, port_line, statement_of, switch_line, unreached};
 
+use crate::controls::controls_of;
+use crate::devices::Source;
 use crate::domains::owner_of;
-use crate::fault::Reason;
-use crate::owners::Owner;
 use crate::pages::page_from;
-use crate::role::{LowWindow, Role, controls_of, port_window};
+use crate::places::bridge_to;
+use crate::reason::Reason;
+use crate::role::{LowWindow, Role, port_window};
 use crate::tree::{Tree, role_at, upstream_to};
 use fab_types::Bdf;
-use layout_line::{FunctionText, LayoutLine, PortText, SwitchText};
+use layout_line::{EgressText, FunctionText, LayoutLine, PortText, SwitchText};
 use lspci::{Device, Dump};
 use platform::{DownstreamPort, port_leading_to};
 
@@ -43,37 +45,46 @@ fn port_bus(dump: &Dump, tree: &Tree, id: Bdf) -> Option<u8>
     if id.bus() == tree.bus {
         return only_at(tree.only, id);
     }
-    let upstream = upstream_to(dump, id.bus())?;
+    let upstream = upstream_to(dump, tree.segment, id.bus())?;
     tree.bus_in(upstream.location.id.bus())?.checked_add(1)
 }
 
+/// The ID that a port of the machine has in the layout, if it stands there.
+pub fn line_id(dump: &Dump, tree: &Tree, id: Bdf) -> Option<Bdf>
+    ensures { result ≡ line_id dump.now tree.now id }
+{
+    let bus = port_bus(dump, tree, id)?;
+    Some(id_on(bus, id.device()))
+}
+
 fn port_line(
-    dump: &Dump,
-    tree: &Tree,
-    owners: &[Owner],
+    source: &Source<'_>,
+    vectors: &[EgressText],
     ports: &[DownstreamPort],
     device: &Device,
 ) -> Result<LayoutLine, Reason>
-    ensures value { result ≡ port_line dump.now tree.now owners.now ports.now device.now }
+    ensures value { result ≡ port_line source.now.dump.now source.now.tree source.now.owners.now vectors.now ports.now device.now }
     ensures fits { IfOk result IsStated }
 {
     let id = device.location.id;
     if id.function() != 0 {
         return Err(Reason::Function);
     }
+    let (dump, tree) = (source.dump, &source.tree);
     let space = dump.space(device);
     let bus = port_bus(dump, tree, id).ok_or(Reason::Outside)?;
     let buses = space.buses().ok_or(Reason::Kind)?;
     let secondary = tree.bus_in(buses.secondary).ok_or(Reason::Buses)?;
     let window = port_window(&space).ok_or(Reason::Window)?;
+    let place = id_on(bus, id.device());
     Ok(LayoutLine::Port(PortText {
-        id: id_on(bus, id.device()),
+        id: place,
         secondary,
         subordinate: tree.last_bus_in(buses.subordinate),
         base: window.base,
         limit: window.limit,
-        controls: controls_of(&space),
-        owner: u32::from(owner_of(tree, owners, ports, id, &buses, bus)),
+        controls: controls_of(&space, vectors, place),
+        owner: u32::from(owner_of(tree, source.owners, ports, &device.location, &buses, bus)),
     }))
 }
 
@@ -94,6 +105,16 @@ fn switch_line(tree: &Tree, ports: &[DownstreamPort], device: &Device) -> Result
     }))
 }
 
+/// Why no port of the layout leads to a bus.
+fn unreached(dump: &Dump, segment: u32, bus: u8) -> Reason
+    ensures { result ≡ unreached dump.now segment bus }
+{
+    match bridge_to(dump, segment, bus) {
+        Some(_) => Reason::Unreached,
+        None => Reason::Integrated,
+    }
+}
+
 fn function_line(
     dump: &Dump,
     tree: &Tree,
@@ -104,9 +125,13 @@ fn function_line(
     ensures fits { IfOk result IsStated }
 {
     let id = device.location.id;
-    let bus = tree.bus_in(id.bus()).ok_or(Reason::Outside)?;
+    let Some(bus) = tree.bus_in(id.bus()) else {
+        return Err(unreached(dump, tree.segment, id.bus()));
+    };
     let place = id_on(bus, 0);
-    let above = port_leading_to(ports, place).ok_or(Reason::Unreached)?;
+    let Some(above) = port_leading_to(ports, place) else {
+        return Err(unreached(dump, tree.segment, id.bus()));
+    };
     if id.device() != 0 || id.function() != 0 {
         return Err(Reason::Function);
     }
@@ -118,23 +143,20 @@ fn function_line(
     Ok(LayoutLine::Function(FunctionText { id: place, bar }))
 }
 
-/// The line of a device behind those of these ports, or why it has none.
+/// The line of a device behind those of these ports, in a layout with these vectors, or why it has none.
 #[tactic(auto, unfolding(crate::specs::Statements::statement_of))]
 pub fn statement_of(
-    dump: &Dump,
-    tree: &Tree,
-    owners: &[Owner],
+    source: &Source<'_>,
+    vectors: &[EgressText],
     ports: &[DownstreamPort],
     device: &Device,
 ) -> Result<LayoutLine, Reason>
-    ensures value { result ≡ statement_of dump.now tree.now owners.now ports.now device.now }
+    ensures value { result ≡ statement_of source.now.dump.now source.now.tree source.now.owners.now vectors.now ports.now device.now }
     ensures fits { IfOk result IsStated }
 {
-    if device.location.segment != 0 {
-        return Err(Reason::Segment);
-    }
+    let (dump, tree) = (source.dump, &source.tree);
     match role_at(dump, device) {
-        Role::RootPort | Role::Downstream => port_line(dump, tree, owners, ports, device),
+        Role::RootPort | Role::Downstream => port_line(source, vectors, ports, device),
         Role::Upstream => switch_line(tree, ports, device),
         Role::Endpoint => function_line(dump, tree, ports, device),
         Role::Other => Err(Reason::Kind),

@@ -3,19 +3,21 @@
 ghost use Rattle.std.specs.Prelude.{◌≡◌, IfOk};
 ghost use Rattle.lspci.specs.Acs.{acs_of};
 ghost use Rattle.layout_draft.specs.Comments.{IsPrintable};
-ghost use Rattle.import.specs.Told.{IsToldOf, TellEach, with_name, with_remark};
+ghost use Rattle.import.specs.Told.{IsToldOf, TellEach, part_word, with_name, with_remark, with_remark_if, with_remarks};
 ghost use Rattle.import.specs.Names.{remark_of};
 
 use crate::comments::words_of;
-use crate::fault::LeftOut;
+use crate::controls::{has_further_controls, loses_egress};
 use crate::names::{Names, remark_on};
-use fab_types::NoMemory;
+use crate::reason::LeftOut;
+use crate::role::has_further_window;
+use fab_types::{Bdf, NoMemory};
 use layout_draft::Draft;
-use layout_line::LayoutLine;
-use lspci::{ConfigSpace, Device, Dump};
+use layout_line::{EgressText, LayoutLine};
+use lspci::ConfigSpace;
 use std::alloc::Global;
 
-/// Tells what has to be told of a port's controls.
+/// Tells what has to be told of a port's ACS.
 fn tell_remark(alloc: Global, draft: &mut Draft, space: &ConfigSpace<'_>) -> Result<(), NoMemory>
     ensures { IfOk result (λ _. draft.new ≡ with_remark (remark_of (acs_of space.now.bytes.now)) draft.old) }
 {
@@ -25,27 +27,86 @@ fn tell_remark(alloc: Global, draft: &mut Draft, space: &ConfigSpace<'_>) -> Res
     }
 }
 
+fn tell_if(
+    alloc: Global,
+    draft: &mut Draft,
+    is_so: bool,
+    remark: &'static str,
+) -> Result<(), NoMemory>
+    requires { IsPrintable remark.now }
+    ensures { IfOk result (λ _. draft.new ≡ with_remark_if is_so remark.entry.now draft.old) }
+{
+    if is_so {
+        draft.note(alloc, remark)
+    } else {
+        Ok(())
+    }
+}
+
+/// Tells what there is to say of a port, and what the layout hasn't of it.
+fn tell_port(
+    alloc: Global,
+    draft: &mut Draft,
+    space: &ConfigSpace<'_>,
+    vectors: &[EgressText],
+    id: Bdf,
+) -> Result<(), NoMemory>
+    ensures { IfOk result (λ _. draft.new ≡ with_remarks space.now.bytes.now vectors.now id draft.old) }
+{
+    tell_remark(alloc, draft, space)?;
+    tell_if(
+        alloc,
+        draft,
+        loses_egress(space, vectors, id),
+        "its Egress Control isn't in this layout: Request Redirect counts as clear",
+    )?;
+    tell_if(
+        alloc,
+        draft,
+        has_further_window(space),
+        "its prefetchable window isn't in this layout, which has one window of a port",
+    )?;
+    tell_if(
+        alloc,
+        draft,
+        has_further_controls(space),
+        "its controls besides V, B, R, C, U and E aren't in this layout",
+    )?;
+    Ok(())
+}
+
 /// Tells which device the line is of that was added last.
-/// Of a port it tells what there is to say of its controls.
+/// Of a port it tells what there is to say of it.
 pub fn tell_device(
     alloc: Global,
     draft: &mut Draft,
-    dump: &Dump,
-    device: &Device,
+    space: &ConfigSpace<'_>,
+    vectors: &[EgressText],
     line: &LayoutLine,
     name: &str,
 ) -> Result<(), NoMemory>
     requires { IsPrintable name.now }
-    ensures { IfOk result (λ _. draft.new ≡ with_name dump.now device.now line.now name.now draft.old) }
+    ensures { IfOk result (λ _. draft.new ≡ with_name space.now.bytes.now vectors.now line.now name.now draft.old) }
 {
     draft.note(alloc, name)?;
     match line {
-        LayoutLine::Port(_) => tell_remark(alloc, draft, &dump.space(device)),
+        LayoutLine::Port(port) => tell_port(alloc, draft, space, vectors, port.id),
         _ => Ok(()),
     }
 }
 
-/// Tells in a comment that a part is left out.
+/// How the comment of a device begins that has no place.
+fn part_word(part: &LeftOut) -> &'static str
+    ensures { result.now ≡ part_word part.now }
+{
+    if part.is_endpoint {
+        "left out"
+    } else {
+        "passed over"
+    }
+}
+
+/// Tells in a comment that a device has no place.
 fn tell_part(
     alloc: Global,
     draft: &mut Draft,
@@ -56,8 +117,9 @@ fn tell_part(
     ensures names { names.new ≡ names.old }
 {
     let name = names.name_of(alloc, part.line, &part.location)?;
-    let reason = words_of(alloc, &part.reason)?;
-    let comment = format!(in alloc; "left out: {name}: {reason}")?;
+    let why = words_of(alloc, &part.why)?;
+    let word = part_word(part);
+    let comment = format!(in alloc; "{word}: {name}: {why}")?;
     draft.note(alloc, &comment)?;
     Ok(())
 }

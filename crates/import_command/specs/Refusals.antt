@@ -4,12 +4,13 @@ use denote.Bor.{Bor}
 use Rattle.fab_types.specs.declared.faults.script.ScriptFault.{ScriptFault}
 use Rattle.inputs.specs.declared.fault.Fault.{Fault}
 use Rattle.inputs.specs.declared.fault.Fault.TheVariants as fault
+use Rattle.inputs.specs.Endings.{fault_of_import}
 use Rattle.inputs.specs.Refusals.{HasNoText}
 use Rattle.lspci.specs.declared.fault.DumpFault.{DumpFault}
+use Rattle.lspci.specs.declared.lines.Location.{Location}
 use Rattle.lspci.specs.Dumps.{DumpText}
 use Rattle.lspci.specs.Reading as dumps
 use Rattle.import.specs.declared.fault.ImportFault.{ImportFault}
-use Rattle.import.specs.declared.fault.ImportFault.TheVariants as refused
 use Rattle.import.specs.declared.owners.Owner.{Owner}
 use Rattle.import.specs.Imports.{import_of}
 use Rattle.import.specs.Owners as lists
@@ -26,20 +27,12 @@ IsNoDump holds f = (text : List ℕ) × holds text × IsFaultyDump text f
 abbrev pub IsFaultyList : List ℕ → Fault → Type 0
 IsFaultyList text f = (refused : ScriptFault) × (lists.reading text ≡ Err refused) × (f ≡ fault.OwnersLine refused.line)
 
--- the fault of the command
-abbrev pub fault_of : ImportFault → Fault
-fault_of refused.NoRoot = fault.NoRoot
-fault_of (refused.NotRoot id) = fault.NotRoot id
-fault_of (refused.NoDevice id) = fault.NoDevice id
-fault_of (refused.TwoOwners one other) = fault.TwoOwners one other
-fault_of refused.NoMemory = fault.NoMemory
-
 -- there is no layout of the dump, which has this text
-abbrev pub IsNoImport : List ℕ → DumpText → Option ℕ → List Owner → Fault → Type 0
-IsNoImport text dump root owners f = (reason : ImportFault) × (import_of text dump root owners ≡ Err reason) × (f ≡ fault_of reason)
+abbrev pub IsNoImport : List ℕ → DumpText → Option Location → List Owner → Fault → Type 0
+IsNoImport text dump root owners f = (reason : ImportFault) × (import_of text dump root owners ≡ Err reason) × (f ≡ fault_of_import reason)
 
 -- there is no layout of a dump and a list that the files of these names may have
-pub record IsNoLayoutOfDump (holds : List ℕ → List ℕ → Type 0) (dump_name : List ℕ) (owners_name : Option (List ℕ)) (root : Option ℕ) (f : Fault) : Type 0 where
+pub record IsNoLayoutOfDump (holds : List ℕ → List ℕ → Type 0) (dump_name : List ℕ) (owners_name : Option (List ℕ)) (root : Option Location) (f : Fault) : Type 0 where
   pub dump_text : List ℕ
   pub dump_file : holds dump_name dump_text
   pub dump : DumpText

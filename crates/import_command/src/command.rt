@@ -3,36 +3,65 @@
 ghost use Rattle.std.specs.Prelude.{◌≡◌, ◌⊎◌, IfErr, IfOk, option_map};
 ghost use Rattle.inputs.specs.Refusals.{HasNoText};
 ghost use Rattle.reports.specs.Writing.{Wrote};
-ghost use Rattle.import_command.specs.Printed.{ImportPrints};
+ghost use Rattle.import_command.specs.Printed.{ImportPrints, status_after};
 ghost use Rattle.import_command.specs.Refusals.{IsNoDump, IsNoLayoutOfDump, IsNoList};
 
-use crate::inputs_of::{dump_of, made_of, owners_in};
-use fab_types::Bdf;
-use inputs::{Fault, FileGiver, text_of};
+use crate::inputs_of::{dump_of, owners_in};
+use command_line::Importing;
+use import::{Import, import_dump};
+use inputs::{ExitStatus, Fault, FileGiver, text_of};
+use lspci::Passed;
 use std::alloc::Global;
 use std::io::Write;
 
-/// Writes the layout of the dump in a file, with a list of owners. It is of what is below this root port, or below all
-/// root ports of bus 00. It answers how many things the layout hasn't.
+/// What a layout has of a machine, and how the program ends.
+#[derive(Clone, Copy, Debug, PartialEq, Eq)]
+pub struct Imported {
+    /// `Done`, or `Partial` where an endpoint has no place in the layout and that isn't meant so.
+    pub status: ExitStatus,
+    /// How many functions the layout has.
+    pub functions: usize,
+    /// How many endpoints have no place in it.
+    pub endpoints_out: usize,
+    /// What of the text was passed over.
+    pub passed: Passed,
+}
+
+/// How the program ends after this layout, of which parts may be missing or not.
+fn status_after(is_partial_meant: bool, made: &Import) -> ExitStatus
+    ensures { result ≡ status_after is_partial_meant made.now }
+{
+    if is_partial_meant || made.endpoints_out() == 0 {
+        ExitStatus::Done
+    } else {
+        ExitStatus::Partial
+    }
+}
+
+/// Writes the layout of the dump in a file, with a list of owners. It is of what is below the root port that is asked
+/// for, or below all root ports of bus 00.
 ///
 /// # Errors
-/// As `text_of` and `dump_of`, then as `owners_in`, then as `made_of`: the first that applies. `Unwritable` where the
-/// output takes no more.
+/// As `text_of` and `dump_of`, then as `owners_in`, then why there is no layout: the first that applies. `Unwritable`
+/// where the output takes no more, and `NoMemory` where memory was refused.
 pub fn import_layout<'a, F: FileGiver, W: Write>(
     alloc: Global,
     files: &F,
-    dump: &'a str,
-    owners: Option<&'a str>,
-    root: Option<Bdf>,
+    asked: Importing<'a>,
     out: &mut W,
-) -> Result<usize, Fault<'a>>
-    ensures ok { IfOk result (λ count. Wrote (W.contents out.old) (W.contents out.new) (ImportPrints (F.holds files.now) dump.entry.now (option_map (λ word. word.now) owners.entry) root count)) }
-    ensures fault { IfErr result (λ f. (f ≡ Fault.NoMemory) ⊎ ((f ≡ Fault.Unreadable dump.entry) × HasNoText (F.withholds files.now dump.entry.now) (F.holds files.now dump.entry.now)) ⊎ IsNoDump (F.holds files.now dump.entry.now) f ⊎ IsNoList (F.withholds files.now) (F.holds files.now) owners.entry f ⊎ IsNoLayoutOfDump (F.holds files.now) dump.entry.now (option_map (λ word. word.now) owners.entry) root f ⊎ (f ≡ Fault.Unwritable)) }
+) -> Result<Imported, Fault<'a>>
+    ensures ok { IfOk result (λ made. Wrote (W.contents out.old) (W.contents out.new) (ImportPrints (F.holds files.now) asked.entry.dump.now (option_map (λ word. word.now) asked.entry.owners) asked.entry.root asked.entry.partial made)) }
+    ensures fault { IfErr result (λ f. (f ≡ Fault.NoMemory) ⊎ ((f ≡ Fault.Unreadable asked.entry.dump) × HasNoText (F.withholds files.now asked.entry.dump.now) (F.holds files.now asked.entry.dump.now)) ⊎ IsNoDump (F.holds files.now asked.entry.dump.now) f ⊎ IsNoList (F.withholds files.now) (F.holds files.now) asked.entry.owners f ⊎ IsNoLayoutOfDump (F.holds files.now) asked.entry.dump.now (option_map (λ word. word.now) asked.entry.owners) asked.entry.root f ⊎ (f ≡ Fault.Unwritable)) }
 {
-    let text = text_of(files, dump)?;
+    let text = text_of(files, asked.dump)?;
     let devices = dump_of(alloc, &text)?;
-    let list = owners_in(alloc, files, owners)?;
-    let made = made_of(alloc, &devices, &text, root, &list)?;
+    let list = owners_in(alloc, files, asked.owners)?;
+    let made = import_dump(alloc, &devices, &text, asked.root, &list)?;
     out.write_all(made.text().as_bytes())?;
-    Ok(made.left_out().len())
+    Ok(Imported {
+        status: status_after(asked.partial, &made),
+        functions: made.function_count(),
+        endpoints_out: made.endpoints_out(),
+        passed: devices.passed(),
+    })
 }

@@ -2,13 +2,12 @@
 
 ghost use Rattle.std.specs.Prelude.{◌≡◌, ◌⊎◌, IfErr, IfOk, Ok, option_map};
 ghost use Rattle.lspci.specs.Reading as dumps;
-ghost use Rattle.import.specs.Imports.{IsMade, import_of};
 ghost use Rattle.import.specs.Owners as lists;
 ghost use Rattle.import_command.specs.Printed.{AreOwners};
-ghost use Rattle.import_command.specs.Refusals.{IsFaultyDump, IsFaultyList, IsNoList, IsNoImport, fault_of};
+ghost use Rattle.import_command.specs.Refusals.{IsFaultyDump, IsFaultyList, IsNoList};
 
-use fab_types::{Bdf, ScriptCause};
-use import::{Import, ImportFault, Owner, import_dump, owners_of};
+use fab_types::ScriptCause;
+use import::{Owner, owners_of};
 use inputs::{Fault, FileGiver, text_of};
 use lspci::{Dump, DumpCause};
 use std::alloc::Global;
@@ -61,41 +60,5 @@ pub fn owners_in<'a, F: FileGiver>(
             let text = text_of(files, name)?;
             list_of(alloc, &text)
         }
-    }
-}
-
-/// The fault that it is for a command that a dump has no layout.
-fn fault_of<'a>(fault: ImportFault) -> Fault<'a>
-    ensures { result ≡ fault_of fault }
-{
-    match fault {
-        ImportFault::NoRoot => Fault::NoRoot,
-        ImportFault::NotRoot { id } => Fault::NotRoot { id: id.bits() },
-        ImportFault::NoDevice { id } => Fault::NoDevice { id: id.bits() },
-        ImportFault::TwoOwners { one, other } => Fault::TwoOwners {
-            one: one.bits(),
-            other: other.bits(),
-        },
-        ImportFault::NoMemory => Fault::NoMemory,
-    }
-}
-
-/// Makes the layout of a dump.
-///
-/// # Errors
-/// Why there is none, by its own fault, and `NoMemory` where memory was refused.
-pub fn made_of<'a>(
-    alloc: Global,
-    dump: &Dump,
-    text: &str,
-    root: Option<Bdf>,
-    owners: &[Owner],
-) -> Result<Import, Fault<'a>>
-    ensures ok { IfOk result (λ made. IsMade text.now (import_of text.now dump.now root owners.now) made) }
-    ensures fault { IfErr result (λ f. (f ≡ Fault.NoMemory) ⊎ IsNoImport text.now dump.now root owners.now f) }
-{
-    match import_dump(alloc, dump, text, root, owners) {
-        Ok(made) => Ok(made),
-        Err(fault) => Err(fault_of(fault)),
     }
 }

@@ -4,4 +4,4 @@
 mod command;
 mod inputs_of;
 
-pub use command::import_layout;
+pub use command::{Imported, import_layout};

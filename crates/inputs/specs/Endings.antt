@@ -9,6 +9,8 @@ use Rattle.fab_types.specs.declared.faults.running.StopFault.{StopFault}
 use Rattle.fab_types.specs.declared.faults.running.StopFault.TheVariants as stop_fault
 use Rattle.command_line.specs.declared.request.WordsFault.{WordsFault}
 use Rattle.command_line.specs.declared.request.WordsFault.TheVariants as words
+use Rattle.import.specs.declared.fault.ImportFault.{ImportFault}
+use Rattle.import.specs.declared.fault.ImportFault.TheVariants as no_import
 use Rattle.journals.specs.declared.lines.LineFault.{LineFault}
 use Rattle.journals.specs.declared.lines.LineFault.TheVariants as line_fault
 use Rattle.inputs.specs.declared.fault.ExitStatus.{ExitStatus}
@@ -20,6 +22,11 @@ use Rattle.inputs.specs.declared.fault.Fault.TheVariants as fault
 abbrev pub fault_of_words : WordsFault → Fault
 fault_of_words words.Usage = fault.Usage
 fault_of_words words.NoMemory = fault.NoMemory
+
+-- what it comes to that there is no layout of a dump
+abbrev pub fault_of_import : ImportFault → Fault
+fault_of_import no_import.NoMemory = fault.NoMemory
+fault_of_import refused = fault.Import refused
 
 -- what a fault of a journal's line comes to
 abbrev pub fault_of_line : LineFault → Fault
@@ -43,6 +50,8 @@ exit_code exit_status.Stopped = 1
 exit_code exit_status.NoMemory = 2
 exit_code exit_status.Harmed = 3
 exit_code exit_status.Unguarded = 4
+exit_code exit_status.Partial = 5
+exit_code exit_status.NothingToKeep = 6
 
 -- is all done that was asked for?
 abbrev pub is_done : ExitStatus → Bool
@@ -51,6 +60,8 @@ is_done exit_status.Stopped = false
 is_done exit_status.NoMemory = false
 is_done exit_status.Harmed = true
 is_done exit_status.Unguarded = true
+is_done exit_status.Partial = true
+is_done exit_status.NothingToKeep = true
 
 -- the exit status after a fault: want of memory has its own
 abbrev pub status_of : Fault → ExitStatus

@@ -15,7 +15,11 @@ use Rattle.inputs.specs.declared.fault.Fault.TheVariants as fault
 abbrev pub HasNoText : Type 0 → (List ℕ → Type 0) → Type 0
 HasNoText withheld holds = withheld ⊎ ((bytes : List ℕ) × holds bytes × (IsUtf8 bytes → ⊥))
 
--- a file that may hold a text that is refused as a layout, with the fault of its first faulty line
+-- a text that is refused as a layout, with the fault of its first faulty line
+abbrev pub IsFaultyLayout : List ℕ → Fault → Type 0
+IsFaultyLayout text f = (refused : LayoutFault) × (layouts.reading text ≡ Err refused) × (f ≡ fault.Layout refused)
+
+-- a file that may hold such a text
 abbrev pub IsNoLayout : (List ℕ → Type 0) → Fault → Type 0
 IsNoLayout holds f = (text : List ℕ) × (refused : LayoutFault) × holds text × (layouts.reading text ≡ Err refused) × (f ≡ fault.Layout refused)
 

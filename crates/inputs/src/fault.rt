@@ -5,8 +5,9 @@ ghost use Rattle.inputs.specs.Endings.{exit_code, status_of};
 
 use command_line::WordsFault;
 use fab_types::{
-    Bdf, LayoutCause, LayoutFault, NoMemory, ScriptCause, ScriptFault, StartFault, StopFault,
+    LayoutCause, LayoutFault, NoMemory, ScriptCause, ScriptFault, StartFault, StopFault,
 };
+use import::ImportFault;
 use journals::LineFault;
 use lspci::DumpFault;
 use std::alloc::AllocError;
@@ -27,6 +28,10 @@ pub enum ExitStatus {
     Harmed,
     /// The layout isn't guarded, but no harm was seen: exit status 4.
     Unguarded,
+    /// All is done, of a part of the machine alone: an endpoint of it has no place in the layout. Exit status 5.
+    Partial,
+    /// The layout has nothing to keep apart: fewer than two domains own a function. Exit status 6.
+    NothingToKeep,
 }
 
 impl ExitStatus {
@@ -40,6 +45,8 @@ impl ExitStatus {
             ExitStatus::NoMemory => 2,
             ExitStatus::Harmed => 3,
             ExitStatus::Unguarded => 4,
+            ExitStatus::Partial => 5,
+            ExitStatus::NothingToKeep => 6,
         }
     }
 }
@@ -71,18 +78,9 @@ pub enum Fault<'a> {
     /// A line of a list of owners is not understood.
     #[error("owners {line}: Line")]
     OwnersLine { line: u32 },
-    /// No root port stands on bus 00 of a dump.
-    #[error("import: no root port stands on bus 00")]
-    NoRoot,
-    /// No root port of a dump has this ID.
-    #[error("import: no root port is {id}", id = Bdf::from_bits(*.id))]
-    NotRoot { id: u16 },
-    /// A list of owners names this device, which a dump hasn't.
-    #[error("import: {id} has an owner, and there is no such device", id = Bdf::from_bits(*.id))]
-    NoDevice { id: u16 },
-    /// Below one port of the top switch these devices have different owners.
-    #[error("import: {one} and {other} have different owners, and stand below one port", one = Bdf::from_bits(*.one), other = Bdf::from_bits(*.other))]
-    TwoOwners { one: u16, other: u16 },
+    /// There is no layout of a dump.
+    #[error("import: {0}")]
+    Import(ImportFault),
     /// No domain of this number owns a port.
     #[error("domain {number}: none")]
     NoDomain { number: u32 },
@@ -174,6 +172,20 @@ impl From<WordsFault> for Fault<'_> {
         match fault {
             WordsFault::Usage => Fault::Usage,
             WordsFault::NoMemory => Fault::NoMemory,
+        }
+    }
+}
+
+impl From<ImportFault> for Fault<'_> {
+    ghost use Rattle.inputs.specs.Endings.{fault_of_import};
+
+    ghost from_gives = { λ refused f. f ≡ fault_of_import refused };
+
+    /// There is no layout of a dump.
+    fn from(fault: ImportFault) -> Self {
+        match fault {
+            ImportFault::NoMemory => Fault::NoMemory,
+            _ => Fault::Import(fault),
         }
     }
 }

@@ -12,4 +12,4 @@ pub use fault::{ExitStatus, Fault};
 pub use files::{FileFault, FileGiver, FileTaker, WriteFault};
 pub use given::{Inputs, inputs_of};
 pub use starts::start_of;
-pub use texts::{journal_of, layout_of, script_of, text_of};
+pub use texts::{journal_of, layout_in, layout_of, script_of, text_of};

@@ -4,7 +4,7 @@ ghost use Rattle.std.specs.Prelude.{◌≡◌, ◌⊎◌, ℕ, List, IfErr, IfOk
 ghost use Rattle.layout.specs.Reading as layouts;
 ghost use Rattle.journal_text.specs.Reading as journals;
 ghost use Rattle.script.specs.Reading as scripts;
-ghost use Rattle.inputs.specs.Refusals.{HasNoText, IsNoJournal, IsNoLayout, IsNoScript};
+ghost use Rattle.inputs.specs.Refusals.{HasNoText, IsFaultyLayout, IsNoJournal, IsNoLayout, IsNoScript};
 
 use crate::fault::Fault;
 use crate::files::{FileFault, FileGiver};
@@ -33,10 +33,24 @@ pub fn text_of<'a, F: FileGiver>(files: &F, name: &'a str) -> Result<String, Fau
     }
 }
 
+/// Reads the text of a layout.
+///
+/// # Errors
+/// `Layout` for the first faulty line, and `NoMemory` where memory was refused.
+pub fn layout_in<'a>(alloc: Global, text: &str) -> Result<Layout, Fault<'a>>
+    ensures layout { IfOk result (λ layout. layouts.reading text.now ≡ Ok layout) }
+    ensures fault { IfErr result (λ f. (f ≡ Fault.NoMemory) ⊎ IsFaultyLayout text.now f) }
+{
+    match Layout::read(alloc, text) {
+        Ok(layout) => Ok(layout),
+        Err(fault) => Err(Fault::of_layout(fault)),
+    }
+}
+
 /// Reads the layout of a file.
 ///
 /// # Errors
-/// As `text_of`, and `Layout` for the first faulty line of the text.
+/// As `text_of`, then as `layout_in`.
 pub fn layout_of<'a, F: FileGiver>(
     alloc: Global,
     files: &F,
@@ -46,10 +60,7 @@ pub fn layout_of<'a, F: FileGiver>(
     ensures fault { IfErr result (λ f. (f ≡ Fault.NoMemory) ⊎ ((f ≡ Fault.Unreadable name.entry) × HasNoText (F.withholds files.now name.entry.now) (F.holds files.now name.entry.now)) ⊎ IsNoLayout (F.holds files.now name.entry.now) f) }
 {
     let text = text_of(files, name)?;
-    match Layout::read(alloc, text.as_str()) {
-        Ok(layout) => Ok(layout),
-        Err(fault) => Err(Fault::of_layout(fault)),
-    }
+    layout_in(alloc, text.as_str())
 }
 
 /// Reads the script of a file.

@@ -36,7 +36,7 @@ in-range (Function f) h = h
 in-range (Map m) h = h
 in-range (Budget b) h = absurd h
 in-range (Credit c) h = absurd h
-in-range (Egress g) h = absurd h
+in-range (Egress g) h = h
 
 line-read : (p : Platform) (line : LayoutLine) → IsStated line → with_line p (layout_line_text line) ≡ unless_faulty (fault_of p line) (add p line)
 unfolding with_line with_layout_line

@@ -6,17 +6,19 @@ use Rattle.layout_line.specs.declared.lines.LayoutLine.{LayoutLine}
 use Rattle.layout.specs.Additions.{add, root_line}
 use Rattle.layout.specs.Rules.{fault_of}
 use Rattle.line_texts.specs.LayoutLineTexts.{layout_line_text}
-use Rattle.platform.specs.declared.parts.LayoutVersion.TheVariants.{One}
+use Rattle.platform.specs.declared.parts.LayoutVersion.{LayoutVersion}
+use Rattle.platform.specs.declared.parts.LayoutVersion.TheVariants.{One, Two}
 use Rattle.platform.specs.Platform.{Platform, no_lines}
 use Rattle.layout_draft.specs.Comments.{comment_text}
 use Rattle.layout_draft.specs.DraftViews.{Written}
 
 -- the top switch, and frames for as many functions as there may be
-abbrev pub start : Platform
-start = record (no_lines One) { frames = 64; switches = root_line (id_of 1 0 0) ∷ [] }
+abbrev pub start : LayoutVersion → Platform
+start version = record (no_lines version) { frames = 64; switches = root_line (id_of 1 0 0) ∷ [] }
 
-abbrev pub start_text : List ℕ
-start_text = codes "pciefab 1\nframes 64\nswitch 01:00.0 root\n"
+abbrev pub start_text : LayoutVersion → List ℕ
+start_text One = codes "pciefab 1\nframes 64\nswitch 01:00.0 root\n"
+start_text Two = codes "pciefab 2\nframes 64\nswitch 01:00.0 root\n"
 
 -- the layout with the line, which its text has in its turn, unless this rule is against it
 abbrev pub unless_faulty : Written → LayoutLine → Option LayoutCause → Written

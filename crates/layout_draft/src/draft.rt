@@ -9,11 +9,19 @@ use crate::line::line_text;
 use fab_types::{LayoutCause, NoMemory};
 use layout::Layout;
 use layout_line::LayoutLine;
+use platform::LayoutVersion;
 use std::alloc::Global;
 use std::marker::Model;
 
-/// The first lines of each layout: as many frames as functions may need, and the top switch.
-const START: &str = "pciefab 1\nframes 64\nswitch 01:00.0 root\n";
+/// The first lines of each layout: its version, as many frames as functions may need, and the top switch.
+fn start_text(version: LayoutVersion) -> &'static str
+    ensures { result.now ≡ start_text version }
+{
+    match version {
+        LayoutVersion::One => "pciefab 1\nframes 64\nswitch 01:00.0 root\n",
+        LayoutVersion::Two => "pciefab 2\nframes 64\nswitch 01:00.0 root\n",
+    }
+}
 
 /// A text, and the layout that it is read as.
 #[derive(Drop)]
@@ -36,11 +44,11 @@ impl Draft {
     ghost use Rattle.std.specs.Prelude.{Ok};
     ghost use Rattle.layout.specs.Reading.{reading};
 
-    /// The layout without a port.
-    pub fn start(alloc: Global) -> Result<Draft, NoMemory>
-        ensures { IfOk result (λ draft. draft ≡ record { platform = start; text = start_text }) }
+    /// The layout without a port, of this version.
+    pub fn start(alloc: Global, version: LayoutVersion) -> Result<Draft, NoMemory>
+        ensures { IfOk result (λ draft. draft ≡ record { platform = start version; text = start_text version }) }
     {
-        let text = String::from_str(alloc, START)?;
+        let text = String::from_str(alloc, start_text(version))?;
         match Layout::read(alloc, &text) {
             Ok(layout) => Ok(Draft { text, layout }),
             Err(_) => Err(NoMemory),

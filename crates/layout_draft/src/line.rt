@@ -9,7 +9,7 @@ ghost use Rattle.layout_draft.specs.Stated.{IsStated};
 ghost use Rattle.layout_draft.specs.Fields.{map_back, map_front, port_back, port_front};
 
 use layout_line::{
-    FunctionText, LayoutLine, MapText, PortText, RightsText, SwitchText, TargetText,
+    EgressText, FunctionText, LayoutLine, MapText, PortText, RightsText, SwitchText, TargetText,
 };
 use std::alloc::{AllocError, Global};
 use std::fmt;
@@ -147,7 +147,14 @@ fn map_text(alloc: Global, line: &MapText) -> Result<String, AllocError>
     Ok(text)
 }
 
-/// The text of a line that a device has, without a line feed.
+fn egress_text(alloc: Global, egress: &EgressText) -> Result<String, AllocError>
+    ensures { IfOk result (λ text. string_bytes text ≡ layout_line_text (written.Egress egress.now)) }
+{
+    let (port, vector) = (egress.port, Hex8(egress.vector));
+    format!(in alloc; "egress {port} {vector}")
+}
+
+/// The text of a line that a device has, or of a port's Egress Control Vector, without a line feed.
 ///
 /// # Errors
 ///
@@ -161,10 +168,10 @@ pub fn line_text(alloc: Global, line: &LayoutLine) -> Result<String, AllocError>
         LayoutLine::Switch(switch) => switch_text(alloc, switch),
         LayoutLine::Function(function) => function_text(alloc, function),
         LayoutLine::Map(line) => map_text(alloc, line),
+        LayoutLine::Egress(egress) => egress_text(alloc, egress),
         LayoutLine::Frames(_)
         | LayoutLine::Root(_)
         | LayoutLine::Budget(_)
-        | LayoutLine::Credit(_)
-        | LayoutLine::Egress(_) => unreachable!(),
+        | LayoutLine::Credit(_) => unreachable!(),
     }
 }

@@ -1,5 +1,5 @@
 -- The ACS capability of a function (PCIe 4.0, 7.7.8).
-use Rattle.std.specs.Prelude.{ℕ, ◌+◌, ◌==◌, ◌&&◌, ◌||◌, Bool, true, false, nat_le, nat_lt, is_none, unwrap_or, List, length, Option, Some, None, if◌then◌else◌}
+use Rattle.std.specs.Prelude.{ℕ, ◌+◌, ◌*◌, ◌/◌, ◌%◌, ◌^◌, ◌==◌, ◌&&◌, ◌||◌, Bool, true, false, nat_le, nat_lt, is_none, unwrap_or, List, length, Option, Some, None, if◌then◌else◌}
 use Rattle.text.specs.Text.{◌>>=◌}
 use Rattle.lspci.specs.declared.acs.Acs.{Acs}
 use Rattle.lspci.specs.declared.acs.Acs.TheVariants.{Absent, Unknown, Standard, Wide}
@@ -66,3 +66,24 @@ acs_of bytes =
     if is_cut bytes then Unknown
     else (if is_none (port_type_of bytes) then Absent
     else (if has_extended bytes then acs_at bytes (extended_of bytes 0x0d) else Unknown))
+
+-- ---- the Egress Control Vector (PCIe 4.0, 7.7.8.4)
+
+-- how many bits it has: bits 15:8 of the capability register, in which 0 stands for 256
+abbrev pub vector_size : ℕ → ℕ
+vector_size capability = if capability / 256 % 256 == 0 then 256 else capability / 256 % 256
+
+-- it begins 8 bytes behind the start of the capability
+abbrev pub vector_bit : List ℕ → ℕ → ℕ → Option Bool
+vector_bit bytes number offset = do
+  register ← register_at (offset + (8 + number / 32 * 4))
+  part ← long_at bytes register
+  Some ((part / 2 ^ (number % 32)) % 2 == 1)
+
+abbrev pub bit_by : List ℕ → ℕ → Acs → Option Bool
+bit_by bytes number (Standard capability control) = if nat_lt number (vector_size capability) then extended_of bytes 0x0d >>= vector_bit bytes number else None
+bit_by bytes number _ = None
+
+-- the bit of the port of this number, if the vector has one and it is shown
+abbrev pub egress_bit : List ℕ → ℕ → Option Bool
+egress_bit bytes number = bit_by bytes number (acs_of bytes)

@@ -70,3 +70,11 @@ port_type_of bytes = do
   register ← register_at (offset + 2)
   flags ← word_at bytes register
   Some (port_type_of_bits (flags / 16 % 16))
+
+-- bits 31:24 of the Link Capabilities register, which stands 12 bytes behind the start of the capability (PCIe 4.0, 7.5.3.6)
+abbrev pub port_number_of : List ℕ → Option ℕ
+port_number_of bytes = do
+  offset ← capability_of bytes 0x10
+  register ← register_at (offset + 12)
+  capabilities ← long_at bytes register
+  Some (capabilities / 0x100_0000)

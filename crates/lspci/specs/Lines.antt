@@ -1,5 +1,9 @@
 -- What a line of a dump says, as `lspci -xxx` prints it.
-use Rattle.std.specs.Prelude.{ℕ, zero, suc, ◌+◌, ◌*◌, ◌==◌, ◌||◌, List, [], ◌∷◌, length, slice_index, slice_range, Option, Some, None, option_map, option_and_then, if◌then◌else◌}
+use Rattle.std.specs.Prelude.{ℕ, zero, suc, ◌+◌, ◌-◌, ◌*◌, ◌^◌, ◌==◌, ◌&&◌, ◌||◌, Bool, false, not, nat_lt, List, [], ◌∷◌, ◌++◌, codes, length, take, slice_index, slice_range, Option, Some, None, option_map, option_and_then, if◌then◌else◌}
+use Rattle.std.specs.Char.{is_ascii_whitespace}
+use Rattle.std.specs.Fmt.{digits, format_spec, padded_integral}
+use Rattle.std.specs.List.{suffix_len}
+use Rattle.fab_types.specs.Texts.{id_text}
 use Rattle.text.specs.Text.{◌>>=◌, at_blank, cut, hexadecimal, id_at}
 use Rattle.lspci.specs.declared.lines.Location.{Location}
 use Rattle.lspci.specs.declared.lines.Row.{Row}
@@ -20,6 +24,10 @@ or_with_segment word (Some id) = Some (record { segment = 0; id = id })
 -- `00:1c.0`, or `0000:00:1c.0`
 abbrev pub location_of : List ℕ → Option Location
 location_of word = or_with_segment word (id_at word)
+
+-- a location as `0000:00:1c.0`: the segment in four hexadecimal digits at least
+abbrev pub location_text : Location → List ℕ
+location_text location = padded_integral (format_spec 32 0 4 4 (2 ^ 64 - 1)) false [] (digits 16 false location.segment) ++ (codes ":" ++ id_text location.id)
 
 -- a location, a blank, and the device's name
 abbrev pub device_line : List ℕ → Option DumpLine
@@ -58,9 +66,21 @@ abbrev pub or_row : List ℕ → Option DumpLine → Option DumpLine
 or_row line None = row_line line
 or_row line (Some device) = Some device
 
--- a line without bytes is blank, and one that begins with a blank or a tab is a detail
-abbrev pub dump_line_of : List ℕ → Option DumpLine
-dump_line_of line =
-    if length line == 0 then Some says.Blank
-    else (if (slice_index line 0 == 32) || (slice_index line 0 == 9) then Some says.Detail
-    else or_row line (device_line line))
+-- the line without blanks, tabs and carriage returns at its end
+unfoldable pub trimmed : List ℕ → List ℕ
+trimmed line = take (length line - suffix_len is_ascii_whitespace line) line
+
+abbrev pub begins_blank : List ℕ → Bool
+begins_blank line = not (length line == 0) && ((slice_index line 0 == 32) || (slice_index line 0 == 9))
+
+-- a line that is no detail has something at its end that is passed over
+abbrev pub is_ragged : List ℕ → Bool
+is_ragged line = not (begins_blank line) && nat_lt (length (trimmed line)) (length line)
+
+-- a line without bytes is blank
+abbrev pub said_by : List ℕ → Option DumpLine
+said_by line = if length line == 0 then Some says.Blank else or_row line (device_line line)
+
+-- one that begins with a blank or a tab is a detail; of any other what is blank at its end doesn't count
+unfoldable pub dump_line_of : List ℕ → Option DumpLine
+dump_line_of line = if begins_blank line then Some says.Detail else said_by (trimmed line)

@@ -1,7 +1,7 @@
 //! The ACS capability of a function (PCIe 4.0, 7.7.8).
 
 ghost use Rattle.std.specs.Prelude.{◌≡◌};
-ghost use Rattle.lspci.specs.Acs.{acs_of, has_wide_registers, is_wide_device, standard_acs, wide_acs};
+ghost use Rattle.lspci.specs.Acs.{acs_of, egress_bit, has_wide_registers, is_wide_device, standard_acs, vector_bit, vector_size, wide_acs};
 
 use crate::capabilities::PortType;
 use crate::space::ConfigSpace;
@@ -28,6 +28,16 @@ fn is_wide_device(device: u16) -> bool
         || 0xa167 <= device && device <= 0xa16a
         || 0xa290 <= device && device <= 0xa29f
         || 0xa2e7 <= device && device <= 0xa2ee
+}
+
+/// How many bits an Egress Control Vector has, by the capability register.
+fn vector_size(capability: u16) -> u16
+    ensures { result ≡ vector_size capability }
+{
+    match capability / 256 % 256 {
+        0 => 256,
+        size => size,
+    }
 }
 
 impl ConfigSpace<'_> {
@@ -87,5 +97,27 @@ impl ConfigSpace<'_> {
             self.standard_acs(offset)
         };
         registers.unwrap_or(Acs::Unknown)
+    }
+
+    /// The bit of a port in the Egress Control Vector of the capability at this offset.
+    fn vector_bit(&self, number: u8, offset: u16) -> Option<bool>
+        ensures { result ≡ vector_bit self.now.bytes.now number offset }
+    {
+        let register = offset.checked_add(8 + u16::from(number / 32) * 4)?;
+        let part = self.long(register)?;
+        Some((part >> (number % 32)) % 2 == 1)
+    }
+
+    /// The bit of the port of this number in the Egress Control Vector, if the vector has one and it is shown. Requests for
+    /// a port whose bit is 0 go there directly (PCIe 4.0, 7.7.8.4).
+    pub fn egress_bit(&self, number: u8) -> Option<bool>
+        ensures { result ≡ egress_bit self.now.bytes.now number }
+    {
+        match self.acs() {
+            Acs::Standard { capability, .. } if u16::from(number) < vector_size(capability) => {
+                self.vector_bit(number, self.extended_capability(0x0d)?)
+            }
+            _ => None,
+        }
     }
 }

@@ -1,7 +1,7 @@
 //! The lists of capabilities of a configuration space (PCIe 4.0, 7.5.1.1.11 and 7.6.3).
 
 ghost use Rattle.std.specs.Prelude.{◌≡◌};
-ghost use Rattle.lspci.specs.Capabilities.{capability_of, capability_from, entry_at, extended_entry_at, extended_from, extended_of, has_extended, port_type_of, port_type_of_bits};
+ghost use Rattle.lspci.specs.Capabilities.{capability_of, capability_from, entry_at, extended_entry_at, extended_from, extended_of, has_extended, port_number_of, port_type_of, port_type_of_bits};
 
 use crate::space::ConfigSpace;
 
@@ -138,5 +138,14 @@ impl ConfigSpace<'_> {
         let offset = self.capability(0x10)?;
         let flags = self.word(offset.checked_add(2)?)?;
         Some(port_type_of_bits(flags / 16 % 16))
+    }
+
+    /// The number that a port has among those of its switch or root complex, if it is shown (PCIe 4.0, 7.5.3.6).
+    pub fn port_number(&self) -> Option<u8>
+        ensures { result ≡ port_number_of self.now.bytes.now }
+    {
+        let offset = self.capability(0x10)?;
+        let capabilities = self.long(offset.checked_add(12)?)?;
+        Some((capabilities / 0x100_0000) as u8)
     }
 }

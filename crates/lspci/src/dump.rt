@@ -2,10 +2,10 @@
 
 ghost use Rattle.std.specs.Prelude.{◌≡◌, ◌≤◌, ◌==◌, ◌&&◌, None, take, drop};
 ghost use Rattle.std.specs.List.{list_any};
-ghost use Rattle.lspci.specs.Reading.{IsStep, closed, empty, is_whole, opened, with_device, with_line, with_row};
+ghost use Rattle.lspci.specs.Reading.{IsStep, closed, empty, is_foreign, is_whole, noting, opened, passing, unless_foreign, with_device, with_form, with_line, with_row};
 
 use crate::fault::DumpCause;
-use crate::lines::{DumpLine, Location, Row, dump_line_of};
+use crate::lines::{DumpLine, Location, Row, dump_line_of, is_ragged};
 use crate::space::ConfigSpace;
 use std::alloc::Global;
 use std::marker::Model;
@@ -23,12 +23,22 @@ pub struct Device {
     pub count: usize,
 }
 
+/// What was passed over in a text, counted up to 4,294,967,295.
+#[derive(Clone, Copy, Debug, PartialEq, Eq)]
+pub struct Passed {
+    /// Lines that are no part of a dump: they have no form that a dump has, and stand where no device's rows are read.
+    pub lines: u32,
+    /// Lines at whose end blanks, tabs or carriage returns were passed over.
+    pub ends: u32,
+}
+
 /// The devices of a machine with their configuration spaces, as a dump shows them.
 #[derive(Drop)]
 pub struct Dump {
     devices: Vec<Device>,
     bytes: Vec<u8>,
     current: Option<Device>,
+    passed: Passed,
 }
 
 impl Model for Dump {
@@ -55,6 +65,7 @@ impl Dump {
             devices: Vec::new(alloc),
             bytes: Vec::new(alloc),
             current: None,
+            passed: Passed { lines: 0, ends: 0 },
         }
     }
 
@@ -137,18 +148,69 @@ impl Dump {
         }
     }
 
-    /// Reads one line.
-    #[tactic(auto, unfolding(crate::specs::Reading::with_line))]
-    pub(crate) fn take_line(&mut self, number: u32, line: &[u8]) -> Result<(), DumpCause>
-        ensures { IsStep (with_line self.old number line.now) result self.new }
+    /// Counts a line that is no part of a dump.
+    pub(crate) fn pass(&mut self)
+        ensures { self.new ≡ passing self.old }
     {
-        match dump_line_of(line) {
+        self.passed.lines = self.passed.lines.saturating_add(1);
+    }
+
+    /// Counts the line if something at its end is passed over.
+    fn note(&mut self, line: &[u8])
+        ensures { self.new ≡ noting line.now self.old }
+    {
+        if is_ragged(line) {
+            self.passed.ends = self.passed.ends.saturating_add(1);
+        }
+    }
+
+    /// Is a line of this form no part of a dump?
+    pub(crate) fn is_foreign(&self, form: &Option<DumpLine>) -> bool
+        ensures { result ≡ is_foreign form.now (self.now).current }
+    {
+        match (form, self.current) {
+            (None | Some(DumpLine::Detail), None) => true,
+            _ => false,
+        }
+    }
+
+    fn take_form(&mut self, number: u32, form: Option<DumpLine>) -> Result<(), DumpCause>
+        ensures { IsStep (with_form self.old number form) result self.new }
+    {
+        match form {
             Some(DumpLine::Device(location)) => self.take_device(number, &location),
             Some(DumpLine::Row(row)) => self.take_row(&row),
             Some(DumpLine::Detail) => Ok(()),
             Some(DumpLine::Blank) => self.close(),
             None => Err(DumpCause::Line),
         }
+    }
+
+    /// The same, unless the line is no part of a dump.
+    fn take_or_pass(&mut self, number: u32, form: Option<DumpLine>) -> Result<(), DumpCause>
+        ensures { IsStep (unless_foreign self.old number form) result self.new }
+    {
+        if self.is_foreign(&form) {
+            self.pass();
+            return Ok(());
+        }
+        self.take_form(number, form)
+    }
+
+    /// Reads one line.
+    #[tactic(auto, unfolding(crate::specs::Reading::with_line))]
+    pub(crate) fn take_line(&mut self, number: u32, line: &[u8]) -> Result<(), DumpCause>
+        ensures { IsStep (with_line self.old number line.now) result self.new }
+    {
+        self.note(line);
+        self.take_or_pass(number, dump_line_of(line))
+    }
+
+    /// What was passed over in the text.
+    pub fn passed(&self) -> Passed
+        ensures { result ≡ (self.now).passed }
+    {
+        self.passed
     }
 
     /// All devices, in the order of their lines.

@@ -6,8 +6,8 @@ use thiserror::Error;
 /// What is wrong with a line of a dump.
 #[derive(Clone, Copy, Debug, PartialEq, Eq, Error)]
 pub enum DumpCause {
-    /// The line has no form that a dump has.
-    #[error("the line is not understood")]
+    /// The line has no form that a dump has, and stands among the rows of a device.
+    #[error("the line is not understood (mixed with other output?)")]
     Line,
     /// The row belongs to no device, or another offset is due.
     #[error("the row is out of place")]
@@ -19,7 +19,7 @@ pub enum DumpCause {
     #[error("the device stands there twice")]
     Twice,
     /// The text ends without a device.
-    #[error("there is no device")]
+    #[error("there is no device: run lspci -xxxx as root")]
     Empty,
     /// Memory was refused.
     #[error("out of memory")]

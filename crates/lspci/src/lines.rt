@@ -1,9 +1,10 @@
 //! What a line of a dump says.
 
 ghost use Rattle.std.specs.Prelude.{◌≡◌, ◌+◌, ◌≤◌, length};
-ghost use Rattle.lspci.specs.Lines.{byte_at, device_line, dump_line_of, location_of, row_bytes, row_line, row_of};
+ghost use Rattle.lspci.specs.Lines.{begins_blank, byte_at, device_line, dump_line_of, is_ragged, location_of, row_bytes, row_line, row_of, said_by, trimmed};
 
 use fab_types::Bdf;
+use std::fmt;
 use text::{at_blank, cut, hex_byte, hexadecimal, id};
 
 /// Where a device is: its PCI segment, and its ID there. `lspci` calls a segment a domain.
@@ -13,6 +14,19 @@ pub struct Location {
     pub segment: u32,
     /// Bus, device and function.
     pub id: Bdf,
+}
+
+/// Written as `0000:00:1c.0`: the segment in four hexadecimal digits at least.
+impl fmt::Display for Location {
+    ghost use Rattle.std.specs.Prelude.{Some};
+    ghost use Rattle.lspci.specs.Lines.{location_text};
+
+    ghost output = { λ location. Some (location_text location) };
+
+    fn fmt<W: fmt::Write>(&self, f: &mut fmt::Formatter<W>) -> fmt::Result {
+        let (segment, id) = (self.segment, self.id);
+        write!(f, "{segment:04x}:{id}")
+    }
 }
 
 /// Sixteen bytes of a configuration space.
@@ -37,8 +51,8 @@ pub enum DumpLine {
     Blank,
 }
 
-/// A location, as `00:1c.0` or `0000:00:1c.0`.
-fn location_of(word: &[u8]) -> Option<Location>
+/// A location, as `00:1c.0` or `0000:00:1c.0`. Without a segment it is in segment 0.
+pub fn location_of(word: &[u8]) -> Option<Location>
     ensures { result ≡ location_of word.now }
 {
     if let Some(id) = id(word) {
@@ -102,18 +116,47 @@ fn row_line(line: &[u8]) -> Option<DumpLine>
     Some(DumpLine::Row(row_of(parts.before, parts.after)?))
 }
 
-/// What a line of a dump says, if it has one of the forms.
-pub fn dump_line_of(line: &[u8]) -> Option<DumpLine>
-    ensures { result ≡ dump_line_of line.now }
+/// The line without blanks, tabs and carriage returns at its end.
+pub fn trimmed(line: &[u8]) -> &[u8]
+    ensures { result.now ≡ trimmed line.now }
+{
+    line.trim_ascii_end()
+}
+
+/// Does it begin with a blank or a tab?
+fn begins_blank(line: &[u8]) -> bool
+    ensures { result ≡ begins_blank line.now }
+{
+    !line.is_empty() && (line[0] == b' ' || line[0] == b'\t')
+}
+
+/// Has a line that is no detail something at its end that is passed over?
+pub fn is_ragged(line: &[u8]) -> bool
+    ensures { result ≡ is_ragged line.now }
+{
+    !begins_blank(line) && trimmed(line).len() < line.len()
+}
+
+/// What a line says that is no detail and has no blank at its end.
+fn said_by(line: &[u8]) -> Option<DumpLine>
+    ensures { result ≡ said_by line.now }
 {
     if line.is_empty() {
         return Some(DumpLine::Blank);
-    }
-    if line[0] == b' ' || line[0] == b'\t' {
-        return Some(DumpLine::Detail);
     }
     match device_line(line) {
         Some(device) => Some(device),
         None => row_line(line),
     }
+}
+
+/// What a line of a dump says, if it has one of the forms. What is blank at its end doesn't count.
+#[tactic(auto, unfolding(crate::specs::Lines::dump_line_of))]
+pub fn dump_line_of(line: &[u8]) -> Option<DumpLine>
+    ensures { result ≡ dump_line_of line.now }
+{
+    if begins_blank(line) {
+        return Some(DumpLine::Detail);
+    }
+    said_by(trimmed(line))
 }

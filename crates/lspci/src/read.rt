@@ -1,10 +1,11 @@
 //! Reading a dump.
 
 ghost use Rattle.std.specs.Prelude.{◌≡◌};
-ghost use Rattle.lspci.specs.Reading.{IsReading, IsStep, closed, end_of, reading, unless_empty};
+ghost use Rattle.lspci.specs.Reading.{IsReading, IsStep, closed, end_by, end_of, passing, reading, unless_empty};
 
 use crate::dump::Dump;
 use crate::fault::{DumpCause, DumpFault};
+use crate::lines::{DumpLine, dump_line_of, trimmed};
 use std::alloc::Global;
 use text::cut;
 
@@ -25,19 +26,38 @@ impl Dump {
         }
     }
 
-    /// Behind the last line feed stands nothing.
-    #[tactic(auto, unfolding(crate::specs::Reading::end_of))]
-    fn end(&mut self, rest: &[u8]) -> Result<(), DumpCause>
-        ensures { IsStep (end_of self.old rest.now) result self.new }
+    fn pass_last(&mut self) -> Result<(), DumpCause>
+        ensures { IsStep (unless_empty (closed (passing self.old))) result self.new }
     {
-        if rest.is_empty() {
-            self.close_last()
+        self.pass();
+        self.close_last()
+    }
+
+    fn end_by(&mut self, form: Option<DumpLine>) -> Result<(), DumpCause>
+        ensures { IsStep (end_by self.old form) result self.new }
+    {
+        if self.is_foreign(&form) {
+            self.pass_last()
         } else {
             Err(DumpCause::Line)
         }
     }
 
-    /// Reads what `lspci -xxx` or `lspci -xxxx` printed, with or without `-v` and `-D`.
+    /// Behind the last line feed stands nothing, or what is no part of a dump.
+    #[tactic(auto, unfolding(crate::specs::Reading::end_of))]
+    fn end(&mut self, rest: &[u8]) -> Result<(), DumpCause>
+        ensures { IsStep (end_of self.old rest.now) result self.new }
+    {
+        if trimmed(rest).is_empty() {
+            self.close_last()
+        } else {
+            self.end_by(dump_line_of(rest))
+        }
+    }
+
+    /// Reads what `lspci -xxx` or `lspci -xxxx` printed, with or without `-v` and `-D`. What ends a line as blanks or a
+    /// carriage return is passed over and counted, and so are lines without a form of a dump where no device's rows are
+    /// read: before the first device, behind the last, and between two.
     ///
     /// # Errors
     ///

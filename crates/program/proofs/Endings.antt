@@ -15,10 +15,14 @@ none_added : (written : Option (List File)) → Adds written written []
 none_added None = tt
 none_added (Some files) = sym (append-nil files)
 
--- what a command wrote to its output that writes no file
-pub wrote_none : (status : ExitStatus) (old new : Option (List ℕ)) (written : Option (List File)) (Prints : List ℕ → Type 0) → status ≡ Done
+-- what a command that ends in `Done` wrote to its output
+wrote_none : (status : ExitStatus) (old new : Option (List ℕ)) (written : Option (List File)) (Prints : List ℕ → Type 0) → status ≡ Done
     → Wrote old new Prints → WroteBoth old new written written (λ text files. IsDoneWith status files (Prints text))
 wrote_none status old new written Prints done wrote = (wrote.0, [], (done, refl, wrote.1), wrote.2, none_added written)
+
+-- what any command wrote to its output that writes no file
+pub wrote_no_file : (old new : Option (List ℕ)) (written : Option (List File)) (Prints : List ℕ → Type 0) → Wrote old new Prints → WroteBoth old new written written (λ text files. (files ≡ []) × Prints text)
+wrote_no_file old new written Prints wrote = (wrote.0, [], (refl, wrote.1), wrote.2, none_added written)
 
 -- what a command wrote that ends in `Done`
 pub done_writes : {U : Type 0} (ended : Result U Fault) (status : Result ExitStatus Fault) (old new : Option (List ℕ)) (written : Option (List File)) (Prints : List ℕ → Type 0)

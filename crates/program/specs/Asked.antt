@@ -5,6 +5,7 @@ use Rattle.commands.specs.First.{Prints}
 use Rattle.commands.specs.Runs.{AlonePrints, JournalPrints, ReplayPrints, RunPrints}
 use Rattle.draw_command.specs.Drawn.{DrawPrints}
 use Rattle.explain_command.specs.Explained.{Explains}
+use Rattle.import_command.specs.declared.command.Imported.{Imported}
 use Rattle.import_command.specs.Printed.{ImportPrints}
 use Rattle.inputs.specs.Files.{File}
 use Rattle.inputs.specs.declared.fault.ExitStatus.{ExitStatus}
@@ -26,7 +27,7 @@ AskedDoes holds (Replay layout journal number) status text written = IsDoneWith 
 AskedDoes holds (Threads layout script turns) status text written = IsDoneWith status written (ThreadsPrints holds layout script text)
 AskedDoes holds (Draw layout) status text written = IsDoneWith status written (DrawPrints holds layout text)
 AskedDoes holds (Explain layout folder groups) status text written = Explains holds layout folder groups status text written
-AskedDoes holds (Import dump owners root) status text written = IsDoneWith status written ((count : ℕ) × ImportPrints holds dump owners root count text)
+AskedDoes holds (Import dump owners root partial) status text written = (written ≡ []) × ((made : Imported) × (status ≡ made.status) × ImportPrints holds dump owners root partial made text)
 
 -- the first word is `import`
 abbrev pub begins_with_import : List (List ℕ) → Bool

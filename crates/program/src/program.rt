@@ -12,7 +12,7 @@ use commands::replay::replay;
 use commands::run::{alone, journal, run};
 use draw_command::draw;
 use explain_command::explain;
-use import_command::import_layout;
+use import_command::{Imported, import_layout};
 use inputs::{ExitStatus, Fault, FileGiver, FileTaker};
 use std::alloc::Global;
 use std::convert::AsStr;
@@ -25,8 +25,8 @@ use threads_command::threads;
 /// Carries out the command that the words are, without the program's name. What it prints goes to
 /// `out`, and where it stops before its work is done, one line of why goes to `err`. The files are those that
 /// the words name; scripts go to `scripts`. Where the words ask for a command and it is done, it has written what that prints,
-/// and the status is that of what was printed; and where they begin with `import`, one line goes to `err` on how much a layout
-/// hasn't of the machine, if there is anything.
+/// and the status is that of what was printed; and where they begin with `import`, lines go to `err` on what a layout hasn't
+/// of the machine, and on what of the dump was passed over, if there is anything.
 #[tactic(auto, using(crate::proofs::Endings::not_done))]
 pub fn command<R, S: AsStr, F: FileGiver, T: FileTaker, O: Write, E: Write>(
     rt: &R,
@@ -42,11 +42,11 @@ where
     ensures asked { (asked : Asked) → Ask (map S.text words.now) asked → is_done result ≡ true → WroteBoth (O.contents out.old) (O.contents out.new) (T.written scripts.old) (T.written scripts.new) (AskedDoes (F.holds files.now) asked result) }
     ensures silent { is_done result ≡ true → begins_with_import (map S.text words.now) ≡ false → err.new ≡ err.old }
 {
-    let mut left_out = 0usize;
-    match carried_out(rt, alloc, words, files, scripts, out, &mut left_out) {
+    let mut imported = None;
+    match carried_out(rt, alloc, words, files, scripts, out, &mut imported) {
         Ok(status) => {
             if begins_with_import(words) {
-                tell_left_out(left_out, err);
+                tell_imported(imported, err);
             }
             status
         }
@@ -64,11 +64,36 @@ fn begins_with_import<S: AsStr>(words: &[S]) -> bool
     }
 }
 
-/// Tells how much a layout hasn't of a machine.
-fn tell_left_out<E: Write>(count: usize, err: &mut E) {
-    if count > 0 {
-        // Where the line cannot be written, the comments of the layout tell.
-        let _ = writeln!(err, "left out: {count}, as comments of the layout say");
+/// Tells how many endpoints have no place in a layout.
+fn tell_left_out<E: Write>(imported: &Imported, err: &mut E) {
+    let out = imported.endpoints_out;
+    let all = imported.functions.saturating_add(out);
+    let have = if out == 1 { "has" } else { "have" };
+    if out > 0 {
+        // Where the line cannot be written, the comments of the layout and the status tell.
+        let _ = writeln!(
+            err,
+            "{out} of {all} endpoints {have} no place in this layout: see its lines \"# left out\""
+        );
+    }
+}
+
+/// Tells what of a dump was passed over.
+fn tell_passed<E: Write>(imported: &Imported, err: &mut E) {
+    let (lines, ends) = (imported.passed.lines, imported.passed.ends);
+    if lines > 0 {
+        let _ = writeln!(err, "passed over: {lines} lines that are no part of a dump");
+    }
+    if ends > 0 {
+        let _ = writeln!(err, "passed over: what is blank at the end of {ends} lines");
+    }
+}
+
+/// Tells what a layout hasn't of a machine, and what of the dump was passed over.
+fn tell_imported<E: Write>(imported: Option<Imported>, err: &mut E) {
+    if let Some(imported) = imported {
+        tell_left_out(&imported, err);
+        tell_passed(&imported, err);
         let _ = err.flush();
     }
 }
@@ -80,14 +105,14 @@ fn carried_out<'a, R, S: AsStr, F: FileGiver, T: FileTaker, O: Write>(
     files: &F,
     scripts: &mut T,
     out: &mut O,
-    left_out: &mut usize,
+    imported: &mut Option<Imported>,
 ) -> Result<ExitStatus, Fault<'a>>
 where
     R: Threads + Wait + Clock + Copy + Send + Sync + Drop + 'static,
     ensures { (asked : Asked) → Ask (map S.text words.entry.now) asked → IfOk result (λ status. WroteBoth (O.contents out.old) (O.contents out.new) (T.written scripts.old) (T.written scripts.new) (AskedDoes (F.holds files.now) asked status)) }
 {
     let request = command_line::read_request(alloc, words)?;
-    let status = perform(rt, alloc, request, files, scripts, out, left_out)?;
+    let status = perform(rt, alloc, request, files, scripts, out, imported)?;
     out.flush()?;
     Ok(status)
 }
@@ -109,7 +134,7 @@ fn perform<'a, R, F: FileGiver, T: FileTaker, O: Write>(
     files: &F,
     scripts: &mut T,
     out: &mut O,
-    left_out: &mut usize,
+    imported: &mut Option<Imported>,
 ) -> Result<ExitStatus, Fault<'a>>
 where
     R: Threads + Wait + Clock + Copy + Send + Sync + Drop + 'static,
@@ -141,9 +166,10 @@ where
         } => done(threads(rt, alloc, files, names, turns, out)),
         Request::Draw { layout } => done(draw(alloc, files, layout, out)),
         Request::Explain { asked } => explain(rt, alloc, files, asked, scripts, out),
-        Request::Import { dump, owners, root } => {
-            *left_out = import_layout(alloc, files, dump, owners, root, out)?;
-            Ok(ExitStatus::Done)
+        Request::Import { asked } => {
+            let made = import_layout(alloc, files, asked, out)?;
+            *imported = Some(made);
+            Ok(made.status)
         }
     }
 }

@@ -8,4 +8,5 @@ returns c =
     let plain = new_app (codes "import") in
     let dump = with_rule plain (word_rule (codes "DUMP")) in
     let owners = with_rule dump (option_rule (codes "owners")) in
-    c.with_option-2.ensures owners (c.in_ok-with_owners.ensures dump (c.in_ok-with_dump.ensures plain c.subcommand-plain.ensures))
+    let root = with_rule owners (option_rule (codes "root")) in
+    c.with_flag.ensures root (c.in_ok-with_root.ensures owners (c.in_ok-with_owners.ensures dump (c.in_ok-with_dump.ensures plain c.subcommand-plain.ensures)))

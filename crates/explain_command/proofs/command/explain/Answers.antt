@@ -1,26 +1,35 @@
-use Rattle.std.proofs.Common.{refl}
-use Rattle.std.specs.Prelude.{option_map}
+use Rattle.std.proofs.Common.{rules, ◌≡◌, ◌∙◌, ℕ, ap, refl}
+use Rattle.std.specs.Prelude.{option_map, string_bytes, Ok}
+use Rattle.layout.specs.Reading.{reading}
+use Rattle.findings_text.specs.Remarks.{Told, remarks_of}
 use Rattle.findings_text.specs.Witnesses.{explanation_text}
+use Rattle.explain_command.specs.Explained.{status_after}
 use Rattle.explain_command.specs.Scripts.{scripts_of}
 use Rattle.explain_command.proofs.command.explain.Goals as goal
 
 pub returns-clause-ok : goal.returns-clause-ok
 returns-clause-ok g c =
-    let layout = c.in_ok-layout.ensures.layout in
-    let found = c.in_ok-findings.ensures in (
-      explanation_text c.in_ok-layout.layout c.in_ok-findings.findings c.args.asked.groups,
-      scripts_of (option_map (λ name. name.now) c.args.asked.scripts) c.in_ok-findings.findings,
+    let text = string_bytes c.in_ok-text.text in
+    let folder = option_map (λ name. name.now) c.args.asked.scripts in
+    let platform = c.in_ok-layout.layout in
+    let told = c.in_ok-remarks.remarks in
+    let found = c.in_ok-findings.findings in
+    let same : told ≡ remarks_of text = search rules in
+    let read : reading text ≡ Ok platform = search rules in (
+      explanation_text platform told found c.args.asked.groups,
+      scripts_of folder told found,
       record {
-        layout_text = layout.0;
-        layout_file = layout.1;
-        platform = c.in_ok-layout.layout;
-        layout = layout.2;
-        findings = c.in_ok-findings.findings;
-        guarded = found.guarded;
-        told = found.told;
-        ends_is = c.status_after.ensures;
-        all = refl;
-        scripts = refl;
+        layout_text = text;
+        layout_file = c.in_ok-text.ensures.text;
+        platform = platform;
+        layout = read;
+        findings = found;
+        nothing = c.in_ok-findings.ensures.nothing;
+        guarded = c.in_ok-findings.ensures.guarded;
+        told = c.in_ok-findings.ensures.told;
+        ends_is = c.status_after.ensures ∙ ap (status_after found) c.left_out_count.ensures.value ∙ ap (λ (t : Told). status_after found t.left_out) same;
+        all = ap (λ (t : Told). explanation_text platform t found c.args.asked.groups) same;
+        scripts = ap (λ (t : Told). scripts_of folder t found) same;
       },
       c.in_ok-write_explanation.ensures,
       c.in_ok-write_scripts.ensures.ok,

@@ -6,4 +6,4 @@ use Rattle.explain_command.proofs.scripts.write_pairs.Given as goal
 
 -- the files so far are written
 abbrev pub invariant-loop-pair : goal.invariant-loop-pair
-invariant-loop-pair g l = Adds (g.T.FileTaker.written l.initial.taker) (g.T.FileTaker.written l.taker) (flat_map (pair_files l.folder) (take l.pair-index l.pairs))
+invariant-loop-pair g l = Adds (g.T.FileTaker.written l.initial.taker) (g.T.FileTaker.written l.taker) (flat_map (pair_files l.folder l.remarks) (take l.pair-index l.pairs))

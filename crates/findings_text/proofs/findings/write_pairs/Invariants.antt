@@ -6,4 +6,4 @@ use Rattle.findings_text.proofs.findings.write_pairs.Given as goal
 
 -- the pairs so far are written
 abbrev pub invariant-loop-pair : goal.invariant-loop-pair
-invariant-loop-pair g l = Appends (g.W.Write.contents l.initial.out) (g.W.Write.contents l.out) (flat_map pair_lines (take l.pair-index l.pairs))
+invariant-loop-pair g l = Appends (g.W.Write.contents l.initial.out) (g.W.Write.contents l.out) (flat_map (pair_lines l.remarks.names) (take l.pair-index l.pairs))

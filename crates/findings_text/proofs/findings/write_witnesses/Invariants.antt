@@ -6,4 +6,4 @@ use Rattle.findings_text.proofs.findings.write_witnesses.Given as goal
 
 -- the witnesses so far are written
 abbrev pub invariant-loop-witness : goal.invariant-loop-witness
-invariant-loop-witness g l = Appends (g.W.Write.contents l.initial.out) (g.W.Write.contents l.out) (flat_map witness_text (take l.witness-index l.witnesses))
+invariant-loop-witness g l = Appends (g.W.Write.contents l.initial.out) (g.W.Write.contents l.out) (flat_map (witness_text l.remarks.names) (take l.witness-index l.witnesses))

@@ -6,4 +6,4 @@ use Rattle.findings_text.proofs.linux.write_groups.Given as goal
 
 -- the groups so far are written
 abbrev pub invariant-loop-member : goal.invariant-loop-member
-invariant-loop-member g l = Appends (g.W.Write.contents l.initial.out) (g.W.Write.contents l.out) (flat_map (group_lines l.members) (take l.member-index l.members))
+invariant-loop-member g l = Appends (g.W.Write.contents l.initial.out) (g.W.Write.contents l.out) (flat_map (group_lines l.remarks.names l.members) (take l.member-index l.members))

@@ -6,4 +6,4 @@ use Rattle.findings_text.proofs.linux.write_members.Given as goal
 
 -- the devices so far are written
 abbrev pub invariant-loop-member : goal.invariant-loop-member
-invariant-loop-member g l = Appends (g.W.Write.contents l.initial.out) (g.W.Write.contents l.out) (flat_map (member_text l.group) (take l.member-index l.members))
+invariant-loop-member g l = Appends (g.W.Write.contents l.initial.out) (g.W.Write.contents l.out) (flat_map (member_text l.remarks.names l.group) (take l.member-index l.members))

@@ -5,4 +5,4 @@ use Rattle.import.specs.Domains.{is_in}
 use Rattle.import.proofs.refusals.other_in.Given as goal
 
 abbrev pub invariant-loop-owner : goal.invariant-loop-owner
-invariant-loop-owner l = find (λ owner. is_in l.port l.buses owner.id && not (owner.domain == l.domain)) (drop l.owner-index l.owners) ≡ find (λ owner. is_in l.port l.buses owner.id && not (owner.domain == l.domain)) l.owners
+invariant-loop-owner l = find (λ owner. is_in l.port l.buses owner.location && not (owner.domain == l.domain)) (drop l.owner-index l.owners) ≡ find (λ owner. is_in l.port l.buses owner.location && not (owner.domain == l.domain)) l.owners

@@ -5,4 +5,4 @@ use Rattle.import.specs.Refusals.{has_device}
 use Rattle.import.proofs.refusals.unknown_owner.Given as goal
 
 abbrev pub invariant-loop-owner : goal.invariant-loop-owner
-invariant-loop-owner l = find (λ owner. not (has_device l.dump owner.id)) (drop l.owner-index l.owners) ≡ find (λ owner. not (has_device l.dump owner.id)) l.owners
+invariant-loop-owner l = find (λ owner. not (has_device l.dump owner.location)) (drop l.owner-index l.owners) ≡ find (λ owner. not (has_device l.dump owner.location)) l.owners

@@ -4,4 +4,4 @@ use Rattle.import.specs.Trees.{is_upstream_to}
 use Rattle.import.proofs.tree.upstream_to.Given as goal
 
 abbrev pub invariant-loop-device : goal.invariant-loop-device
-invariant-loop-device l = find (is_upstream_to l.dump l.bus) (drop l.device-index l.device-items) ≡ find (is_upstream_to l.dump l.bus) l.device-items
+invariant-loop-device l = find (is_upstream_to l.dump l.segment l.bus) (drop l.device-index l.device-items) ≡ find (is_upstream_to l.dump l.segment l.bus) l.device-items

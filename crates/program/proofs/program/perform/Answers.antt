@@ -1,4 +1,4 @@
-use Rattle.std.proofs.Common.{refl, ℕ}
+use Rattle.std.proofs.Common.{◌≡◌, refl}
 use Rattle.std.specs.Prelude.{IfOk, option_map}
 use Rattle.inputs.specs.Files.{WroteBoth}
 use Rattle.command_line.specs.CommandLine.{First, Run, Alone, Journal, Replay, Threads, Draw, Explain, Import}
@@ -6,12 +6,12 @@ use Rattle.command_line.specs.declared.request.Request.TheVariants as request
 use Rattle.commands.specs.First.{Prints}
 use Rattle.commands.specs.Runs.{AlonePrints, JournalPrints, ReplayPrints, RunPrints}
 use Rattle.draw_command.specs.Drawn.{DrawPrints}
+use Rattle.import_command.specs.declared.command.Imported.{Imported}
 use Rattle.import_command.specs.Printed.{ImportPrints}
-use Rattle.inputs.specs.declared.fault.ExitStatus.TheVariants.{Done}
 use Rattle.threads_command.specs.Threads.{ThreadsPrints}
 use Rattle.program.specs.Asked.{AskedDoes}
 use Rattle.command_line.proofs.Asking.{asked_alone}
-use Rattle.program.proofs.Endings.{done_writes, wrote_none}
+use Rattle.program.proofs.Endings.{done_writes, wrote_no_file}
 use Rattle.program.proofs.program.perform.Goals as goal
 
 pub returns-in-First : goal.returns-in-First
@@ -68,10 +68,16 @@ returns-in-Explain g c = λ asked is.
     asked_alone (λ a. IfOk c.explain.result (λ status. WroteBoth (g.O.Write.contents c.args.out.now) (g.O.Write.contents c.explain.new.out) (g.T.FileTaker.written c.args.scripts.now) (g.T.FileTaker.written c.explain.new.scripts) (AskedDoes (g.F.FileGiver.holds c.args.files.now) a status)))
     (request.Explain c.in-Explain.asked) (Explain c.in-Explain.asked.layout.now (option_map (λ word. word.now) c.in-Explain.asked.scripts) c.in-Explain.asked.groups) asked refl c.explain.ensures.ok (rw c.in-Explain.is at is)
 
-pub returns-in_ok-left_out-in-Import : goal.returns-in_ok-left_out-in-Import
-returns-in_ok-left_out-in-Import g c = λ asked is.
-    let written = c.in_ok-left_out-in-Import.ensures.ok in
-    asked_alone (λ a. WroteBoth (g.O.Write.contents c.args.out.now) (g.O.Write.contents c.import_layout.new.out) (g.T.FileTaker.written c.args.scripts.now) (g.T.FileTaker.written c.args.scripts.now) (AskedDoes (g.F.FileGiver.holds c.args.files.now) a Done))
-    (request.Import c.in-Import.dump c.in-Import.owners c.in-Import.root) (Import c.in-Import.dump.now (option_map (λ word. word.now) c.in-Import.owners) c.in-Import.root) asked refl
-    (wrote_none Done _ _ (g.T.FileTaker.written c.args.scripts.now) (λ text. (count : ℕ) × ImportPrints (g.F.FileGiver.holds c.args.files.now) c.in-Import.dump.now (option_map (λ word. word.now) c.in-Import.owners) c.in-Import.root count text) refl (written.0, (_, written.1), written.2))
+pub returns-in_ok-made-in-Import : goal.returns-in_ok-made-in-Import
+returns-in_ok-made-in-Import g c = λ asked is.
+    let wrote = c.in_ok-made-in-Import.ensures.ok in
+    let made = c.in_ok-made-in-Import.made in
+    let holds = g.F.FileGiver.holds c.args.files.now in
+    let dump = c.in-Import.asked.dump.now in
+    let owners = option_map (λ word. word.now) c.in-Import.asked.owners in
+    let root = c.in-Import.asked.root in
+    let partial = c.in-Import.asked.partial in
+    asked_alone (λ a. WroteBoth (g.O.Write.contents c.args.out.now) (g.O.Write.contents c.import_layout.new.out) (g.T.FileTaker.written c.args.scripts.now) (g.T.FileTaker.written c.args.scripts.now) (AskedDoes holds a made.status))
+    (request.Import c.in-Import.asked) (Import dump owners root partial) asked refl
+    (wrote_no_file _ _ (g.T.FileTaker.written c.args.scripts.now) (λ text. (it : Imported) × (made.status ≡ it.status) × ImportPrints holds dump owners root partial it text) (wrote.0, (made, refl, wrote.1), wrote.2))
     (rw c.in-Import.is at is)

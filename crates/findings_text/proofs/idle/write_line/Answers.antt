@@ -1,5 +1,0 @@
-use Rattle.reports.proofs.Writing.{joined}
-use Rattle.findings_text.proofs.idle.write_line.Goals as goal
-
-pub returns : goal.returns
-returns g c = joined _ _ _ _ _ c.in_ok-write_head.ensures c.in_ok-write_stop.ensures
