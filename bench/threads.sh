@@ -19,7 +19,7 @@ trap 'rm -rf "$work"' EXIT
 . "$here/bench/crates.sh"
 
 rings='fab_types frame_log crew wiring'
-turns='fab_types frame_log credit layout bridge vetted port domain locks monitor wiring link_side plan port_work'
+turns='fab_types frame_log credit layout bridge switch_output port domain locks monitor wiring link_side plan port_work'
 floods='fab_types layout injector fabric_core sweeps even_gate port_threads'
 
 copy_crates $rings $turns $floods

@@ -20,9 +20,9 @@ use fab_types::{
     SubmitFault, TickFault,
 };
 use frame_log::{Frame, FrameFault};
+use lane::Desk;
 use layout::Layout;
 use outboxes::Outboxes;
-use port::Desk;
 use port_queue::LeavingClasses;
 use std::alloc::Global;
 use std::marker::Model;

@@ -4,7 +4,7 @@ ghost use Rattle.std.specs.Prelude.{◌≡◌, IfErr, IfOk, None, OnErr, OnOk, S
 ghost use Rattle.fab_types.specs.declared.origin.Origin.{Origin};
 ghost use Rattle.agents.specs.Agents.{aliened_at_function, aliened_at_host};
 ghost use Rattle.agents.specs.Places.{HasMore, HasPlaces, IsGrown, is_of};
-ghost use Rattle.domains.specs.Aliens.{IsUntaken, aliened, aliened_at, answers, owner_of_frame};
+ghost use Rattle.domains.specs.Aliens.{IsUntaken, aliened, aliened_at, answers};
 ghost use Rattle.domains.specs.Domains.{place_of_function};
 
 use crate::agents::Agents;
@@ -13,6 +13,7 @@ use fab_types::{Bdf, DomainId, NoMemory, Origin, Place};
 use frame_log::{Frame, FrameFault};
 use layout::Start;
 use outboxes::Outboxes;
+use received::OwnsFrames;
 use std::sync::Wait;
 
 /// How many packets an alien one may lead to: its answer or what goes on in its place, and the answer to that.
@@ -165,11 +166,14 @@ impl Agents {
     {
         self.domains.answers_alien(frame.domain(), place, frame)
     }
+}
 
-    /// The domain that a frame of memory is of, if it is of one.
-    pub fn owner_of_frame(&self, page: u64) -> Option<DomainId>
-        ensures { result ≡ owner_of_frame self.now.domains page }
-    {
-        self.domains.owner_of_frame(page)
+impl OwnsFrames for Agents {
+    ghost use Rattle.domains.specs.Aliens.{owner_of_frame};
+
+    ghost owner_of_frame = { λ agents. owner_of_frame agents.domains };
+
+    fn owner_of_frame(&self, number: u64) -> Option<DomainId> {
+        self.domains.owner_of_frame(number)
     }
 }

@@ -3,7 +3,7 @@
 use crate::domains::Domains;
 use fab_types::PortId;
 use frame_log::{Frame, FrameFault};
-use port::Desk;
+use lane::Desk;
 use std::sync::Wait;
 
 impl Desk for Domains {

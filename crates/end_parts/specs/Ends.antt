@@ -12,8 +12,8 @@ use Rattle.outboxes.specs.Outboxes.{BoxView}
 use Rattle.injector.specs.Records.{Records}
 use Rattle.injector.specs.declared.record_ring.RecordRing.{RecordRing}
 use Rattle.end_parts.specs.Boxes.{IsCramped, with_answer, with_places}
-use Rattle.end_parts.specs.declared.ending.Receipt.{Receipt}
-use Rattle.end_parts.specs.declared.ending.Receipt.TheVariants as receipt
+use Rattle.received.specs.declared.receipt.Receipt.{Receipt}
+use Rattle.received.specs.declared.receipt.Receipt.TheVariants as receipt
 
 -- ---- an entry of its home
 
@@ -40,6 +40,7 @@ pub record SettledThere (frame : Descriptor) (ring ring' : RecordRing) : Type 0 
 abbrev pub EndsOwn : Receipt → Descriptor → BoxView → BoxView → RecordRing → RecordRing → Type 0
 EndsOwn receipt.Carry frame box box' ring ring' = Carries frame box box' × (ring' ≡ ring)
 EndsOwn receipt.Deliver frame box box' ring ring' = SettledThere frame ring ring' × (box' ≡ box)
+EndsOwn receipt.Relay frame box box' ring ring' = ⊥
 EndsOwn receipt.Nobody frame box box' ring ring' = ⊥
 
 -- Its home has no case for it: it has none by its receipt, or such an entry was illegal there. Nothing is said of a home
@@ -47,12 +48,14 @@ EndsOwn receipt.Nobody frame box box' ring ring' = ⊥
 abbrev pub HasNoCase : List ℕ → Receipt → Descriptor → Type 0
 HasNoCase locks receipt.Carry frame = IsSome (place_of locks frame.domain) → IllegalThere frame.domain (Carry frame.number)
 HasNoCase locks receipt.Deliver frame = IsSome (place_of locks frame.domain) → IllegalThere frame.domain (Deliver frame.number)
+HasNoCase locks receipt.Relay frame = Unit
 HasNoCase locks receipt.Nobody frame = Unit
 
 -- It has to wait: memory is wanted for what follows from it, or for places in the outbox; or a record is held.
 abbrev pub HasToWait : Receipt → Descriptor → BoxView → RecordRing → Type 0
 HasToWait receipt.Carry frame box ring = WantedThere frame.domain (Carry frame.number) ⊎ IsCramped box
 HasToWait receipt.Deliver frame box ring = IsSome ring.held
+HasToWait receipt.Relay frame box ring = ⊥
 HasToWait receipt.Nobody frame box ring = ⊥
 
 -- ---- an entry of the domain of that place, in a layout that isn't guarded

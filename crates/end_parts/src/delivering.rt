@@ -7,7 +7,7 @@ ghost use Rattle.domain.specs.Domains.{Makes};
 ghost use Rattle.locks.specs.Locks.{IllegalThere};
 ghost use Rattle.end_parts.specs.Endings.{unended_frame};
 ghost use Rattle.end_parts.specs.Ends.{HasNoCase, SettledThere};
-ghost use Rattle.end_parts.specs.declared.ending.Receipt.TheVariants as receipt;
+ghost use Rattle.received.specs.declared.receipt.Receipt.TheVariants as receipt;
 ghost use Rattle.end_parts.specs.declared.ending.Unended.TheVariants as unended;
 
 use crate::ending::Unended;

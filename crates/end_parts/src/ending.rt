@@ -5,18 +5,6 @@ ghost use Rattle.end_parts.specs.Endings.{has_moved};
 
 use frame_log::Frame;
 
-/// What a packet's home has to do with it where it is taken.
-/// Completions are those of PCIe 4.0, 2.2.9, requests are handled as in 2.3.1.
-#[derive(Clone, Copy, Debug, PartialEq, Eq)]
-pub enum Receipt {
-    /// A request reached its completer.
-    Carry,
-    /// A completion reached whom it answers.
-    Deliver,
-    /// It has no case here.
-    Nobody,
-}
-
 /// What became of the eligible packet of a class.
 #[derive(Clone, Copy, Debug, PartialEq, Eq)]
 pub enum Ending {

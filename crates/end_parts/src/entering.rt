@@ -5,7 +5,6 @@ ghost use Rattle.lane.specs.Queues.{frames_of};
 ghost use Rattle.end_parts.specs.Entering.{EntersEach, TriesToEnter};
 
 use fab_types::Class;
-use lane::LaneOut;
 use link::Egress;
 use outboxes::OriginBox;
 

@@ -12,7 +12,7 @@ mod serving;
 mod strays;
 
 pub use aliens::end_alien;
-pub use ending::{Ending, Receipt, Unended};
+pub use ending::{Ending, Unended};
 pub use entering::enter_each;
 pub use own::end_own;
 pub use serving::{Serving, serve_begin};

@@ -6,16 +6,17 @@ ghost use Rattle.locks.specs.Locks.{WantedThere};
 ghost use Rattle.end_parts.specs.Boxes.{IsCramped, with_places};
 ghost use Rattle.end_parts.specs.Endings.{unended_frame};
 ghost use Rattle.end_parts.specs.Ends.{Carries, EndsOwn, HasNoCase, HasToWait};
-ghost use Rattle.end_parts.specs.declared.ending.Receipt.TheVariants as receipt;
+ghost use Rattle.received.specs.declared.receipt.Receipt.TheVariants as receipt;
 ghost use Rattle.end_parts.specs.declared.ending.Unended.TheVariants as unended;
 
 use crate::delivering::deliver;
-use crate::ending::{Receipt, Unended};
+use crate::ending::Unended;
 use crate::room::{make_room, put_answer};
 use frame_log::{Frame, FrameFault};
 use injector::RecordRing;
 use locks::Locks;
 use outboxes::OriginBox;
+use received::Receipt;
 use std::sync::Wait;
 
 /// Its home carries a request, under its lock.
@@ -70,6 +71,6 @@ pub fn end_own<R: Wait>(
     match receipt {
         Receipt::Carry => carry(rt, locks, outbox, frame),
         Receipt::Deliver => deliver(rt, locks, records, frame),
-        Receipt::Nobody => Err(Unended::Stray(frame)),
+        Receipt::Relay | Receipt::Nobody => Err(Unended::Stray(frame)),
     }
 }

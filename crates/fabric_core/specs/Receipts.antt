@@ -1,17 +1,11 @@
 -- What the host and a function do with a packet that they take (PCIe 4.0, 2.2.9 and 2.3.1).
-use Rattle.std.specs.Prelude.{ℕ, ◌==◌, Bool, false, not, is_some, List, Option, Some, None, option_map, if◌then◌else◌}
-use Rattle.fab_types.specs.Id.{bus_of, host_of}
+use Rattle.std.specs.Prelude.{ℕ, is_some, List, Option, Some, None, option_map, if◌then◌else◌}
 use Rattle.fab_types.specs.declared.class.Class.{Class}
-use Rattle.fab_types.specs.declared.head.Header.{Header}
-use Rattle.fab_types.specs.declared.head.Header.TheVariants.{Malformed, Memory, OtherRequest, Completion}
-use Rattle.fab_types.specs.declared.head.Parties.{Parties}
-use Rattle.fab_types.specs.declared.head.Parties.TheVariants.{Upward, Downward, Answer}
 use Rattle.fab_types.specs.declared.place.Direction.{Direction}
 use Rattle.fab_types.specs.declared.place.Way.TheVariants.{Down}
 use Rattle.frame_log.specs.Descriptor.{Descriptor}
 use Rattle.domain.specs.Domains.{DomainView}
 use Rattle.platform.specs.declared.parts.DownstreamPort.{DownstreamPort}
-use Rattle.platform.specs.Egress.{goes_directly}
 use Rattle.agents.specs.Agents.{AgentsView, carried_by_function, carried_by_host, delivered, is_function_of}
 use Rattle.link.specs.Channels.{Channel, is_full}
 use Rattle.lane.specs.Lanes.{eligible}
@@ -19,8 +13,7 @@ use Rattle.domains.specs.Domains.{place_of_function}
 use Rattle.topology.specs.Links.{sender_of}
 use Rattle.topology.specs.declared.nodes.LinkEnd.{LinkEnd}
 use Rattle.interconnect.specs.Moves.{channel_at, left_at, put_at}
-pub use Rattle.fabric_core.specs.declared.receipt.Receipt.{Receipt}
-pub use Rattle.fabric_core.specs.declared.receipt.Receipt.TheVariants.{Relay, Carry, Deliver, Nobody}
+use Rattle.received.specs.Receipts.{Carry, Deliver, Nobody, Receipt, Relay, receipt_at_function, receipt_at_host}
 pub use Rattle.fabric_core.specs.Aliens.{to_function, to_host}
 use Rattle.fabric_core.specs.Aliens.{alien_at_function, alien_at_host, or_else}
 use Rattle.fabric_core.specs.World.{World, with_both, with_channels, with_stray}
@@ -48,59 +41,12 @@ from_host = record { lower = 0x0100; way = Down }
 
 -- ---- who ends it
 
--- a function's request goes to the host, and the host's requests to functions
-abbrev pub request_at_host : Parties → Receipt
-request_at_host (Upward function) = Carry
-request_at_host (Downward function) = Nobody
-request_at_host (Answer answerer addressee) = Nobody
-
-abbrev pub request_at_function : Parties → Receipt
-request_at_function (Upward function) = Nobody
-request_at_function (Downward function) = Carry
-request_at_function (Answer answerer addressee) = Nobody
-
--- a memory request of another function has come to it directly
-abbrev pub memory_at_function : List DownstreamPort → ℕ → ℕ → Parties → Receipt
-memory_at_function ports function address (Upward sender) = if goes_directly ports sender address function then Carry else Nobody
-memory_at_function ports function address (Downward completer) = request_at_function (Downward completer)
-memory_at_function ports function address (Answer answerer addressee) = request_at_function (Answer answerer addressee)
-
--- bus 00 is the host's own: a completion for the host of the domain that made it is delivered
-abbrev pub completion_at_host : ℕ → ℕ → Receipt
-completion_at_host domain target =
-    if bus_of target == 0 then (if target == host_of domain then Deliver else Nobody)
-    else Relay
-
-abbrev pub receipt_by_host : ℕ → Parties → Header → Receipt
-receipt_by_host domain parties Malformed = Nobody
-receipt_by_host domain parties (Memory requester address_type address) = request_at_host parties
-receipt_by_host domain parties (OtherRequest requester) = request_at_host parties
-receipt_by_host domain parties (Completion target relaxed_ordering) = completion_at_host domain target
-
--- is it one that the host sends down again?
-abbrev pub is_relayed : Header → Bool
-is_relayed Malformed = false
-is_relayed (Memory requester address_type address) = false
-is_relayed (OtherRequest requester) = false
-is_relayed (Completion target relaxed_ordering) = not (bus_of target == 0)
-
-abbrev pub receipt_at_host : Descriptor → Receipt
-receipt_at_host frame = receipt_by_host frame.domain frame.head.parties frame.head.header
-
-abbrev pub receipt_by_function : List DownstreamPort → ℕ → Parties → Header → Receipt
-receipt_by_function ports function parties Malformed = Nobody
-receipt_by_function ports function parties (Memory requester address_type address) = memory_at_function ports function address parties
-receipt_by_function ports function parties (OtherRequest requester) = request_at_function parties
-receipt_by_function ports function parties (Completion target relaxed_ordering) = Deliver
-
 -- a function takes what a function or the host of its own domain made
 abbrev pub receipt_in : List DownstreamPort → List DomainView → ℕ → Descriptor → Receipt
-receipt_in ports domains function frame =
-    if is_function_of domains function frame.domain then receipt_by_function ports function frame.head.parties frame.head.header
-    else Nobody
+receipt_in ports domains function frame = receipt_at_function ports function (is_function_of domains function frame.domain) frame
 
-abbrev pub receipt_at_function : World → ℕ → Descriptor → Receipt
-receipt_at_function w function frame = receipt_in w.routes.ports w.agents.domains function frame
+abbrev pub receipt_at : World → ℕ → Descriptor → Receipt
+receipt_at w function frame = receipt_in w.routes.ports w.agents.domains function frame
 
 -- ---- what it leaves
 
@@ -155,7 +101,7 @@ abbrev pub arrived_by : World → ℕ → Taken → Receipt → World
 arrived_by w function t receipt = ended w t (agents_by_function w.agents function t.frame receipt)
 
 abbrev pub arrived : World → ℕ → Option Taken → Option World
-arrived w function all = option_map (λ t. arrived_by w function t (receipt_at_function w function t.frame)) all
+arrived w function all = option_map (λ t. arrived_by w function t (receipt_at w function t.frame)) all
 
 -- a function takes the eligible packet of a class
 abbrev pub arrive : World → ℕ → Class → Option World

@@ -12,8 +12,9 @@ use Rattle.topology.specs.declared.places.PortPlace.{PortPlace}
 use Rattle.interconnect.specs.Passes.{index_of, no_place}
 use Rattle.fabric_core.specs.declared.event.Event.{Event}
 use Rattle.fabric_core.specs.declared.event.Event.TheVariants.{Submit, Tick, Mmio, Enter, Pass, Send, Take, Credit, Root, Arrive}
-use Rattle.fabric_core.specs.Receipts.{Receipt, Relay, Carry, Deliver, Nobody, Taken, receipt_at_function, receipt_at_host, taken, taken_at, to_function, to_host}
-use Rattle.vetted.specs.Vetted.{may_go_on}
+use Rattle.fabric_core.specs.Receipts.{Taken, receipt_at, taken, taken_at, to_function, to_host}
+use Rattle.received.specs.Receipts.{Carry, Deliver, Nobody, Receipt, Relay, receipt_at_host}
+use Rattle.switch_output.specs.Vetted.{may_go_on}
 use Rattle.fabric_core.specs.Passing.{Site, site_at}
 use Rattle.fabric_core.specs.Settling.{EntryWants, entry_by_function, entry_by_host}
 use Rattle.fabric_core.specs.World.{World}
@@ -54,7 +55,7 @@ abbrev pub RootWants : World → Taken → Type 0
 RootWants w t = RootWantsBy w t (receipt_at_host t.frame)
 
 abbrev pub ArriveWants : World → ℕ → Taken → Type 0
-ArriveWants w function t = EntryWants (entry_by_function w.agents.domains function t.frame (receipt_at_function w function t.frame))
+ArriveWants w function t = EntryWants (entry_by_function w.agents.domains function t.frame (receipt_at w function t.frame))
 
 -- ---- each event
 

@@ -6,19 +6,19 @@ ghost use Rattle.fab_types.specs.declared.outcome.Outcome.TheVariants.{NoMemory}
 ghost use Rattle.topology.specs.Links.{sender_of};
 ghost use Rattle.topology.specs.Topologies.{IsEnd};
 ghost use Rattle.fabric_core.specs.declared.event.Event.TheVariants.{Arrive, Root};
-ghost use Rattle.fabric_core.specs.Receipts.{agents_by_function, agents_by_host, receipt_at_host, receipt_in, from_host, own_by_function, own_by_host};
+ghost use Rattle.fabric_core.specs.Receipts.{agents_by_function, agents_by_host, receipt_in, from_host, own_by_function, own_by_host};
+ghost use Rattle.received.specs.Receipts.{receipt_at_host};
 ghost use Rattle.fabric_core.specs.Events.{StepsTo};
 ghost use Rattle.fabric_core.specs.Settling.{IsBack, IsTaken, IsTakenIn, EntryWants, Relays, Settles, Strays, Takes, entry_by_function, entry_by_host};
 ghost use Rattle.domains.specs.Domains.{Emits};
 ghost use Rattle.fabric_core.specs.World.{world_over};
 
-use crate::receipt::{Receipt, is_relayed, receipt_at_host, receipt_by_function};
-use crate::receivers::receiver_at_host;
 use crate::wires::TOP_SWITCH;
 use agents::Agents;
 use fab_types::{Bdf, Class, Direction, Outcome, Place, Way};
 use frame_log::{Frame, FrameFault};
 use interconnect::Interconnect;
+use received::{Receipt, is_relayed, receipt_at_function, receipt_at_host, receiver_at_host};
 use std::sync::Wait;
 use topology::LinkEnd;
 
@@ -108,7 +108,7 @@ fn end_at_host<R: Wait>(
 {
     match end_at_home(rt, agents, frame) {
         Err(FrameFault::Stray(frame)) => {
-            let receiver = receiver_at_host(interconnect, agents, &frame);
+            let receiver = receiver_at_host(interconnect.bridge(), &*agents, &frame);
             agents.alien_at_host(rt, receiver, Place::Ingress(top_link(Way::Up)), frame)
         }
         ended => ended,
@@ -153,21 +153,6 @@ pub(crate) fn root<R: Wait>(
     settle(interconnect, strays, end, ended)
 }
 
-fn receipt_at_function(
-    interconnect: &Interconnect,
-    agents: &Agents,
-    function: Bdf,
-    frame: &Frame,
-) -> Receipt
-    ensures { result ≡ receipt_in (interconnect.now.routes).ports agents.now.domains function frame.now }
-{
-    if agents.is_function_of(function, frame.domain()) {
-        receipt_by_function(interconnect, function, frame)
-    } else {
-        Receipt::Nobody
-    }
-}
-
 fn end_at_function<R: Wait>(
     rt: &R,
     interconnect: &Interconnect,
@@ -199,7 +184,8 @@ fn end_at_own<R: Wait>(
 ) -> Result<(), FrameFault>
     ensures { Takes (own_by_function agents.old function frame (receipt_in (interconnect.now.routes).ports agents.old.domains function frame)) (Emits (entry_by_function agents.old.domains function frame (receipt_in (interconnect.now.routes).ports agents.old.domains function frame))) frame agents.old agents.new result }
 {
-    match receipt_at_function(interconnect, agents, function, &frame) {
+    let is_own = agents.is_function_of(function, frame.domain());
+    match receipt_at_function(interconnect.bridge(), function, is_own, &frame) {
         Receipt::Carry => agents.carry_by_function(rt, function, frame),
         Receipt::Deliver => agents.complete(frame),
         Receipt::Relay => Err(FrameFault::Stray(frame)),

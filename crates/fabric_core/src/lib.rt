@@ -12,8 +12,6 @@ mod lose;
 mod pass;
 mod purge;
 mod quiet;
-mod receipt;
-mod receivers;
 mod station;
 mod step;
 mod waits;

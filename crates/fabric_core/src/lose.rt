@@ -17,7 +17,8 @@ use agents::Agents;
 use fab_types::{NoMemory, Outcome, Place, Violation};
 use frame_log::{Frame, FrameFault};
 use interconnect::{Interconnect, Lost};
-use port::{Reporter, Reports};
+use lane::Reporter;
+use port::Reports;
 use std::sync::Wait;
 use topology::LinkEnd;
 

@@ -7,10 +7,10 @@ ghost use Rattle.lane.specs.Queues.{frames_of};
 use domain::Domain;
 use fab_types::{Class, NoMemory, PortId, Violation};
 use frame_log::{Frame, FrameFault};
-use lane::{FrameQueue, LaneOut};
-use port::{Desk, Reporter, Reports};
+use lane::{Desk, FrameQueue, Reporter};
+use port::Reports;
 use std::sync::Wait;
-use vetted::VettedFrame;
+use switch_output::{LaneOut, VettedFrame};
 
 /// A desk with one domain.
 #[derive(Drop)]

@@ -1,6 +1,6 @@
 -- A function takes the eligible packet of a class out of its link: what waits there, its outbox, the records that it gives out
 -- and its strays before and after.
-use Rattle.std.specs.Prelude.{◌≡◌, ℕ, List, [], ◌∷◌, ◌++◌, Some}
+use Rattle.std.specs.Prelude.{◌≡◌, ◌==◌, ℕ, List, [], ◌∷◌, ◌++◌, Some}
 use Rattle.fab_types.specs.declared.place.Place.{Place}
 use Rattle.fab_types.specs.declared.place.Place.TheVariants.{Ingress}
 use Rattle.fab_types.specs.declared.place.Way.TheVariants.{Down}
@@ -11,7 +11,7 @@ use Rattle.outboxes.specs.Outboxes.{BoxView}
 use Rattle.injector.specs.declared.record_ring.RecordRing.{RecordRing}
 use Rattle.end_parts.specs.Boxes.{with_places}
 use Rattle.end_parts.specs.Ends.{EndsOwn, HasNoAlien, HasNoCase, TakesAlien}
-use Rattle.function_work.specs.Receipts.{receipt_at}
+use Rattle.received.specs.Receipts.{receipt_at_function}
 
 -- where it takes them: down its link
 abbrev pub place_at : ℕ → Place
@@ -21,14 +21,14 @@ place_at function = Ingress (record { lower = function; way = Down })
 pub record ArrivesAtHome (ports : List DownstreamPort) (function domain : ℕ) (class : Class) (waiting waiting' : List Descriptor) (box box' : BoxView) (ring ring' : RecordRing) (strays strays' : List Descriptor) : Type 0 where
   pub frame : Descriptor
   pub taken : eligible class waiting ≡ Some (frame, waiting')
-  pub ended : EndsOwn (receipt_at ports function domain frame) frame box box' ring ring'
+  pub ended : EndsOwn (receipt_at_function ports function (frame.domain == domain) frame) frame box box' ring ring'
   pub others : strays' ≡ strays
 
 -- its home has no case for it, and the function's domain has an entry of it
 pub record ArrivesAsAlien (ports : List DownstreamPort) (locks : List ℕ) (function domain : ℕ) (class : Class) (waiting waiting' : List Descriptor) (box box' : BoxView) (strays strays' : List Descriptor) : Type 0 where
   pub frame : Descriptor
   pub taken : eligible class waiting ≡ Some (frame, waiting')
-  pub no_case : HasNoCase locks (receipt_at ports function domain frame) frame
+  pub no_case : HasNoCase locks (receipt_at_function ports function (frame.domain == domain) frame) frame
   pub ended : TakesAlien domain (place_at function) frame box box'
   pub others : strays' ≡ strays
 
@@ -36,7 +36,7 @@ pub record ArrivesAsAlien (ports : List DownstreamPort) (locks : List ℕ) (func
 pub record ArrivesAsStray (ports : List DownstreamPort) (locks : List ℕ) (function domain : ℕ) (class : Class) (waiting waiting' : List Descriptor) (box box' : BoxView) (strays strays' : List Descriptor) : Type 0 where
   pub frame : Descriptor
   pub taken : eligible class waiting ≡ Some (frame, waiting')
-  pub no_case : HasNoCase locks (receipt_at ports function domain frame) frame
+  pub no_case : HasNoCase locks (receipt_at_function ports function (frame.domain == domain) frame) frame
   pub no_alien : HasNoAlien locks domain (place_at function) frame
   pub kept : strays' ≡ strays ++ frame ∷ []
   pub places : box' ≡ with_places box'.places box

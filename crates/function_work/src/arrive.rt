@@ -5,7 +5,6 @@ ghost use Rattle.lane.specs.Lanes.{eligible};
 ghost use Rattle.lane.specs.Queues.{frames_of};
 ghost use Rattle.function_work.specs.Arriving.{ArrivesAsAlien, ArrivesAsStray, ArrivesAtHome, StaysThere, place_at};
 
-use crate::receipt::receipt_at;
 use bridge::Bridge;
 use end_parts::{Ending, Unended, end_alien, end_own};
 use fab_types::{Bdf, Class, Direction, DomainId, Place, Way};
@@ -14,6 +13,7 @@ use injector::RecordRing;
 use link::Ingress;
 use locks::Locks;
 use outboxes::OriginBox;
+use received::receipt_at_function;
 use std::sync::Wait;
 
 /// Where a function takes packets: down its link.
@@ -51,7 +51,8 @@ pub(crate) fn arrive<R: Wait>(
     let Some(frame) = input.release(class) else {
         return Ending::Idle;
     };
-    let receipt = receipt_at(bridge, function, domain, &frame);
+    let is_own = frame.domain() == domain;
+    let receipt = receipt_at_function(bridge, function, is_own, &frame);
     match end_own(rt, locks, receipt, outbox, records, frame) {
         Ok(()) => Ending::Own,
         Err(Unended::Stray(frame)) => {

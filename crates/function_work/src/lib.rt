@@ -4,7 +4,6 @@
 mod arrive;
 mod function_work;
 mod parts;
-mod receipt;
 
 pub use function_work::FunctionWork;
 pub use parts::FunctionParts;

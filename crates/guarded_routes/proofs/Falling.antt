@@ -17,7 +17,7 @@ use Rattle.bridge.specs.Routes.{holder_on, holds_target, switch_at as switch_by,
 use Rattle.port.specs.declared.course.Forwarding.TheVariants.{To}
 use Rattle.port.specs.Configs.{exits_of, upstream_config, lane_to}
 use Rattle.port.specs.Courses.{course_of}
-use Rattle.vetted.specs.Vetted.{is_own, requester_owner}
+use Rattle.switch_output.specs.Vetted.{is_own, requester_owner}
 use Rattle.guarded_routes.specs.Guarded.{IsFunctionOf, IsGuarded, holds_if_any}
 use Rattle.guarded_routes.specs.Sound.{Falling, IsMeantFor}
 use Rattle.guarded_routes.specs.Ways.{GoesOn, PassesDown, down_from}

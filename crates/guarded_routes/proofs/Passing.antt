@@ -30,7 +30,7 @@ use Rattle.bridge.specs.Bridges.{of_platform}
 use Rattle.bridge.specs.Routes.{holder_on, route_of, target_of, is_holder}
 use Rattle.acs.specs.declared.vetting.Verdict.TheVariants as verdict
 use Rattle.acs.specs.Redirection.{redirected}
-use Rattle.vetted.specs.Vetted.{is_own, requester_owner}
+use Rattle.switch_output.specs.Vetted.{is_own, requester_owner}
 use Rattle.acs.specs.Vetting.{verdict_of}
 use Rattle.port.specs.Configs.{downstream_config}
 use Rattle.port.specs.Courses.{course_of}

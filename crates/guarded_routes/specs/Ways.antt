@@ -16,7 +16,7 @@ use Rattle.platform.specs.Owners.{holds_bus}
 use Rattle.platform.specs.Platform.{Platform}
 use Rattle.platform.specs.Tree.{id_below, internal_bus, switch_on}
 use Rattle.topology.specs.Nodes.{ports_on}
-use Rattle.vetted.specs.Vetted.{is_own, requester_owner}
+use Rattle.switch_output.specs.Vetted.{is_own, requester_owner}
 use Rattle.port.specs.declared.course.Forwarding.{Forwarding}
 use Rattle.port.specs.declared.course.Forwarding.TheVariants.{To, Stop, NoCase}
 use Rattle.guarded_routes.specs.Sound.{IsCleared, IsSound, let_by}

@@ -4,8 +4,6 @@ ghost use Rattle.std.specs.Prelude.{◌≡◌, IfOk, IfSome, MatchBool, None, So
 ghost use Rattle.std.specs.List.{list_all};
 ghost use Rattle.fab_types.specs.declared.class.Class.{Class};
 ghost use Rattle.credit.specs.Limits.{at};
-ghost use Rattle.platform.specs.Egress.{goes_directly};
-ghost use Rattle.platform.specs.Owners.{owner_of};
 ghost use Rattle.platform.specs.Share.{is_guarded_port};
 ghost use Rattle.link.specs.Channels.{deliver, send, update_fc};
 ghost use Rattle.lane.specs.Lanes.{eligible};
@@ -28,9 +26,10 @@ use crate::pass::{index_of, turn_at};
 use crate::start::{nodes_of, ports_of};
 use crate::waits::{KnownCourse, none_known};
 use bridge::Bridge;
-use fab_types::{Bdf, Class, Direction, DomainId, NoMemory, Outcome, PortId};
+use fab_types::{Class, Direction, NoMemory, Outcome, PortId};
+use lane::{Desk, Reporter};
 use layout::Layout;
-use port::{Desk, Port, Reporter};
+use port::Port;
 use std::alloc::Global;
 use std::marker::Model;
 use std::sync::Wait;
@@ -79,21 +78,11 @@ impl Interconnect {
         })
     }
 
-    /// The domain that owns an ID, if any does.
-    /// It is the domain whose host has the ID, if that owns a port, or the one that owns the ports above its
-    /// bus.
-    pub fn owner(&self, id: Bdf) -> Option<DomainId>
-        ensures { result ≡ owner_of (self.now.routes).ports id }
+    /// By which port a packet leaves a switch of the layout, and who owns what.
+    pub fn bridge(&self) -> &Bridge
+        ensures { result.now ≡ self.now.routes }
     {
-        self.bridge.owner(id)
-    }
-
-    /// Does a request of this sender for this address go directly to this function?
-    /// The answer is that of `Bridge::goes_directly`.
-    pub fn goes_directly(&self, sender: Bdf, address: u64, function: Bdf) -> bool
-        ensures { result ≡ goes_directly (self.now.routes).ports sender address function }
-    {
-        self.bridge.goes_directly(sender, address, function)
+        &self.bridge
     }
 
     /// Are all five ACS controls set on each downstream port (PCIe 4.0, 6.12.1)?

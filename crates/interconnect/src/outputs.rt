@@ -17,7 +17,7 @@ use crate::node::Node;
 use credit::Limits;
 use fab_types::{Class, DomainId, Head};
 use frame_log::Frame;
-use lane::{LaneIn, LaneOut};
+use lane::LaneIn;
 use link::Simplex;
 use topology::LinkEnd;
 

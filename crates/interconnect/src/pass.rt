@@ -10,8 +10,9 @@ ghost use Rattle.interconnect.specs.Views.{channels_of};
 use crate::node::Node;
 use bridge::Bridge;
 use fab_types::{Class, Outcome, PortId};
+use lane::{Desk, Reporter};
 use link::Simplex;
-use port::{Desk, Port, Reporter, TurnParts};
+use port::{Port, TurnParts};
 use std::sync::Wait;
 use topology::{LinkEnd, Topology};
 

@@ -1,8 +1,13 @@
-//! What packets are taken from and put into on their way, and queues in memory that are both.
+//! What a port is joined to: where it takes packets from, whom it asks to refuse one, and whom it tells of violations;
+//! and queues of packets in memory.
 #![tactic(auto)]
 
-mod lanes;
+mod desk;
+mod lane_in;
 mod queue;
+mod reporter;
 
-pub use lanes::{LaneIn, LaneOut};
+pub use desk::Desk;
+pub use lane_in::LaneIn;
 pub use queue::FrameQueue;
+pub use reporter::Reporter;

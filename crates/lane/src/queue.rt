@@ -7,7 +7,7 @@ ghost use Rattle.port_queue.specs.Queue.{count_of};
 ghost use Rattle.lane.specs.Lanes.{Class, class_of, eligible};
 ghost use Rattle.lane.specs.Queues.{frames_of, frames_restored, IsSorted};
 
-use crate::lanes::LaneIn;
+use crate::lane_in::LaneIn;
 use fab_types::{Class, DomainId, Head, NoMemory};
 use frame_log::Frame;
 use port_queue::{LeavingClasses, PortQueue};

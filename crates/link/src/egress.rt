@@ -14,15 +14,13 @@ use crate::steps::has_none_eligible;
 use credit::{Limits, Sender};
 use fab_types::{Class, DomainId, NoMemory};
 use frame_log::Frame;
-use lane::{FrameQueue, LaneIn, LaneOut};
+use lane::{FrameQueue, LaneIn};
 use port_queue::LeavingClasses;
 use std::alloc::Global;
 use std::marker::Model;
-use vetted::VettedFrame;
 
 /// What waits at the sender of a direction, and the credits that it knows.
-/// At most 16 packets of each class wait. The credits bound what may leave. It is the lane out of the port that
-/// sends. A contract sees an `EgressView`.
+/// At most 16 packets of each class wait. The credits bound what may leave. A contract sees an `EgressView`.
 #[derive(Drop)]
 pub struct Egress {
     queue: FrameQueue<16>,
@@ -66,6 +64,18 @@ impl Egress {
         // for the proof: each packet waits under its own class
         let _ = self.queue.has_no_place(frame.head().cost.class);
         self.queue.put(frame)
+    }
+
+    /// Do 16 packets of the class wait? If so, that is counted.
+    pub fn is_full(&mut self, class: Class) -> bool
+        ensures exact { result ≡ (count_in class (frames_of self.old.queue.queue.waiting) == 16) }
+        ensures queue { self.new.queue.queue ≡ self.old.queue.queue }
+        ensures counted { MatchBool result (self.new.queue.refusals ≢ self.old.queue.refusals) (self.new.queue.refusals ≡ self.old.queue.refusals) }
+        ensures sender { self.new.sender ≡ self.old.sender }
+    {
+        // for the proof: each packet waits under its own class
+        let _ = self.queue.has_no_place(class);
+        self.queue.is_full(class)
     }
 
     /// Takes the eligible packet of the class, and spends its credits. None where no packet is eligible or there are
@@ -136,39 +146,5 @@ impl Egress {
         ensures { result ≡ none_eligible (frames_of self.now.queue.queue.waiting) }
     {
         has_none_eligible(&self.queue)
-    }
-}
-
-impl LaneOut for Egress {
-    ghost use Rattle.std.specs.Prelude.{◌==◌, true};
-    ghost use Rattle.credit.specs.Limits.{Ledger};
-    ghost use Rattle.link.specs.Channels.{count_in};
-
-    ghost Lane = { Ledger };
-
-    ghost lane = { λ e. e.sender };
-
-    ghost sent = { λ e. frames_of e.queue.queue.waiting };
-
-    ghost refusals = { λ e. e.queue.refusals };
-
-    ghost may_refuse = { λ e class. count_in class (frames_of e.queue.queue.waiting) == 16 };
-
-    ghost is_sure = { true };
-
-    fn is_full(&mut self, class: Class) -> bool {
-        // for the proof: each packet waits under its own class
-        let _ = self.queue.has_no_place(class);
-        self.queue.is_full(class)
-    }
-
-    fn push(&mut self, packet: VettedFrame) -> Result<(), VettedFrame> {
-        if self.is_full(packet.frame().head().cost.class) {
-            return Err(packet);
-        }
-        if self.put(packet.into_frame()).is_err() {
-            unreachable!();
-        }
-        Ok(())
     }
 }

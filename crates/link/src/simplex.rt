@@ -1,6 +1,6 @@
 //! One direction of a link.
 
-ghost use Rattle.std.specs.Prelude.{◌≡◌, ◌≤◌, ◌++◌, ◌∷◌, [], None, Some, IfOk, MatchBool, false, is_none, is_some, map, option_map, slice_get};
+ghost use Rattle.std.specs.Prelude.{◌≡◌, ◌≢◌, ◌≤◌, ◌++◌, ◌∷◌, [], None, Some, IfOk, MatchBool, false, is_none, is_some, map, option_map, slice_get};
 ghost use Rattle.std.specs.List.Sorted.{IsPermutation};
 ghost use Rattle.fab_types.specs.declared.class.Class.{Class};
 ghost use Rattle.credit.specs.Kinds.{Kind};
@@ -18,15 +18,14 @@ use crate::steps::{accept_update, deliver_oldest, transmit};
 use credit::Limits;
 use fab_types::{Class, DomainId, Head, NoMemory};
 use frame_log::Frame;
-use lane::{LaneIn, LaneOut};
+use lane::LaneIn;
 use port_queue::{LeavingClasses, Ring};
 use std::alloc::Global;
 use std::marker::Model;
-use vetted::VettedFrame;
 
 /// One direction of a link, which is dual simplex (PCIe 4.0, 1.2).
-/// It has what waits at its sender, travels, and waits at its receiver, and the credits of both. It is the lane
-/// out of its sender and the lane in of its receiver. The credits of a packet that leaves the receiver are
+/// It has what waits at its sender, travels, and waits at its receiver, and the credits of both. It is the lane in of
+/// its receiver. The credits of a packet that leaves the receiver are
 /// free, and its sender learns of them by `update_fc`. A contract sees a `SimplexView`.
 #[derive(Drop)]
 pub struct Simplex {
@@ -70,11 +69,21 @@ impl Simplex {
         })
     }
 
+    /// Do 16 packets of the class wait at the sender? If so, that is counted.
+    pub fn is_full(&mut self, class: Class) -> bool
+        ensures exact { result ≡ is_full class (channel self.old) }
+        ensures channel { channel self.new ≡ channel self.old }
+        ensures counted { MatchBool result (self.new.egress.refusals ≢ self.old.egress.refusals) (self.new.egress.refusals ≡ self.old.egress.refusals) }
+    {
+        self.egress.is_full(class)
+    }
+
     /// Puts a packet behind the others of its class at the sender.
-    /// A function or the host sends it so. It may be called where fewer than 16 packets of that class wait.
+    /// It may be called where fewer than 16 packets of that class wait.
     pub fn put(&mut self, frame: Frame)
         requires { is_full (class_of frame) (channel self.old) ≡ false }
-        ensures { channel self.new ≡ with_egress (channel self.old) ((channel self.old).egress ++ frame ∷ []) }
+        ensures channel { channel self.new ≡ with_egress (channel self.old) ((channel self.old).egress ++ frame ∷ []) }
+        ensures counted { self.new.egress.refusals ≡ self.old.egress.refusals }
     {
         if self.egress.put(frame).is_err() {
             unreachable!();
@@ -231,31 +240,5 @@ impl LaneIn for Simplex {
     fn put_back(&mut self, frame: Frame) {
         self.is_told = false;
         self.ingress.give_back(frame);
-    }
-}
-
-impl LaneOut for Simplex {
-    ghost use Rattle.link.specs.Simplexes.{Before, channel};
-    ghost use Rattle.link.specs.Channels.{is_full};
-    ghost use Rattle.std.specs.Prelude.{true};
-
-    ghost Lane = { Before };
-
-    ghost lane = { λ s. record { start = s.start; left = s.left; wire = s.wire; ingress = frames_of s.ingress.queue.waiting } };
-
-    ghost sent = { λ s. frames_of s.egress.queue.waiting };
-
-    ghost refusals = { λ s. s.egress.refusals };
-
-    ghost may_refuse = { λ s class. is_full class (channel s) };
-
-    ghost is_sure = { true };
-
-    fn is_full(&mut self, class: Class) -> bool {
-        self.egress.is_full(class)
-    }
-
-    fn push(&mut self, packet: VettedFrame) -> Result<(), VettedFrame> {
-        self.egress.push(packet)
     }
 }

@@ -3,7 +3,7 @@
 use crate::locks::Locks;
 use fab_types::PortId;
 use frame_log::{Frame, FrameFault};
-use port::Desk;
+use lane::Desk;
 use std::alloc::Global;
 use std::sync::{Arc, Wait};
 

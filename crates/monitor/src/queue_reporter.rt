@@ -3,7 +3,7 @@
 use crate::queue::{Pushed, Report, View, ViolationQueue};
 use crossbeam_queue::Pass;
 use fab_types::{NoMemory, Violation};
-use port::Reporter;
+use lane::Reporter;
 use std::alloc::Global;
 use std::marker::Model;
 use std::sync::Arc;

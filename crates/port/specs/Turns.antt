@@ -7,7 +7,7 @@ use Rattle.bridge.specs.Bridges.{Routes}
 use Rattle.port.specs.declared.turn.TurnParts.{TurnParts}
 use Rattle.port.specs.declared.course.Forwarding.TheVariants.{To, Stop, NoCase}
 use Rattle.lane.specs.Lanes.{eligible}
-use Rattle.vetted.specs.Vetted.{may_go_on}
+use Rattle.switch_output.specs.Vetted.{may_go_on}
 use Rattle.port.specs.Configs.{Config}
 use Rattle.port.specs.Courses.{course_of}
 use Rattle.port.specs.Steps.{with_put}

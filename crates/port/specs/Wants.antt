@@ -9,7 +9,7 @@ use Rattle.port.specs.declared.course.Forwarding.TheVariants.{To, Stop, NoCase}
 use Rattle.port.specs.Configs.{Config}
 use Rattle.port.specs.Courses.{course_of}
 use Rattle.lane.specs.Lanes.{eligible}
-use Rattle.vetted.specs.Vetted.{may_go_on}
+use Rattle.switch_output.specs.Vetted.{may_go_on}
 
 -- a packet of the class is eligible, and it is such a one
 pub record Awaits (class : Class) (waiting : List Descriptor) (such : Descriptor → Type 0) : Type 0 where

@@ -12,7 +12,7 @@ use layout::Layout;
 use platform::{DownstreamPort, Switch, id_below, internal_bus, port_at};
 use std::alloc::Global;
 use std::marker::Model;
-use vetted::VettedFrame;
+use switch_output::VettedFrame;
 
 /// A port of a switch: a downstream port, or the upstream port. A contract sees a `PortView`.
 #[derive(Drop)]
@@ -29,7 +29,7 @@ pub struct Port {
 impl Model for Port {
     ghost use Rattle.std.specs.Prelude.{◌≤◌, length};
     ghost use Rattle.port.specs.Turns.{PortView};
-    ghost use Rattle.vetted.specs.Vetted.{frame_in};
+    ghost use Rattle.switch_output.specs.Vetted.{frame_in};
 
     ghost Value = { PortView };
 

@@ -2,8 +2,8 @@
 
 ghost use Rattle.std.specs.Prelude.{◌≡◌, ⊤, [], true};
 
-use crate::reporter::Reporter;
 use fab_types::{NoMemory, Violation};
+use lane::Reporter;
 use std::alloc::Global;
 use std::marker::Model;
 

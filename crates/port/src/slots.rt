@@ -4,17 +4,16 @@ ghost use Rattle.std.specs.Prelude.{◌≡◌, ◌≢◌, ◌⊎◌, ◌<◌, No
 ghost use Rattle.port.specs.Blocked.{may_refuse_answer, may_refuse_at};
 ghost use Rattle.lane.specs.Lanes.{Class, class_of, eligible};
 ghost use Rattle.port.specs.Steps.{ForwardsAt, IsOfTurn, RefusesAt, Strays, with_put};
-ghost use Rattle.vetted.specs.Vetted.{frame_in, may_go_on};
+ghost use Rattle.switch_output.specs.Vetted.{frame_in, may_go_on};
 ghost use Rattle.port.specs.Wants.{Awaits};
 
-use crate::desk::Desk;
 use crate::steps::{Refusal, answer_waits, forward, refuse, settle};
 use bridge::Bridge;
 use fab_types::{Class, Outcome, PortId};
 use frame_log::Frame;
-use lane::{LaneIn, LaneOut};
+use lane::{Desk, LaneIn};
 use std::sync::Wait;
-use vetted::VettedFrame;
+use switch_output::{LaneOut, VettedFrame};
 
 /// Puts the answer that was kept, if there is one, into this lane.
 pub(crate) fn settle_at<O: LaneOut>(

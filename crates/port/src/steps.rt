@@ -4,17 +4,15 @@ ghost use Rattle.std.specs.Prelude.{◌≡◌, ◌≢◌, ◌⊎◌, ◌++◌, �
 ghost use Rattle.port.specs.Blocked.{may_refuse_answer};
 ghost use Rattle.lane.specs.Lanes.{Class, class_of, eligible};
 ghost use Rattle.port.specs.Steps.{Forwards, IsOfTurn, Refuses, Strays};
-ghost use Rattle.vetted.specs.Vetted.{frame_in, may_go_on};
+ghost use Rattle.switch_output.specs.Vetted.{frame_in, may_go_on};
 ghost use Rattle.port.specs.Wants.{Awaits};
 
-use crate::desk::Desk;
-use crate::reporter::Reporter;
 use bridge::Bridge;
 use fab_types::{Class, NoMemory, Outcome, PortId, Violation};
 use frame_log::{Frame, FrameFault};
-use lane::{LaneIn, LaneOut};
+use lane::{Desk, LaneIn, Reporter};
 use std::sync::Wait;
-use vetted::VettedFrame;
+use switch_output::{LaneOut, VettedFrame};
 
 /// Reports what there was no place for before.
 pub(crate) fn tell<R: Reporter>(reporter: &mut R, held: &mut Option<Violation>) -> Outcome

@@ -9,15 +9,14 @@ ghost use Rattle.port.specs.Wants.{Awaits, WantsMemory};
 ghost use Rattle.port.specs.Turns.{Advanced, Moves, Rests, Stops, sight_of, sight_with, counts_of};
 
 use crate::course::Forwarding;
-use crate::desk::Desk;
 use crate::port::Port;
-use crate::reporter::Reporter;
 use crate::slots::{answer_waits_at, forward_at, refuse_at, settle_at};
 use crate::steps::{Refusal, prepare, report_or_hold, stray, tell};
 use bridge::Bridge;
 use fab_types::{Class, Outcome, Violation};
-use lane::{LaneIn, LaneOut};
+use lane::{Desk, LaneIn, Reporter};
 use std::sync::Wait;
+use switch_output::LaneOut;
 
 /// All that a turn reaches.
 /// That is the switches, the lane in, the lanes out of the switch (out of its upstream port, and then out of

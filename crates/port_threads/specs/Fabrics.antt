@@ -9,7 +9,7 @@ use Rattle.crew.specs.Crews.{started}
 use Rattle.plan.specs.Plans.{Tables, plan_of}
 use Rattle.platform.specs.Platform.{Platform}
 use Rattle.platform.specs.Share.{is_guarded_port}
-use Rattle.vetted.specs.Vetted.{Vetted}
+use Rattle.switch_output.specs.Vetted.{Vetted}
 use Rattle.wiring.specs.Wired.{AreWithin, Tags, dealt, table_of}
 use Rattle.wiring.specs.declared.laid.Laid.{Laid}
 use Rattle.wiring.specs.declared.wire.Wire.{Wire}

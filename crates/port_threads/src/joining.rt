@@ -10,7 +10,7 @@ use credit::Limits;
 use fab_types::NoMemory;
 use frame_log::Frame;
 use std::alloc::Global;
-use vetted::VettedFrame;
+use switch_output::VettedFrame;
 use wiring::Ends;
 use workers::Post;
 

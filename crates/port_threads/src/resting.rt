@@ -11,7 +11,7 @@ use std::alloc::Global;
 use std::marker::Model;
 use std::snapshot::Snapshot;
 use std::sync::Arc;
-use vetted::VettedFrame;
+use switch_output::VettedFrame;
 use wiring::Laid;
 
 /// All workers of a fabric, before they run or after: with the plan of their rings, the domains, and, for contracts alone,

@@ -11,7 +11,7 @@ use frame_log::Frame;
 use plan::Plan;
 use std::alloc::Global;
 use std::snapshot::Snapshot;
-use vetted::VettedFrame;
+use switch_output::VettedFrame;
 use wiring::{Ends, Laid, Wire, deal, lay};
 
 /// The rings of one table: the ends of each worker, and the rings as they were laid, for contracts alone.

@@ -14,7 +14,7 @@ use std::snapshot::Snapshot;
 use std::sync::Arc;
 use std::sync::atomic::AtomicBool;
 use std::thread::PromisedHandle;
-use vetted::VettedFrame;
+use switch_output::VettedFrame;
 use wiring::Laid;
 
 /// The fabric of a layout whose workers run.

@@ -11,8 +11,8 @@ use fab_types::DomainId;
 use frame_log::Frame;
 use monitor::{QueueReporter, Report};
 use std::snapshot::Snapshot;
+use switch_output::VettedFrame;
 use totals::{Count, Totals};
-use vetted::VettedFrame;
 use workers::Remains;
 
 /// All that is left of a fabric whose workers have ended.

@@ -7,7 +7,7 @@ use credit::Limits;
 use crew::{Work, WorkerId};
 use frame_log::Frame;
 use std::sync::Wait;
-use vetted::VettedFrame;
+use switch_output::VettedFrame;
 use wiring::Ends;
 use workers::Post;
 

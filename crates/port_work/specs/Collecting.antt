@@ -3,8 +3,8 @@ use Rattle.std.specs.Prelude.{◌≡◌, ℕ, List, [], ◌∷◌, ◌++◌}
 use Rattle.credit.specs.Limits.{Ledger}
 use Rattle.lane.specs.Queues.{frames_of}
 use Rattle.link.specs.Ends.{EgressView}
-use Rattle.vetted.specs.Vetted.{Vetted}
-use Rattle.vetted.specs.declared.vetted.VettedFrame.{VettedFrame}
+use Rattle.switch_output.specs.Vetted.{Vetted}
+use Rattle.switch_output.specs.declared.vetted_frame.VettedFrame.{VettedFrame}
 use Rattle.wiring.specs.Moved.{one_more, put_by, taken_by}
 use Rattle.wiring.specs.declared.ends.Ends.{Ends}
 

@@ -12,7 +12,7 @@ use Rattle.port.specs.Courses.{course_of}
 use Rattle.port.specs.Losses.{loss_of}
 use Rattle.port.specs.Turns.{PortView}
 use Rattle.port.specs.declared.loss.Loss.{Loss}
-use Rattle.vetted.specs.Vetted.{Vetted}
+use Rattle.switch_output.specs.Vetted.{Vetted}
 
 -- its home made the entry of these bytes, which were in flight there, and this is what answers it
 pub record EnteredThere (frame : Descriptor) (place : Place) (answer : Option Descriptor) : Type 0 where

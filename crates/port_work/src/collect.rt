@@ -6,9 +6,8 @@ ghost use Rattle.port_work.specs.Collecting.{Collects, Leaves};
 ghost use Rattle.wiring.specs.Moved.{put_by, taken_by};
 ghost use Rattle.wiring.specs.Wired.{tags_of};
 
-use lane::LaneOut;
 use link::Egress;
-use vetted::VettedFrame;
+use switch_output::{LaneOut, VettedFrame};
 use wiring::Ends;
 
 /// Takes the oldest packet of the ring of this end to wait in the egress queue, if one waits and its class has a place

@@ -5,9 +5,10 @@ ghost use Rattle.port.specs.Turns.{Moves, Rests, sight_with};
 
 use bridge::Bridge;
 use fab_types::{Class, Outcome};
-use lane::{LaneIn, LaneOut};
-use port::{Desk, Port, Reporter, TurnParts};
+use lane::{Desk, LaneIn, Reporter};
+use port::{Port, TurnParts};
 use std::sync::Wait;
+use switch_output::LaneOut;
 
 /// One turn of the port, as `Port::turn`.
 pub(crate) fn turn_over<'a, W: Wait, I: LaneIn, O: LaneOut, D: Desk, R: Reporter>(

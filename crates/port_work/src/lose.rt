@@ -13,12 +13,13 @@ ghost use Rattle.wiring.specs.Wired.{out_tag};
 use bridge::Bridge;
 use fab_types::{Class, Place, Violation};
 use frame_log::{Frame, FrameFault};
+use lane::Reporter;
 use link::Ingress;
 use locks::Locks;
 use monitor::QueueReporter;
-use port::{Port, Reporter};
+use port::Port;
 use std::sync::Wait;
-use vetted::VettedFrame;
+use switch_output::VettedFrame;
 use wiring::OutEnd;
 
 /// What became of the eligible packet.

@@ -21,7 +21,7 @@ use port::Port;
 use std::alloc::Global;
 use std::marker::Model;
 use std::sync::{Arc, Wait};
-use vetted::VettedFrame;
+use switch_output::VettedFrame;
 use wiring::Ends;
 
 // How often a turn goes round while something moves.

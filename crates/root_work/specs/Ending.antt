@@ -8,7 +8,7 @@ use Rattle.frame_log.specs.Descriptor.{Descriptor}
 use Rattle.lane.specs.Lanes.{Class, eligible}
 use Rattle.end_parts.specs.Ends.{EndsOwn, HasNoAlien, HasNoCase, TakesAlien}
 use Rattle.root_work.specs.Hosts.{AreSameHosts, HostChanges, host_place}
-use Rattle.root_work.specs.Receipts.{receipt_at_root}
+use Rattle.received.specs.Receipts.{receipt_at_host}
 use Rattle.root_work.specs.declared.host_work.HostWork.{HostWork}
 
 -- where it takes them: up the link of the top switch
@@ -17,7 +17,7 @@ at_root = Ingress (record { lower = 0x0100; way = Up })
 
 -- its home has an entry of it, and what follows waits in the home's host's outbox, or goes out as a record there
 abbrev pub EndsOwnAt : Descriptor → HostWork → HostWork → Type 0
-EndsOwnAt frame host host' = EndsOwn (receipt_at_root frame) frame host.outbox host'.outbox host.ends.records host'.ends.records × (host'.ends.begins ≡ host.ends.begins)
+EndsOwnAt frame host host' = EndsOwn (receipt_at_host frame) frame host.outbox host'.outbox host.ends.records host'.ends.records × (host'.ends.begins ≡ host.ends.begins)
 
 -- the domain of a number has an entry of it, and what follows waits in its host's outbox
 abbrev pub TakesAlienAt : ℕ → Descriptor → HostWork → HostWork → Type 0
@@ -32,7 +32,7 @@ pub record EndsAtHome (class : Class) (waiting waiting' : List Descriptor) (host
 
 -- the home of a packet has no host here, or no case for the packet
 abbrev pub IsForeign : List ℕ → List HostWork → Descriptor → Type 0
-IsForeign locks hosts frame = (host_place hosts frame.domain ≡ None) ⊎ HasNoCase locks (receipt_at_root frame) frame
+IsForeign locks hosts frame = (host_place hosts frame.domain ≡ None) ⊎ HasNoCase locks (receipt_at_host frame) frame
 
 -- the receiver of a packet has no host here, or no case for the packet
 abbrev pub IsUnreceived : List ℕ → ℕ → List HostWork → Descriptor → Type 0

@@ -1,6 +1,5 @@
 pub mod Hosts
 pub mod Ending
 pub mod Owners
-pub mod Receipts
 pub mod Relaying
 pub mod Works

@@ -5,19 +5,20 @@ ghost use Rattle.lane.specs.Lanes.{eligible};
 ghost use Rattle.lane.specs.Queues.{frames_of, frames_restored};
 ghost use Rattle.root_work.specs.Ending.{EndsAsAlien, EndsAsStray, EndsAtHome, IsUnreceived, StaysThere, TakesAlienAt, at_root};
 ghost use Rattle.root_work.specs.Hosts.{AreSameHosts, HostChanges};
-ghost use Rattle.root_work.specs.Receipts.{receiver_of};
+ghost use Rattle.received.specs.Receivers.{receiver_at_host};
+ghost use Rattle.root_work.specs.Owners.{owner_of_frame};
 ghost use Rattle.root_work.specs.Relaying.{AreRelayed};
 
 use crate::frame_owners::FrameOwners;
 use crate::host_work::HostWork;
 use crate::hosts::{end_at_home, host_place};
-use crate::receivers::receiver_of;
 use bridge::Bridge;
 use end_parts::{Ending, Unended, end_alien, keep_stray};
 use fab_types::{Bdf, Class, Direction, DomainId, Place, Way};
 use frame_log::Frame;
 use link::Ingress;
 use locks::Locks;
+use received::receiver_at_host;
 use std::sync::Wait;
 
 // The ID of the top switch, at the lower end of the root complex's link.
@@ -81,8 +82,8 @@ pub(crate) fn end_here<R: Wait>(
 ) -> Ending
     requires { AreRelayed false class (frames_of input.old.queue.queue.waiting) }
     ensures own { result ≡ Ending.Own → EndsAtHome class (frames_of input.old.queue.queue.waiting) (frames_of input.new.queue.queue.waiting) hosts.old hosts.new strays.old.items strays.new.items }
-    ensures alien { result ≡ Ending.Alien → EndsAsAlien locks.now (receiver_of bridge.now.ports frames.now) class (frames_of input.old.queue.queue.waiting) (frames_of input.new.queue.queue.waiting) hosts.old hosts.new strays.old.items strays.new.items }
-    ensures stray { result ≡ Ending.Stray → EndsAsStray locks.now (receiver_of bridge.now.ports frames.now) class (frames_of input.old.queue.queue.waiting) (frames_of input.new.queue.queue.waiting) hosts.old hosts.new strays.old.items strays.new.items }
+    ensures alien { result ≡ Ending.Alien → EndsAsAlien locks.now (receiver_at_host bridge.now.ports (owner_of_frame frames.now)) class (frames_of input.old.queue.queue.waiting) (frames_of input.new.queue.queue.waiting) hosts.old hosts.new strays.old.items strays.new.items }
+    ensures stray { result ≡ Ending.Stray → EndsAsStray locks.now (receiver_at_host bridge.now.ports (owner_of_frame frames.now)) class (frames_of input.old.queue.queue.waiting) (frames_of input.new.queue.queue.waiting) hosts.old hosts.new strays.old.items strays.new.items }
     ensures waits { result ≡ Ending.Waits → StaysThere (frames_of input.old.queue.queue.waiting) (frames_of input.new.queue.queue.waiting) hosts.old hosts.new strays.old.items strays.new.items }
     ensures idle { result ≡ Ending.Idle → (eligible class (frames_of input.old.queue.queue.waiting) ≡ None) × StaysThere (frames_of input.old.queue.queue.waiting) (frames_of input.new.queue.queue.waiting) hosts.old hosts.new strays.old.items strays.new.items }
 {
@@ -92,7 +93,7 @@ pub(crate) fn end_here<R: Wait>(
     match end_at_home(rt, locks, hosts, frame) {
         Ok(()) => Ending::Own,
         Err(Unended::Stray(frame)) => {
-            let receiver = receiver_of(bridge, frames, &frame);
+            let receiver = receiver_at_host(bridge, frames, &frame);
             end_as_alien(rt, locks, receiver, hosts, input, strays, frame)
         }
         Err(Unended::Waits(frame)) => {

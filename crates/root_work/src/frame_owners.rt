@@ -1,10 +1,11 @@
 //! Whose a frame of memory is.
 
 ghost use Rattle.std.specs.Prelude.{◌≡◌};
-ghost use Rattle.root_work.specs.Owners.{owner_of_frame, owns_frame};
+ghost use Rattle.root_work.specs.Owners.{owns_frame};
 
 use fab_types::DomainId;
 use layout::Start;
+use received::OwnsFrames;
 use std::marker::Model;
 
 /// Which frames of memory each domain of a layout has. A contract sees the list of what the layout gives each domain.
@@ -37,13 +38,16 @@ impl FrameOwners {
     {
         FrameOwners { starts }
     }
+}
 
-    /// The domain that has the frame of memory of this number, if one does.
-    pub fn owner(&self, page: u64) -> Option<DomainId>
-        ensures { result ≡ owner_of_frame self.now page }
-    {
+impl OwnsFrames for FrameOwners {
+    ghost use Rattle.root_work.specs.Owners.{owner_of_frame};
+
+    ghost owner_of_frame = { λ starts. owner_of_frame starts };
+
+    fn owner_of_frame(&self, number: u64) -> Option<DomainId> {
         let mut starts = self.starts.iter();
-        let owner = starts.find(|start| owns_frame(start, page))?;
+        let owner = starts.find(|start| owns_frame(start, number))?;
         Some(owner.domain())
     }
 }

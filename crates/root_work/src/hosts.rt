@@ -6,14 +6,14 @@ ghost use Rattle.end_parts.specs.Ends.{HasNoCase};
 ghost use Rattle.end_parts.specs.declared.ending.Unended.TheVariants as unended;
 ghost use Rattle.root_work.specs.Ending.{EndsOwnAt, IsForeign};
 ghost use Rattle.root_work.specs.Hosts.{AreSameHosts, HostChanges, host_place, host_with_places};
-ghost use Rattle.root_work.specs.Receipts.{receipt_at_root};
+ghost use Rattle.received.specs.Receipts.{receipt_at_host};
 
 use crate::host_work::HostWork;
-use crate::receipt::receipt_at_root;
 use end_parts::{Unended, end_own};
 use fab_types::{DomainId, Origin, same_origin};
 use frame_log::Frame;
 use locks::Locks;
+use received::receipt_at_host;
 use std::sync::Wait;
 
 /// The place of a domain's host.
@@ -32,10 +32,10 @@ pub(crate) fn host_place(hosts: &[HostWork], domain: DomainId) -> Option<usize>
 fn end_at<R: Wait>(rt: &R, locks: &Locks, host: &mut HostWork, frame: Frame) -> Result<(), Unended>
     ensures ended { OnOk result (EndsOwnAt frame host.old host.new) }
     ensures given { IfErr result (λ u. unended_frame u ≡ frame) }
-    ensures stray { IfErr result (λ u. u ≡ unended.Stray frame → HasNoCase locks.now (receipt_at_root frame) frame) }
+    ensures stray { IfErr result (λ u. u ≡ unended.Stray frame → HasNoCase locks.now (receipt_at_host frame) frame) }
     ensures err { OnErr result (host.new ≡ host_with_places host.new.outbox.places host.old) }
 {
-    let receipt = receipt_at_root(&frame);
+    let receipt = receipt_at_host(&frame);
     end_own(
         rt,
         locks,

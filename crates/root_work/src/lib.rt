@@ -8,8 +8,6 @@ mod frame_owners;
 mod host_work;
 mod hosts;
 mod parts;
-mod receipt;
-mod receivers;
 mod relay;
 mod root_work;
 mod serve_all;

@@ -5,7 +5,6 @@ ghost use Rattle.lane.specs.Queues.{frames_of};
 ghost use Rattle.root_work.specs.Relaying.{AreRelayed, HasNoneToRelay, Relays};
 
 use fab_types::Class;
-use lane::LaneOut;
 use link::{Egress, Ingress};
 
 /// The eligible packet of a class goes to wait behind all others to be sent.

@@ -3,12 +3,11 @@
 use bridge::Bridge;
 use fab_types::{Bdf, Class, Cost, DomainId, Head, Header, Parties};
 use frame_log::Log;
-use lane::LaneOut;
 use layout::Layout;
 use std::alloc::Global;
 use std::sync::Wait;
 use std::test::Fail;
-use vetted::VettedFrame;
+use switch_output::{LaneOut, VettedFrame};
 use wiring::{InEnd, OutEnd, Wire, are_within, deal, lay};
 
 const ONE_SWITCH: &str = "pciefab 1\nswitch 01:00.0 root\n";

@@ -3,8 +3,8 @@
 use crate::locked_scenes::{FIRST, GUARDED, SECOND, Side, locks_of, submitted, write};
 use domain::{Domain, Entry};
 use fab_types::{Bdf, PortId};
+use lane::Desk;
 use locks::{LockedDesk, Locks};
-use port::Desk;
 use std::alloc::Global;
 use std::sync::{Arc, Wait};
 use std::thread;

@@ -3,8 +3,8 @@
 ghost use Rattle.std.specs.Prelude.{◌≡◌};
 
 use fab_types::{Bdf, Check, PortId, Violation};
+use lane::Reporter;
 use monitor::{PLACES, Report, Watch};
-use port::Reporter;
 
 /// The violation that a test reports with this number.
 pub(crate) fn violation(number: u16) -> Violation {

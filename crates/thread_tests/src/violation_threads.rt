@@ -4,8 +4,8 @@ ghost use Rattle.std.specs.Prelude.{◌≡◌, IfSome};
 ghost use Rattle.monitor.specs.Reporting.{seat_of};
 
 use crate::violation_reports::{has_in_order, violation};
+use lane::Reporter;
 use monitor::{QueueReporter, Watch};
-use port::Reporter;
 use std::snapshot::Snapshot;
 use std::sync::Wait;
 use std::thread;

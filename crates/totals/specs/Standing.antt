@@ -5,7 +5,7 @@ use Rattle.frame_log.specs.Descriptor.{Descriptor}
 use Rattle.link_side.specs.Sides.{LinkSideView, landed, leaving}
 use Rattle.outboxes.specs.Outboxes.{waiting}
 use Rattle.root_work.specs.declared.host_work.HostWork.{HostWork}
-use Rattle.vetted.specs.Vetted.{Vetted}
+use Rattle.switch_output.specs.Vetted.{Vetted}
 use Rattle.wiring.specs.declared.told.Told.{Told}
 use Rattle.workers.specs.declared.remains.Parts.{Parts}
 use Rattle.workers.specs.declared.remains.Parts.TheVariants as parts

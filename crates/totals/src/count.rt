@@ -17,7 +17,7 @@ use domain::Domain;
 use fab_types::NoMemory;
 use frame_log::Frame;
 use std::alloc::Global;
-use vetted::VettedFrame;
+use switch_output::VettedFrame;
 use wiring::Told;
 use workers::Remains;
 

@@ -17,7 +17,7 @@ use link_side::LinkSide;
 use outboxes::OriginBox;
 use root_work::{HostWork, RootParts};
 use std::alloc::Global;
-use vetted::VettedFrame;
+use switch_output::VettedFrame;
 use wiring::Told;
 use workers::{Parts, PortRemains, Remains};
 

@@ -30,7 +30,7 @@ use Rattle.topology.specs.declared.nodes.LinkEnd.{LinkEnd}
 use Rattle.topology.specs.declared.places.PortPlace.{PortPlace}
 use Rattle.interconnect.specs.Moves.{channel_at, on_channel, with_channel}
 use Rattle.interconnect.specs.Passes.{index_of, input_number, no_place, no_port}
-use Rattle.vetted.specs.Vetted.{may_go_on}
+use Rattle.switch_output.specs.Vetted.{may_go_on}
 use Rattle.fabric_core.specs.declared.event.Event.{Event}
 use Rattle.fabric_core.specs.declared.event.Event.TheVariants.{Credit, Send, Take}
 use Rattle.fabric_core.specs.declared.station.Station.{Station}
@@ -38,7 +38,8 @@ use Rattle.fabric_core.specs.declared.station.Station.TheVariants as station
 use Rattle.fabric_core.specs.Events.{effect, enter, entered_at, link_of}
 use Rattle.fabric_core.specs.Losing.{pass}
 use Rattle.fabric_core.specs.Passing.{Site, answer_waits, is_full_at, output_end, passed, passed_at, passed_by, passed_number, port_number, site_at, turned}
-use Rattle.fabric_core.specs.Receipts.{Taken, arrive, arrived, from_host, receipt_at_host, receipt_by_host, relayed, request_at_host, root, rooted, rooted_by, taken, taken_at, taken_from, to_function, to_host}
+use Rattle.fabric_core.specs.Receipts.{Taken, arrive, arrived, from_host, relayed, root, rooted, rooted_by, taken, taken_at, taken_from, to_function, to_host}
+use Rattle.received.specs.Receipts.{receipt_at_host, receipt_by_host, request_at_host}
 use Rattle.fabric_core.specs.Soundness.{config_of}
 use Rattle.fabric_core.specs.Stations.{classes, events_at, taking}
 use Rattle.fabric_core.specs.Still.{IsIdleAt}

@@ -4,8 +4,7 @@ ghost use Rattle.std.specs.Prelude.{◌≡◌};
 
 use crate::out_end::OutEnd;
 use fab_types::Class;
-use lane::LaneOut;
-use vetted::VettedFrame;
+use switch_output::{LaneOut, VettedFrame};
 
 impl LaneOut for OutEnd<VettedFrame> {
     ghost use Rattle.std.specs.Prelude.{false, map, true};

@@ -10,7 +10,7 @@ use function_work::FunctionWork;
 use port_work::PortWork;
 use root_work::RootWork;
 use std::sync::Wait;
-use vetted::VettedFrame;
+use switch_output::VettedFrame;
 use wiring::Ends;
 
 /// The work of a port, of a function or of the root complex.

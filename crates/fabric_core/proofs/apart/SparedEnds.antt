@@ -20,10 +20,11 @@ use Rattle.topology.specs.Links.{sender_of}
 use Rattle.topology.specs.declared.nodes.LinkEnd.{LinkEnd}
 use Rattle.interconnect.specs.Moves.{channel_at, put_at}
 use Rattle.interconnect.specs.Passes.{index_of, no_place}
-use Rattle.fabric_core.specs.Receipts.{Carry, Deliver, Receipt, Nobody, Relay, Taken, arrive, arrived, arrived_by, ended, receipt_at_function, receipt_at_host, agents_by_host, from_host, own_by_function, own_by_host, relayed, root, rooted, rooted_by, taken, taken_at, taken_from, to_function, to_host}
+use Rattle.fabric_core.specs.Receipts.{Taken, arrive, arrived, arrived_by, ended, receipt_at, agents_by_host, from_host, own_by_function, own_by_host, relayed, root, rooted, rooted_by, taken, taken_at, taken_from, to_function, to_host}
+use Rattle.received.specs.Receipts.{Carry, Deliver, Nobody, Receipt, Relay, receipt_at_host}
 use Rattle.fabric_core.specs.Isolation.{home_of_taken, home_passed, is_number}
 use Rattle.fabric_core.specs.Losing.{pass}
-use Rattle.vetted.specs.Vetted.{may_go_on}
+use Rattle.switch_output.specs.Vetted.{may_go_on}
 use Rattle.fabric_core.specs.Passing.{Site, answer_waits, answered_at, is_full_at, output_end, passed, passed_by, passed_number, refused_by, site_at, strayed}
 use Rattle.fabric_core.specs.Soundness.{IsGuardedFabric}
 use Rattle.fabric_core.specs.World.{World, with_channels}
@@ -138,7 +139,7 @@ spares_root w w' g class is = root_if w w' g class (taken w to_host class) (take
 arrive_if : (w w' : World) (g : IsGuardedFabric w) (function : ℕ) (o : Option Taken) (b : Bool) → ((t : Taken) → o ≡ Some t → LinksSpare w.channels (Some t.frame.domain) t.channels) → cond b (arrived w function o) None ≡ Some w' → Spares w (home_of_taken o) w'
 arrive_if w w' g function o false links is = absurd cc
 arrive_if w w' g function None true links is = absurd cc
-arrive_if w w' g function (Some t) true links is = arrived_spares w w' g t (links t refl) function (receipt_at_function w function t.frame) is
+arrive_if w w' g function (Some t) true links is = arrived_spares w w' g t (links t refl) function (receipt_at w function t.frame) is
 
 pub spares_arrive : (w w' : World) (g : IsGuardedFabric w) (function : ℕ) (class : Class) → arrive w function class ≡ Some w' → Spares w (home_of_taken (taken w (to_function function) class)) w'
 spares_arrive w w' g function class is =

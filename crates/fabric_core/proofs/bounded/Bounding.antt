@@ -23,14 +23,15 @@ use Rattle.interconnect.specs.declared.lost.Lost.{Lost}
 use Rattle.interconnect.specs.Lost.{lost_among}
 use Rattle.interconnect.specs.Moves.{channel_at, on_channel, put_at}
 use Rattle.interconnect.specs.Passes.{index_of, no_place}
-use Rattle.vetted.specs.Vetted.{may_go_on}
+use Rattle.switch_output.specs.Vetted.{may_go_on}
 use Rattle.fabric_core.specs.declared.event.Event.{Event}
 use Rattle.fabric_core.specs.declared.event.Event.TheVariants.{Arrive, Credit, Enter, Mmio, Pass, Root, Send, Submit, Take, Tick}
 use Rattle.fabric_core.specs.Credits.{AreBounded, HaveCredits}
 use Rattle.fabric_core.specs.Events.{effect, entered_at, link_of}
 use Rattle.fabric_core.specs.Losing.{Losing, is_at_port_of, losing, losing_by, losing_to, losing_with, lost, passed_unless, without_lost}
 use Rattle.fabric_core.specs.Passing.{Site, answer_waits, answered_at, is_full_at, output_end, passed, passed_by, passed_number, refused_by, site_at, strayed}
-use Rattle.fabric_core.specs.Receipts.{Receipt, Relay, Carry, Deliver, Nobody, Taken, agents_by_host, arrived, arrived_by, ended, from_host, receipt_at_function, receipt_at_host, relayed, rooted, rooted_by, taken, taken_at, to_function, to_host}
+use Rattle.fabric_core.specs.Receipts.{Taken, agents_by_host, arrived, arrived_by, ended, from_host, receipt_at, relayed, rooted, rooted_by, taken, taken_at, to_function, to_host}
+use Rattle.received.specs.Receipts.{Carry, Deliver, Nobody, Receipt, Relay, receipt_at_host}
 use Rattle.fabric_core.specs.World.{World, with_agents, with_both, with_channels}
 use Rattle.fabric_core.proofs.bounded.Directions.{on_channel_bounded, put_bounded, some_is, taken_bounded}
 use Rattle.fabric_core.proofs.bounded.Steps.{deliver_bounded, send_bounded, update_bounded}
@@ -97,7 +98,7 @@ rooted_if w w' class (Some t) all is = received w w' class t (receipt_at_host t.
 arrived_if : (w w' : World) (function : ℕ) (o : Option Taken) → ((t : Taken) → o ≡ Some t → AreBounded t.channels) → arrived w function o ≡ Some w' → Holds w'
 arrived_if w w' function None all is = absurd cc
 arrived_if w w' function (Some t) all is =
-    let after = arrived_by w function t (receipt_at_function w function t.frame) in
+    let after = arrived_by w function t (receipt_at w function t.frame) in
     subst Holds (some_is after w' is) (ended_bounded w t _ (all t refl))
 
 arrived_at : (w w' : World) (function : ℕ) (class : Class) (known : Bool) → Holds w → cond known (arrived w function (taken w (to_function function) class)) None ≡ Some w' → Holds w'

@@ -19,8 +19,11 @@ use Rattle.domains.specs.Domains.{Made, domain_at, made, place_of, place_of_func
 use Rattle.topology.specs.Links.{sender_of}
 use Rattle.topology.specs.declared.nodes.LinkEnd.{LinkEnd}
 use Rattle.interconnect.specs.Moves.{channel_at, put_at}
-use Rattle.fabric_core.specs.Aliens.{alien_at_function, alien_at_host, or_else, receiver_at_host}
-use Rattle.fabric_core.specs.Receipts.{Carry, Deliver, Receipt, Nobody, Relay, Taken, arrive, arrived, arrived_by, agents_by_host, ended, receipt_at_function, receipt_at_host, from_host, relayed, root, rooted, rooted_by, taken, to_function, to_host}
+use Rattle.fabric_core.specs.Aliens.{alien_at_function, alien_at_host, or_else}
+use Rattle.domains.specs.Aliens.{owner_of_frame}
+use Rattle.received.specs.Receivers.{receiver_at_host}
+use Rattle.fabric_core.specs.Receipts.{Taken, arrive, arrived, arrived_by, agents_by_host, ended, receipt_at, from_host, relayed, root, rooted, rooted_by, taken, to_function, to_host}
+use Rattle.received.specs.Receipts.{Carry, Deliver, Nobody, Receipt, Relay, receipt_at_host}
 use Rattle.fabric_core.specs.Invariant.{IsConsistent}
 use Rattle.fabric_core.specs.Places.{frames_of, waiting_in}
 use Rattle.fabric_core.specs.World.{World, with_both, with_channels, with_stray}
@@ -140,7 +143,7 @@ delivered_to w t kept out = by (made w.agents.domains t.frame.domain (Deliver t.
 -- an alien packet at the host, or a stray one
 otherwise_at_host : (w : World) (t : Taken) → IsConsistent w → TakenOut w t → IsConsistent (ended w t (alien_at_host w.routes.ports w.agents t.frame))
 otherwise_at_host w t kept out =
-    let receiver = receiver_at_host w.routes.ports w.agents.domains t.frame in
+    let receiver = receiver_at_host w.routes.ports (owner_of_frame w.agents.domains) t.frame in
     kept_alien w t (Host receiver) (place_of w.agents.domains receiver) (Ingress to_host) kept out refl (kept_stray w t kept out)
 
 ended_at_host : (w : World) (t : Taken) (e : Receipt) → IsConsistent w → TakenOut w t → IsConsistent (ended w t (agents_by_host w.routes.ports w.agents t.frame e))
@@ -178,7 +181,7 @@ arrived_as w function t Nobody kept out = otherwise_at_function w function t kep
 arrived_if : (w w' : World) (function : ℕ) (o : Option Taken) → IsConsistent w → ((t : Taken) → o ≡ Some t → TakenOut w t) → arrived w function o ≡ Some w' → IsConsistent w'
 arrived_if w w' function None kept out is = absurd cc
 arrived_if w w' function (Some t) kept out is =
-    let e = receipt_at_function w function t.frame in subst IsConsistent (some_is (arrived_by w function t e) w' is) (arrived_as w function t e kept (out t refl))
+    let e = receipt_at w function t.frame in subst IsConsistent (some_is (arrived_by w function t e) w' is) (arrived_as w function t e kept (out t refl))
 
 arrives_if : (w w' : World) (b : Bool) (o : Option World) → cond b o None ≡ Some w' → o ≡ Some w'
 arrives_if w w' true o e = e

@@ -32,7 +32,8 @@ use Rattle.fabric_core.specs.Aliens.{alien_at_function, or_else, to_function}
 use Rattle.fabric_core.specs.Events.{link_of}
 use Rattle.fabric_core.specs.Invariant.{IsConsistent}
 use Rattle.fabric_core.specs.MovesLeft.{is_request, moves_left, moves_of}
-use Rattle.fabric_core.specs.Receipts.{Carry, Deliver, Nobody, Receipt, Relay, Taken, arrive, arrived, arrived_by, ended, receipt_at_function, receipt_by_function, taken, taken_at}
+use Rattle.fabric_core.specs.Receipts.{Taken, arrive, arrived, arrived_by, ended, receipt_at, taken, taken_at}
+use Rattle.received.specs.Receipts.{Carry, Deliver, Nobody, Receipt, Relay, receipt_by_function}
 use Rattle.fabric_core.specs.World.{World}
 use Rattle.fabric_core.proofs.invariant.Settling.{share_at}
 use Rattle.fabric_core.proofs.moves.Ahead.{IsLaid, quiet_few, request_more}
@@ -154,7 +155,7 @@ module _ (w : World) (kept : IsConsistent w) (laid : IsLaid w) (function : ℕ) 
     in_domain true r e = e
     in_domain false r e = absurd cc
 
-    ends : (r : Receipt) → receipt_at_function w function t.frame ≡ r → Fewer (arrived_by w function t r)
+    ends : (r : Receipt) → receipt_at w function t.frame ≡ r → Fewer (arrived_by w function t r)
     ends Relay e = alien
     ends Carry e = enters (is_function_of w.agents.domains function t.frame.domain) (λ own. in_domain (is_function_of w.agents.domains function t.frame.domain) (receipt_by_function w.routes.ports function t.frame.head.parties t.frame.head.header) e)
     ends Deliver e = delivers (made w.agents.domains t.frame.domain (entry.Deliver t.frame.number))
@@ -162,7 +163,7 @@ module _ (w : World) (kept : IsConsistent w) (laid : IsLaid w) (function : ℕ) 
 
   by_taken : (o : Option Taken) → ((t : Taken) → o ≡ Some t → IsTakenFrom w (to_function function) t) → (v : World) → arrived w function o ≡ Some v → Fewer v
   by_taken None taken v e = absurd cc
-  by_taken (Some t) taken v e = subst Fewer (same_Some _ v e) (ends t (taken t refl) (receipt_at_function w function t.frame) refl)
+  by_taken (Some t) taken v e = subst Fewer (same_Some _ v e) (ends t (taken t refl) (receipt_at w function t.frame) refl)
 
   by_sender : (class : Class) (found : Option LinkEnd) → sender_of w.tree.links (to_function function) ≡ found → (v : World) → arrived w function (taken_at w.channels class found) ≡ Some v → Fewer v
   by_sender class None from v e = absurd cc

@@ -11,17 +11,19 @@ use Rattle.fab_types.specs.declared.place.Place.TheVariants.{Ingress}
 use Rattle.frame_log.specs.Descriptor.{Descriptor}
 use Rattle.domain.specs.declared.entry.Entry.TheVariants as entry
 use Rattle.agents.specs.Agents.{AgentsView, emitted_if}
-use Rattle.domains.specs.Aliens.{aliened}
+use Rattle.domains.specs.Aliens.{aliened, owner_of_frame}
 use Rattle.domains.specs.Domains.{Made, made, place_of}
 use Rattle.lane.specs.Lanes.{Class}
 use Rattle.link.specs.Channels.{is_full}
 use Rattle.topology.specs.declared.nodes.LinkEnd.{LinkEnd}
 use Rattle.topology.specs.Links.{sender_of}
 use Rattle.interconnect.specs.Moves.{channel_at, put_at}
-use Rattle.fabric_core.specs.Aliens.{alien_at_host, or_else, receiver_at_host}
+use Rattle.fabric_core.specs.Aliens.{alien_at_host, or_else}
+use Rattle.received.specs.Receivers.{receiver_at_host}
 use Rattle.fabric_core.specs.Invariant.{IsConsistent}
 use Rattle.fabric_core.specs.MovesLeft.{is_request, moves_left, moves_of}
-use Rattle.fabric_core.specs.Receipts.{Carry, Deliver, Nobody, Receipt, Relay, Taken, agents_by_host, completion_at_host, ended, from_host, receipt_at_host, receipt_by_host, relayed, root, rooted, rooted_by, taken, taken_at, to_host}
+use Rattle.fabric_core.specs.Receipts.{Taken, agents_by_host, ended, from_host, relayed, root, rooted, rooted_by, taken, taken_at, to_host}
+use Rattle.received.specs.Receipts.{Carry, Deliver, Nobody, Receipt, Relay, completion_at_host, receipt_at_host, receipt_by_host}
 use Rattle.fabric_core.specs.World.{World, with_channels}
 use Rattle.fabric_core.proofs.invariant.Renewing.{sender_there}
 use Rattle.fabric_core.proofs.moves.Ahead.{IsLaid, down_few, request_up}
@@ -69,7 +71,7 @@ module _ (w : World) (kept : IsConsistent w) (laid : IsLaid w) where
     alien = go (aliened w.agents.domains receiver (Ingress to_host) t.frame) refl
       where
         receiver : ℕ
-        receiver = receiver_at_host w.routes.ports w.agents.domains t.frame
+        receiver = receiver_at_host w.routes.ports (owner_of_frame w.agents.domains) t.frame
 
         go : (o : Option Made) → aliened w.agents.domains receiver (Ingress to_host) t.frame ≡ o → Fewer (ended w t (emitted_if w.agents (Host receiver) o))
         go None e = stray_fewer w laid to_host t taken

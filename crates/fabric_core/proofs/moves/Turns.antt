@@ -17,7 +17,7 @@ use Rattle.topology.specs.declared.nodes.LinkEnd.{LinkEnd}
 use Rattle.topology.specs.declared.places.PortPlace.{PortPlace}
 use Rattle.interconnect.specs.Moves.{put_at}
 use Rattle.interconnect.specs.Passes.{index_of, no_place}
-use Rattle.vetted.specs.Vetted.{may_go_on}
+use Rattle.switch_output.specs.Vetted.{may_go_on}
 use Rattle.fabric_core.specs.Invariant.{IsConsistent}
 use Rattle.fabric_core.specs.MovesLeft.{moves_left}
 use Rattle.fabric_core.specs.Passing.{Site, answer_waits, is_full_at, output_end, passed, passed_by, passed_number, refused_by, site_at, strayed, turned}

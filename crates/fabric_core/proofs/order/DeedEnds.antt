@@ -23,7 +23,8 @@ use Rattle.interconnect.specs.Moves.{channel_at, put_at}
 use Rattle.guarded_routes.specs.Sound.{IsMeantFor, is_reply}
 use Rattle.guarded_routes.proofs.Hosts.{AtHost, at_host, delivers}
 use Rattle.guarded_routes.proofs.Taking.{reply_at, request_at}
-use Rattle.fabric_core.specs.Receipts.{Receipt, Taken, arrive, arrived, arrived_by, agents_by_host, ended, receipt_at_function, receipt_by_function, receipt_by_host, from_host, own_by_function, own_by_host, relayed, request_at_host, root, rooted, rooted_by, taken, to_function, to_host}
+use Rattle.fabric_core.specs.Receipts.{Taken, arrive, arrived, arrived_by, agents_by_host, ended, receipt_at, from_host, own_by_function, own_by_host, relayed, root, rooted, rooted_by, taken, to_function, to_host}
+use Rattle.received.specs.Receipts.{Receipt, receipt_by_function, receipt_by_host, request_at_host}
 use Rattle.fabric_core.specs.Invariant.{IsConsistent}
 use Rattle.fabric_core.specs.Soundness.{IsGuardedFabric}
 use Rattle.fabric_core.specs.Trails.{standing_in}
@@ -153,12 +154,12 @@ module _ (w : World) (kept : IsConsistent w) (g : IsGuardedFabric w) (function :
   arrived_as (header.OtherRequest requester) same = absurd (is_meant (header.OtherRequest requester) same)
   arrived_as (header.Completion target relaxed_ordering) same = delivered_here (ap is_reply same)
 
-  arrived_own : Deed g.platform w (left_by (receipt_at_function w function t.frame))
+  arrived_own : Deed g.platform w (left_by (receipt_at w function t.frame))
   arrived_own =
       subst (λ (b : Bool). Deed g.platform w (left_by (cond b (receipt_by_function w.routes.ports function t.frame.head.parties t.frame.head.header) Receipt.Nobody))) (sym is_own) (arrived_as t.frame.head.header refl)
 
-  deed_arrived : Deed g.platform w (arrived_by w function t (receipt_at_function w function t.frame))
-  deed_arrived = subst (λ (o : Option AgentsView). Deed g.platform w (ended w t o)) (sym (home_at_function w g function t.frame (receipt_at_function w function t.frame))) arrived_own
+  deed_arrived : Deed g.platform w (arrived_by w function t (receipt_at w function t.frame))
+  deed_arrived = subst (λ (o : Option AgentsView). Deed g.platform w (ended w t o)) (sym (home_at_function w g function t.frame (receipt_at w function t.frame))) arrived_own
 
 arrived_if : (w w' : World) (kept : IsConsistent w) (g : IsGuardedFabric w) (function : ℕ) (o : Option Taken) → FunctionHome w g function → is_some (place_of_function w.agents.domains function) ≡ true → ((t : Taken) → o ≡ Some t → TakenAway w kept g (to_function function) t)
     → arrived w function o ≡ Some w' → Deed g.platform w w'

@@ -15,7 +15,7 @@ use Rattle.frame_log.specs.Descriptor.{Descriptor}
 use Rattle.agents.specs.Agents.{AgentsView, AreFound, Outbox, accessed, carried_at, emitted_if, joined, outbox_place, submitted, taken_from as waiting_taken, ticked, waiting_of, with_waiting, with_waiting_at, with_waiting_in}
 use Rattle.agents.proofs.Lists.{each_place, found_there, position_kept}
 use Rattle.domain.specs.declared.entry.Entry.TheVariants as entry
-use Rattle.domains.specs.Aliens.{aliened}
+use Rattle.domains.specs.Aliens.{aliened, owner_of_frame}
 use Rattle.domains.specs.Domains.{Made, made}
 use Rattle.credit.specs.declared.counters.Counters.{Counters}
 use Rattle.lane.specs.Lanes.{eligible}
@@ -31,14 +31,16 @@ use Rattle.interconnect.specs.declared.lost.Lost.{Lost}
 use Rattle.interconnect.specs.Lost.{lost_among}
 use Rattle.interconnect.specs.Moves.{channel_at, left_at, on_channel, put_at, with_channel}
 use Rattle.interconnect.specs.Passes.{index_of, no_place, no_port}
-use Rattle.vetted.specs.Vetted.{may_go_on}
+use Rattle.switch_output.specs.Vetted.{may_go_on}
 use Rattle.fabric_core.specs.declared.event.Event.{Event}
 use Rattle.fabric_core.specs.declared.event.Event.TheVariants.{Arrive, Credit, Enter, Mmio, Pass, Root, Send, Submit, Take, Tick}
-use Rattle.fabric_core.specs.Aliens.{alien_at_function, alien_at_host, or_else, receiver_at_host, to_function, to_host}
+use Rattle.fabric_core.specs.Aliens.{alien_at_function, alien_at_host, or_else, to_function, to_host}
+use Rattle.received.specs.Receivers.{receiver_at_host}
 use Rattle.fabric_core.specs.Events.{StepsTo, effect, entered_at, link_of}
 use Rattle.fabric_core.specs.Losing.{Losing, is_at_port_of, losing, losing_by, losing_to, losing_with, passed_unless, without_lost}
 use Rattle.fabric_core.specs.Passing.{Site, answer_waits, answered_at, is_full_at, kept_by, output_end, passed, passed_by, passed_number, refused_by, site_at, strayed}
-use Rattle.fabric_core.specs.Receipts.{Carry, Deliver, Nobody, Receipt, Relay, Taken, agents_by_function, agents_by_host, arrived, ended, from_host, own_by_function, own_by_host, receipt_at_function, receipt_at_host, relayed, rooted, rooted_by, taken, taken_at, taken_from}
+use Rattle.fabric_core.specs.Receipts.{Taken, agents_by_function, agents_by_host, arrived, ended, from_host, own_by_function, own_by_host, receipt_at, relayed, rooted, rooted_by, taken, taken_at, taken_from}
+use Rattle.received.specs.Receipts.{Carry, Deliver, Nobody, Receipt, Relay, receipt_at_host}
 use Rattle.fabric_core.specs.Soundness.{config_of}
 use Rattle.fabric_core.specs.World.{World, with_agents, with_both, with_channels}
 use Rattle.fabric_core.proofs.soundness.SoundLinks.{Either, either_channel}
@@ -211,7 +213,7 @@ module _ (w : World) where
   ended_stays t (Some agents) starts same = record { tree = refl; routes = refl; configs = refl; starts = starts; boxes = same }
 
   by_host : (frame : Descriptor) (receipt : Receipt) → IfSome (agents_by_host w.routes.ports w.agents frame receipt) (SameOutboxes w.agents)
-  by_host frame receipt = either_boxes w.agents (own_by_host w.agents frame receipt) (alien_at_host w.routes.ports w.agents frame) (own receipt) (emitted_boxes w.agents (Host (receiver_at_host w.routes.ports w.agents.domains frame)) _)
+  by_host frame receipt = either_boxes w.agents (own_by_host w.agents frame receipt) (alien_at_host w.routes.ports w.agents frame) (own receipt) (emitted_boxes w.agents (Host (receiver_at_host w.routes.ports (owner_of_frame w.agents.domains) frame)) _)
     where
       own : (r : Receipt) → IfSome (own_by_host w.agents frame r) (SameOutboxes w.agents)
       own Relay = tt
@@ -244,7 +246,7 @@ module _ (w : World) where
 
   arrived_stays : (function : ℕ) (o : Option Taken) → IfSome o (λ (t : Taken). SameStarts w.channels t.channels) → IfSome (arrived w function o) (Stays w)
   arrived_stays function None starts = tt
-  arrived_stays function (Some t) starts = ended_stays t _ starts (by_function function t.frame (receipt_at_function w function t.frame))
+  arrived_stays function (Some t) starts = ended_stays t _ starts (by_function function t.frame (receipt_at w function t.frame))
 
   arrive_stays : (b : Bool) (o : Option World) → IfSome o (Stays w) → IfSome (cond b o None) (Stays w)
   arrive_stays true o stays = stays

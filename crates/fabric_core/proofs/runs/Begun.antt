@@ -29,7 +29,7 @@ use Rattle.port.specs.declared.course.Forwarding.{Forwarding}
 use Rattle.port.specs.declared.course.Forwarding.TheVariants.{To, Stop, NoCase}
 use Rattle.port.specs.Courses.{course_of}
 use Rattle.lane.specs.Lanes.{eligible}
-use Rattle.domains.specs.Aliens.{aliened, aliened_at, aliened_by, answers, flown}
+use Rattle.domains.specs.Aliens.{aliened, aliened_at, aliened_by, answers, flown, owner_of_frame}
 use Rattle.domains.specs.Domains.{Made, after, made, made_at, made_by, made_of, place_of, place_of_function}
 use Rattle.topology.specs.Links.{sender_of}
 use Rattle.topology.specs.declared.nodes.LinkEnd.{LinkEnd}
@@ -40,8 +40,10 @@ use Rattle.interconnect.specs.Passes.{index_of, no_place}
 use Rattle.agents.specs.Agents.{AgentsView, delivered, emitted, emitted_if, is_function_of, waiting_of}
 use Rattle.fabric_core.specs.declared.event.Event.{Event}
 use Rattle.fabric_core.specs.declared.event.Event.TheVariants.{Submit, Tick, Mmio, Enter, Pass, Send, Take, Credit, Root, Arrive}
-use Rattle.fabric_core.specs.Aliens.{alien_at_function, alien_at_host, or_else, receiver_at_host}
-use Rattle.fabric_core.specs.Receipts.{Carry, Deliver, Receipt, Nobody, Relay, Taken, arrived, arrived_by, agents_by_function, agents_by_host, ended, receipt_at_function, receipt_at_host, from_host, own_by_function, own_by_host, relayed, rooted, rooted_by, taken, taken_at, to_function, to_host}
+use Rattle.fabric_core.specs.Aliens.{alien_at_function, alien_at_host, or_else}
+use Rattle.received.specs.Receivers.{receiver_at_host}
+use Rattle.fabric_core.specs.Receipts.{Taken, arrived, arrived_by, agents_by_function, agents_by_host, ended, receipt_at, from_host, own_by_function, own_by_host, relayed, rooted, rooted_by, taken, taken_at, to_function, to_host}
+use Rattle.received.specs.Receipts.{Carry, Deliver, Nobody, Receipt, Relay, receipt_at_host}
 use Rattle.fabric_core.specs.Events.{StepsTo, effect, entered_at, link_of}
 use Rattle.fabric_core.specs.Losing.{Losing, is_at_port_of, losing, losing_by, losing_to, losing_with, passed_unless, without_lost}
 use Rattle.fabric_core.specs.Passing.{Site, answer_waits, passed, passed_by, passed_number, refused_by, site_at}
@@ -215,7 +217,7 @@ host_grow : (w : World) (t : Taken) (receipt : Receipt) → Grow Nothing w.agent
 host_grow w t receipt =
     ended_grow w t (agents_by_host w.routes.ports w.agents t.frame receipt)
     (or_grow w.agents (own_by_host w.agents t.frame receipt) (alien_at_host w.routes.ports w.agents t.frame) (own_host_grow w.agents t.frame receipt)
-    (emitted_grow w.agents _ Nothing _ (aliened_grow w.agents (place_of w.agents.domains (receiver_at_host w.routes.ports w.agents.domains t.frame)) (Ingress to_host) t.frame)))
+    (emitted_grow w.agents _ Nothing _ (aliened_grow w.agents (place_of w.agents.domains (receiver_at_host w.routes.ports (owner_of_frame w.agents.domains) t.frame)) (Ingress to_host) t.frame)))
 
 own_function_grow : (agents : AgentsView) (f : ℕ) (frame : Descriptor) (receipt : Receipt) → AgentsLeaves agents (own_by_function agents f frame receipt)
 own_function_grow agents f frame Relay e is = absurd cc
@@ -249,7 +251,7 @@ root_grow w class (Some t) v is = root_by_grow w class t (receipt_at_host t.fram
 
 arrived_grow : (w : World) (f : ℕ) (o : Option Taken) → Leaves w.agents.domains Nothing (arrived w f o)
 arrived_grow w f None v is = absurd cc
-arrived_grow w f (Some t) v is = only w v (arrived_by w f t (receipt_at_function w f t.frame)) is (function_grow w f t (receipt_at_function w f t.frame))
+arrived_grow w f (Some t) v is = only w v (arrived_by w f t (receipt_at w f t.frame)) is (function_grow w f t (receipt_at w f t.frame))
 
 arrive_grow : (w : World) (f : ℕ) (o : Option Taken) (b : Bool) → Leaves w.agents.domains Nothing (cond b (arrived w f o) None)
 arrive_grow w f o true v is = arrived_grow w f o v is

@@ -28,11 +28,12 @@ use Rattle.interconnect.specs.Moves.{channel_at, on_channel, put_at, with_channe
 use Rattle.interconnect.specs.Passes.{index_of, no_place}
 use Rattle.fabric_core.specs.declared.event.Event.{Event}
 use Rattle.fabric_core.specs.declared.event.Event.TheVariants.{Arrive, Credit, Enter, Mmio, Pass, Root, Send, Submit, Take, Tick}
-use Rattle.fabric_core.specs.Receipts.{Carry, Deliver, Receipt, Nobody, Relay, Taken, arrived, arrived_by, agents_by_host, ended, receipt_at_function, receipt_at_host, from_host, own_by_function, own_by_host, relayed, rooted, rooted_by, taken, taken_at, to_function, to_host}
+use Rattle.fabric_core.specs.Receipts.{Taken, arrived, arrived_by, agents_by_host, ended, receipt_at, from_host, own_by_function, own_by_host, relayed, rooted, rooted_by, taken, taken_at, to_function, to_host}
+use Rattle.received.specs.Receipts.{Carry, Deliver, Nobody, Receipt, Relay, receipt_at_host}
 use Rattle.fabric_core.specs.Events.{effect, entered_at, link_of}
 use Rattle.fabric_core.specs.Invariant.{IsConsistent}
 use Rattle.fabric_core.specs.Losing.{pass}
-use Rattle.vetted.specs.Vetted.{may_go_on}
+use Rattle.switch_output.specs.Vetted.{may_go_on}
 use Rattle.fabric_core.specs.Passing.{Site, answer_waits, answered_at, is_full_at, output_end, passed, passed_by, passed_number, port_number, refused_by, site_at, strayed}
 use Rattle.fabric_core.specs.Places.{IsFlown}
 use Rattle.fabric_core.specs.Soundness.{IsGuardedFabric, config_of}
@@ -171,7 +172,7 @@ module _ (is_told : Violation → Bool) where
     arrive_if : (function : ℕ) (class : Class) (b : Bool) (o : Option Taken) → IfSome o (TakenNarrowly w.channels class) → Tighten w (cond b (arrived w function o) None)
     arrive_if function class false o narrowly = tt
     arrive_if function class true None narrowly = tt
-    arrive_if function class true (Some t) narrowly = arrived_tightens function class t (receipt_at_function w function t.frame) narrowly
+    arrive_if function class true (Some t) narrowly = arrived_tightens function class t (receipt_at w function t.frame) narrowly
 
   -- ---- at a port
 

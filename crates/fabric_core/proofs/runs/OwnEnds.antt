@@ -15,7 +15,8 @@ use Rattle.domains.specs.Domains.{Made, made, place_of_function}
 use Rattle.topology.specs.Links.{sender_of}
 use Rattle.topology.specs.declared.nodes.LinkEnd.{LinkEnd}
 use Rattle.interconnect.specs.Moves.{channel_at, put_at}
-use Rattle.fabric_core.specs.Receipts.{Carry, Deliver, Receipt, Nobody, Relay, Taken, arrive, arrived, arrived_by, ended, receipt_at_function, receipt_at_host, receipt_by_function, agents_by_host, from_host, own_by_function, own_by_host, relayed, root, rooted, rooted_by, taken, to_function, to_host}
+use Rattle.fabric_core.specs.Receipts.{Taken, arrive, arrived, arrived_by, ended, receipt_at, agents_by_host, from_host, own_by_function, own_by_host, relayed, root, rooted, rooted_by, taken, to_function, to_host}
+use Rattle.received.specs.Receipts.{Carry, Deliver, Nobody, Receipt, Relay, receipt_at_host, receipt_by_function}
 use Rattle.fabric_core.specs.Isolation.{home_of_taken, is_number}
 use Rattle.fabric_core.specs.Soundness.{IsGuardedFabric}
 use Rattle.fabric_core.specs.World.{World, with_channels}
@@ -115,10 +116,10 @@ module _ (d : ℕ) (is_told : Violation → Bool) (w : World) (channels : List (
             (subst (λ (o : Option AgentsView). Mirrors d is_told (ended w t (own_by_function w.agents function t.frame receipt)) (ended other too o)) (sym (home_at_function other g' function t.frame receipt))
             (ended_too (own_by_function w.agents function t.frame receipt) (own_by_function agents function t.frame receipt) (function_alike d w.agents agents numbers m.agents t.frame is function receipt)))
 
-        arrived_too : (function : ℕ) → Mirrors d is_told (arrived_by w function t (receipt_at_function w function t.frame)) (arrived_by other function too (receipt_at_function other function t.frame))
+        arrived_too : (function : ℕ) → Mirrors d is_told (arrived_by w function t (receipt_at w function t.frame)) (arrived_by other function too (receipt_at other function t.frame))
         arrived_too function =
-            subst (λ (b : Bool). Mirrors d is_told (arrived_by w function t (receipt_at_function w function t.frame)) (arrived_by other function too (cond b (receipt_by_function w.routes.ports function t.frame.head.parties t.frame.head.header) Nobody)))
-            (sym (function_of_same w.agents.domains agents.domains m.agents.domains.shares function t.frame.domain)) (arrived_with function (receipt_at_function w function t.frame))
+            subst (λ (b : Bool). Mirrors d is_told (arrived_by w function t (receipt_at w function t.frame)) (arrived_by other function too (cond b (receipt_by_function w.routes.ports function t.frame.head.parties t.frame.head.header) Nobody)))
+            (sym (function_of_same w.agents.domains agents.domains m.agents.domains.shares function t.frame.domain)) (arrived_with function (receipt_at w function t.frame))
 
   module _ (roomy : IsRoomy w) (g : IsGuardedFabric w) (g' : IsGuardedFabric other) (numbers : AreNumbered w.agents.domains) where
     root_by : (class : Class) (o p : Option Taken) → Follows (MirrorsTaken d) o p → Both (rooted w class o) (rooted other class p)
@@ -135,8 +136,8 @@ module _ (d : ℕ) (is_told : Violation → Bool) (w : World) (channels : List (
     arrive_by : (function : ℕ) (b : Bool) (o p : Option Taken) → Follows (MirrorsTaken d) o p → Both (cond b (arrived w function o) None) (cond b (arrived other function p) None)
     arrive_by function false o p so = tt
     arrive_by function true o p so =
-        follows_mapped (MirrorsTaken d) (Mirrors d is_told) (λ (t : Taken). arrived_by w function t (receipt_at_function w function t.frame)) (λ (t : Taken). arrived_by other function t (receipt_at_function other function t.frame))
-        (λ t t' both. subst (λ (x : Taken). Mirrors d is_told (arrived_by w function t (receipt_at_function w function t.frame)) (arrived_by other function x (receipt_at_function other function x.frame))) both.is
+        follows_mapped (MirrorsTaken d) (Mirrors d is_told) (λ (t : Taken). arrived_by w function t (receipt_at w function t.frame)) (λ (t : Taken). arrived_by other function t (receipt_at other function t.frame))
+        (λ t t' both. subst (λ (x : Taken). Mirrors d is_told (arrived_by w function t (receipt_at w function t.frame)) (arrived_by other function x (receipt_at other function x.frame))) both.is
         (arrived_too t both.channels both.own both.links roomy g g' numbers function)) o p so
 
     -- a function does

@@ -16,10 +16,12 @@ use Rattle.agents.specs.Agents.{AgentsView, emitted_if}
 use Rattle.interconnect.specs.declared.lost.Lost.{Lost}
 use Rattle.interconnect.specs.Lost.{lost_among}
 use Rattle.lane.specs.Lanes.{Class}
-use Rattle.domains.specs.Aliens.{aliened, aliened_at, aliened_by, flown}
+use Rattle.domains.specs.Aliens.{aliened, aliened_at, aliened_by, flown, owner_of_frame}
 use Rattle.domains.specs.Domains.{made_at, made_by, made_of, place_of, place_of_function}
-use Rattle.fabric_core.specs.Aliens.{alien_at_function, alien_at_host, or_else, receiver_at_host, to_function, to_host}
-use Rattle.fabric_core.specs.Receipts.{Receipt, Taken, agents_by_function, agents_by_host, own_by_function, own_by_host, taken_at}
+use Rattle.fabric_core.specs.Aliens.{alien_at_function, alien_at_host, or_else, to_function, to_host}
+use Rattle.received.specs.Receivers.{receiver_at_host}
+use Rattle.fabric_core.specs.Receipts.{Taken, agents_by_function, agents_by_host, own_by_function, own_by_host, taken_at}
+use Rattle.received.specs.Receipts.{Receipt}
 use Rattle.fabric_core.specs.Losing.{Losing, is_at_port_of, losing, losing_by, losing_to, losing_with, pass, passed_unless}
 use Rattle.fabric_core.specs.Passing.{turned}
 use Rattle.fabric_core.specs.Invariant.{IsConsistent}
@@ -85,7 +87,7 @@ module _ (w : World) (g : IsGuardedFabric w) where
 
   none_at_host : (frame : Descriptor) → alien_at_host w.routes.ports w.agents frame ≡ None
   none_at_host frame =
-      let receiver = receiver_at_host w.routes.ports w.agents.domains frame in
+      let receiver = receiver_at_host w.routes.ports (owner_of_frame w.agents.domains) frame in
       ap (emitted_if w.agents (Host receiver)) (none_aliened w.agents.domains of_guarded (place_of w.agents.domains receiver) (Ingress to_host) frame)
 
   none_at_function : (function : ℕ) (frame : Descriptor) → alien_at_function w.agents function frame ≡ None

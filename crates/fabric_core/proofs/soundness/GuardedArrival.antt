@@ -27,7 +27,8 @@ use Rattle.guarded_routes.proofs.Hosts.{delivers}
 use Rattle.guarded_routes.proofs.Reaching.{own_of}
 use Rattle.guarded_routes.proofs.Replies.{carried_up}
 use Rattle.guarded_routes.proofs.Taking.{accesses, home_at, meant_at, reply_at, request_at}
-use Rattle.fabric_core.specs.Receipts.{Receipt, Taken, arrive, arrived, arrived_by, ended, memory_at_function, receipt_at_function, receipt_by_function, own_by_function, taken, to_function}
+use Rattle.fabric_core.specs.Receipts.{Taken, arrive, arrived, arrived_by, ended, receipt_at, own_by_function, taken, to_function}
+use Rattle.received.specs.Receipts.{Receipt, memory_at_function, receipt_by_function}
 use Rattle.fabric_core.specs.Invariant.{IsConsistent}
 use Rattle.fabric_core.specs.Soundness.{IsGuardedFabric}
 use Rattle.fabric_core.specs.World.{World}
@@ -118,12 +119,12 @@ module _ (w : World) (g : IsGuardedFabric w) (function : ℕ) (home : FunctionHo
   arrived_as (header.OtherRequest requester) same = absurd (meant (header.OtherRequest requester) same)
   arrived_as (header.Completion target relaxed_ordering) same = delivered_here (ap is_reply same)
 
-  arrived_own : IsGuardedFabric (left_by (receipt_at_function w function t.frame))
+  arrived_own : IsGuardedFabric (left_by (receipt_at w function t.frame))
   arrived_own =
       subst (λ (b : Bool). IsGuardedFabric (left_by (cond b (receipt_by_function w.routes.ports function t.frame.head.parties t.frame.head.header) Receipt.Nobody))) (sym of_domain) (arrived_as t.frame.head.header refl)
 
-  pub guarded_arrived : IsGuardedFabric (arrived_by w function t (receipt_at_function w function t.frame))
-  guarded_arrived = subst (λ (o : Option AgentsView). IsGuardedFabric (ended w t o)) (sym (home_at_function w g function t.frame (receipt_at_function w function t.frame))) arrived_own
+  pub guarded_arrived : IsGuardedFabric (arrived_by w function t (receipt_at w function t.frame))
+  guarded_arrived = subst (λ (o : Option AgentsView). IsGuardedFabric (ended w t o)) (sym (home_at_function w g function t.frame (receipt_at w function t.frame))) arrived_own
 
 arrived_if : (w w' : World) (g : IsGuardedFabric w) (function : ℕ) (o : Option Taken) → FunctionHome w g function → ((t : Taken) → o ≡ Some t → SoundlyTaken w g (to_function function) t) → arrived w function o ≡ Some w' → IsGuardedFabric w'
 arrived_if w w' g function None home out is = absurd cc

@@ -19,7 +19,7 @@ use Rattle.domain.specs.declared.entry.Entry.TheVariants.{Refuse}
 use Rattle.port.specs.Configs.{Config, downstream_config, upstream_config}
 use Rattle.port.specs.Courses.{course_of}
 use Rattle.lane.specs.Lanes.{Class}
-use Rattle.vetted.specs.Vetted.{is_own, may_go_on, requester_owner}
+use Rattle.switch_output.specs.Vetted.{is_own, may_go_on, requester_owner}
 use Rattle.port.specs.declared.course.Forwarding.{Forwarding}
 use Rattle.port.specs.declared.course.Forwarding.TheVariants.{To, Stop, NoCase}
 use Rattle.domains.specs.Domains.{Made, made}

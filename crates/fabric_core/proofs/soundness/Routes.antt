@@ -21,10 +21,11 @@ use Rattle.interconnect.specs.Moves.{channel_at, on_channel}
 use Rattle.interconnect.specs.Passes.{index_of, no_place}
 use Rattle.fabric_core.specs.declared.event.Event.{Event}
 use Rattle.fabric_core.specs.declared.event.Event.TheVariants.{Arrive, Credit, Enter, Mmio, Pass, Root, Send, Submit, Take, Tick}
-use Rattle.fabric_core.specs.Receipts.{Carry, Deliver, Receipt, Nobody, Relay, Taken, arrived, arrived_by, agents_by_function, agents_by_host, ended, receipt_at_function, receipt_at_host, from_host, relayed, rooted, rooted_by, taken, taken_at, to_function, to_host}
+use Rattle.fabric_core.specs.Receipts.{Taken, arrived, arrived_by, agents_by_function, agents_by_host, ended, receipt_at, from_host, relayed, rooted, rooted_by, taken, taken_at, to_function, to_host}
+use Rattle.received.specs.Receipts.{Carry, Deliver, Nobody, Receipt, Relay, receipt_at_host}
 use Rattle.fabric_core.specs.Events.{effect, entered_at, link_of}
 use Rattle.fabric_core.specs.Losing.{Losing, losing, passed_unless}
-use Rattle.vetted.specs.Vetted.{may_go_on}
+use Rattle.switch_output.specs.Vetted.{may_go_on}
 use Rattle.fabric_core.specs.Passing.{Site, answer_waits, is_full_at, passed, passed_by, passed_number, refused_by, site_at}
 use Rattle.fabric_core.specs.World.{World, with_channels, with_agents}
 
@@ -70,7 +71,7 @@ rooted_keeps w class (Some t) = at_host w class t (receipt_at_host t.frame)
 
 arrived_keeps : (w : World) (function : ℕ) (b : Bool) (o : Option Taken) → Keeps w (cond b (arrived w function o) None)
 arrived_keeps w function true o =
-    mapped w (λ (t : Taken). arrived_by w function t (receipt_at_function w function t.frame)) o (λ t. left w t (agents_by_function w.agents function t.frame (receipt_at_function w function t.frame)))
+    mapped w (λ (t : Taken). arrived_by w function t (receipt_at w function t.frame)) o (λ t. left w t (agents_by_function w.agents function t.frame (receipt_at w function t.frame)))
 arrived_keeps w function false o = tt
 
 -- ---- at a port

@@ -3,7 +3,8 @@ use Rattle.std.proofs.Common.{◌≡◌, false, sym, ap, ◌∙◌, subst}
 use Rattle.bridge.specs.Bridges.{Routes}
 use Rattle.fab_types.specs.declared.head.Head.{Head}
 use Rattle.topology.specs.Links.{sender_of}
-use Rattle.fabric_core.specs.Receipts.{agents_by_host, receipt_at_host, is_relayed}
+use Rattle.fabric_core.specs.Receipts.{agents_by_host}
+use Rattle.received.specs.Receipts.{is_relayed, receipt_at_host}
 use Rattle.fabric_core.specs.Settling.{EntryWants, Takes, entry_by_host}
 use Rattle.fabric_core.proofs.effect.Settled.{Took, ends_step, looked_head, root_ends, root_wants, settled, took_after}
 use Rattle.fabric_core.proofs.effect.Taking.{stray_by_host}

@@ -1,4 +1,4 @@
-use Rattle.vetted.specs.Vetted.{frame_in}
+use Rattle.switch_output.specs.Vetted.{frame_in}
 use Rattle.port.proofs.OneLane.{put_at, kept_at, refused_kept}
 use Rattle.port.proofs.slots.refuse_at.Goals as goal
 

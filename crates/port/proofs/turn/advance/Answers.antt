@@ -1,5 +1,5 @@
 use Rattle.std.proofs.Common.{refl, sym, ap, ◌∙◌, inr}
-use Rattle.vetted.specs.Vetted.{frame_in}
+use Rattle.switch_output.specs.Vetted.{frame_in}
 use Rattle.port.proofs.Stopping.{none_held}
 use Rattle.port.proofs.turn.advance.Goals as goal
 
