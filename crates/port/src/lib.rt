@@ -4,10 +4,8 @@
 
 mod config;
 mod course;
-mod desk;
 mod loss;
 mod port;
-mod reporter;
 mod reports;
 mod slots;
 mod steps;
@@ -15,9 +13,7 @@ mod turn;
 
 pub use config::Exit;
 pub use course::Forwarding;
-pub use desk::Desk;
 pub use loss::Loss;
 pub use port::Port;
-pub use reporter::Reporter;
 pub use reports::Reports;
 pub use turn::TurnParts;
