@@ -14,24 +14,21 @@ use Rattle.fab_types.specs.declared.host_access.Operation.TheVariants.{Read, Wri
 use Rattle.fab_types.specs.declared.origin.Origin.{Origin}
 use Rattle.fab_types.specs.declared.place.Place.{Place}
 use Rattle.fab_types.specs.declared.place.Place.TheVariants.{Outbox, Egress, Wire, Ingress}
-use Rattle.text.specs.Text.{at_blank, hexadecimal}
+use Rattle.text.specs.Text.{hexadecimal}
+use Rattle.text.specs.Words.{IsWord}
+use Rattle.text.proofs.Ids.{id_read, id_word}
+use Rattle.text.proofs.WordLemmas.{first}
 use Rattle.script.specs.Commands.{access_of, operation_text, submission_of}
 use Rattle.script.specs.PacketWord.{packet_bytes}
+use Rattle.script.proofs.BytesRead.{bytes_read}
 use Rattle.domain.specs.declared.entry.Entry.{Entry}
 use Rattle.domain.specs.declared.entry.Entry.TheVariants as entry
 use Rattle.journal_text.specs.Fields.{access_by, addressee_of, alien_of, answer_of, entry_of, entry_of_word, parties_of, place_of}
 use Rattle.journal_text.specs.Legible.{AreParties, IsAccess, IsAddressee, IsAnswerer, IsDomain, IsId, IsLegible, IsOperation, IsPlace}
 use Rattle.journal_text.specs.Words.{access_text, addressee_text, answerer_text, bytes_text, entry_text, offset_text, origin_text, parties_text, place_text, way_text}
-use Rattle.journal_text.proofs.BytesRead.{bytes_read}
-use Rattle.journal_text.proofs.FieldWords.{addressee_word, answerer_word, decimal_word, id_word, offset_word, origin_word, way_word}
+use Rattle.journal_text.proofs.FieldWords.{addressee_word, answerer_word, decimal_word, offset_word, origin_word, way_word}
 use Rattle.journal_text.proofs.FieldsRead.{addressee_read, answerer_read, count_read, direction_read, domain_read, offset_read, origin_read}
-use Rattle.journal_text.proofs.Ids.{id_read}
 use Rattle.journal_text.proofs.NumbersRead.{number_read}
-use Rattle.journal_text.proofs.WordLemmas.{IsWord, word_cut}
-
--- a text is cut behind its first word
-first : {A : Type 0} (w rest : List ℕ) → IsWord w → (f : List ℕ × List ℕ → Option A) → option_and_then f (at_blank (w ++ (32 ∷ rest))) ≡ f (w, rest)
-first w rest word f = ap (option_and_then f) (word_cut w rest word)
 
 -- ---- begins
 

@@ -2,26 +2,19 @@
 use Rattle.std.proofs.Common.{◌≡◌, ℕ, ◌+◌, ◌/◌, ◌%◌, ◌<◌, ◌≤◌, ◌^◌, true, false, refl, subst, sym, ap, ◌∙◌, List, [], ◌∷◌, ◌++◌, Option, Some, None, arith}
 use Rattle.std.specs.Fmt.{decimal, digit_glyph}
 use Rattle.std.proofs.lemmas.Bool.{and_from}
-use Rattle.std.proofs.lemmas.Bool.Decides.{nat_tests}
 use Rattle.std.proofs.lemmas.Fmt.{decimal_by_steps, hex_byte, hex_one_digit}
-use Rattle.fab_types.specs.Id.{bus_of, device_of, function_of}
-use Rattle.fab_types.specs.Texts.{byte_text, id_text}
+use Rattle.fab_types.specs.Texts.{byte_text}
 use Rattle.fab_types.specs.declared.head.Answerer.{Answerer}
 use Rattle.fab_types.specs.declared.head.Answerer.TheVariants as by
 use Rattle.fab_types.specs.declared.origin.Origin.{Origin}
 use Rattle.fab_types.specs.declared.origin.Origin.TheVariants as origin
 use Rattle.fab_types.specs.declared.place.Way.{Way}
 use Rattle.fab_types.specs.declared.place.Way.TheVariants.{Up, Down}
-use Rattle.journal_text.specs.Legible.{IsAddressee, IsAnswerer, IsId, IsOrigin}
+use Rattle.text.specs.Words.{IsWord, is_inner}
+use Rattle.text.proofs.Ids.{digit_inner, glyph_inner, id_word}
+use Rattle.text.proofs.WordLemmas.{words_joined}
+use Rattle.journal_text.specs.Legible.{IsAddressee, IsAnswerer, IsOrigin}
 use Rattle.journal_text.specs.Words.{addressee_text, answerer_text, offset_text, origin_text, way_text}
-use Rattle.journal_text.proofs.Ids.{spelled}
-use Rattle.journal_text.proofs.WordLemmas.{IsWord, is_inner, words_joined}
-
-glyph_inner : (d : ℕ) → d < 16 → is_inner (digit_glyph false d) ≡ true
-glyph_inner d small = grind (arith, nat_tests)
-
-digit_inner : (d : ℕ) → d < 10 → is_inner (48 + d) ≡ true
-digit_inner d small = grind (arith, nat_tests)
 
 one_word : (c : ℕ) → is_inner c ≡ true → IsWord (c ∷ [])
 one_word c inner = and_from (is_inner c) true inner refl
@@ -35,13 +28,6 @@ decimal_more n ds big front = words_joined ds ((48 + n % 10) ∷ []) front (one_
 pub decimal_word : (n : ℕ) → n < 2 ^ 64 → IsWord (decimal n)
 decimal_word n small = decimal_by_steps (λ n ds. IsWord ds) decimal_one decimal_more n small
 
-pub id_word : (id : ℕ) → IsId id → IsWord (id_text id)
-id_word id small =
-    subst IsWord (sym (spelled id small))
-    (and_from _ _ (glyph_inner (bus_of id / 16) (omega (arith, small))) (and_from _ _ (glyph_inner (bus_of id % 16) (omega arith))
-    (and_from _ _ (glyph_inner (device_of id / 16) (omega arith)) (and_from _ _ (glyph_inner (device_of id % 16) (omega arith))
-    (and_from _ _ (digit_inner (function_of id) (omega arith)) refl)))))
-
 pub offset_spelled : (n : ℕ) → n < 4096 → offset_text n ≡ digit_glyph false (n / 256) ∷ digit_glyph false (n % 256 / 16) ∷ digit_glyph false (n % 256 % 16) ∷ []
 offset_spelled n small =
     ap (λ (high : List ℕ). high ++ byte_text (n % 256)) (hex_one_digit false (n / 256) (omega (arith, small)))
@@ -50,7 +36,7 @@ offset_spelled n small =
 pub offset_word : (n : ℕ) → n < 4096 → IsWord (offset_text n)
 offset_word n small =
     subst IsWord (sym (offset_spelled n small))
-    (and_from _ _ (glyph_inner (n / 256) (omega (arith, small))) (and_from _ _ (glyph_inner (n % 256 / 16) (omega arith)) (and_from _ _ (glyph_inner (n % 256 % 16) (omega arith)) refl)))
+    (and_from _ _ (glyph_inner (n / 256)) (and_from _ _ (glyph_inner (n % 256 / 16)) (and_from _ _ (glyph_inner (n % 256 % 16)) refl)))
 
 pub origin_word : (o : Origin) → IsOrigin o → IsWord (origin_text o)
 origin_word (origin.Function function) small = id_word function small

@@ -15,12 +15,12 @@ use Rattle.fab_types.specs.declared.place.Direction.{Direction}
 use Rattle.fab_types.specs.declared.place.Way.{Way}
 use Rattle.fab_types.specs.declared.place.Way.TheVariants.{Up, Down}
 use Rattle.text.specs.Text as text
+use Rattle.text.proofs.Ids.{glyph_read, id_read, spelled}
 use Rattle.script.specs.Commands.{domain_text}
 use Rattle.journal_text.specs.Fields.{addressee_of, answerer_of, direction_of, origin_of, way_of}
 use Rattle.journal_text.specs.Legible.{IsAddressee, IsAnswerer, IsDomain, IsId, IsOrigin}
 use Rattle.journal_text.specs.Words.{addressee_text, answerer_text, offset_text, origin_text, way_text}
 use Rattle.journal_text.proofs.FieldWords.{offset_spelled}
-use Rattle.journal_text.proofs.Ids.{glyph_read, id_read, spelled}
 use Rattle.journal_text.proofs.NumbersRead.{digits_spelled}
 
 -- ---- numbers

@@ -6,13 +6,13 @@ use Rattle.std.specs.List.{flat_map, list_all, onto_first, slice_split}
 use Rattle.std.proofs.lemmas.Bool.{and_from, and_parts, cond-false, not-true}
 use Rattle.std.proofs.lemmas.List.{append-nil}
 use Rattle.text.specs.Text.{is_byte}
+use Rattle.text.specs.Words.{IsWord, is_inner}
 use Rattle.request_handling.specs.Emissions.{Emission}
 use Rattle.journal_text.specs.Journals.{numbers_from}
 use Rattle.journal_text.specs.Notes.{in_flight_text, number_word}
 use Rattle.journal_text.specs.Reading.{are_numbers, is_in_flight, is_number}
 use Rattle.journal_text.proofs.FieldWords.{decimal_word}
 use Rattle.journal_text.proofs.NumbersRead.{number_read}
-use Rattle.journal_text.proofs.WordLemmas.{IsWord, is_inner}
 
 -- ---- a text split at blanks
 

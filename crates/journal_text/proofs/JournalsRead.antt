@@ -6,6 +6,7 @@ use Rattle.std.specs.Option.{option_map_or}
 use Rattle.std.proofs.lemmas.Bool.{cond-false, cond-true, le-ltb}
 use Rattle.platform.specs.Share.{Share}
 use Rattle.text.specs.Text.{is_comment, is_last, pieces}
+use Rattle.text.proofs.LineLemmas.{IsLine, pieces_line}
 use Rattle.text.proofs.Pieces.{some-piece}
 use Rattle.line_reader.specs.Reading as lines
 use Rattle.line_reader.specs.Reading.{adds, and_on, before, read_from}
@@ -24,7 +25,6 @@ use Rattle.journal_text.specs.Words.{entry_text}
 use Rattle.journal_text.specs.declared.read.JournalLine.{JournalLine}
 use Rattle.journal_text.proofs.EntriesRead.{entry_read}
 use Rattle.journal_text.proofs.FlightRead.{AreWide, in_flight_is, wide_from}
-use Rattle.journal_text.proofs.LineLemmas.{IsLine, pieces_line}
 use Rattle.journal_text.proofs.Lines.{entry_is_line, in_flight_is_line, note_is_line}
 
 -- what a line adds in the journal of a domain

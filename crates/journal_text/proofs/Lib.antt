@@ -1,12 +1,8 @@
-pub mod Ids
 pub mod NumbersRead
-pub mod WordLemmas
-pub mod BytesRead
 pub mod FieldWords
 pub mod FieldsRead
 pub mod EntriesRead
 pub mod Writing
-pub mod LineLemmas
 pub mod Lines
 pub mod FlightRead
 pub mod JournalsRead

@@ -25,16 +25,17 @@ use Rattle.tlp_view.specs.Malformed as tlp
 use Rattle.tlp_view.specs.Packet.{Packet, address_in, status_in}
 use Rattle.tlp_view.specs.declared.kind.Kind.{Kind}
 use Rattle.tlp_view.specs.declared.kind.Kind.TheVariants.{MRd, MRdLk, MWr, IORd, IOWr, CfgRd0, CfgWr0, CfgRd1, CfgWr1, Msg, MsgD, Cpl, CplD, CplLk, CplDLk, FetchAdd, Swap, CAS}
+use Rattle.text.proofs.Ids.{id_word}
+use Rattle.text.proofs.LineLemmas.{IsLine, is_inline, line_of, line_of_word, lines_joined}
 use Rattle.script.specs.PacketWord.{is_lower_digit}
+use Rattle.script.proofs.BytesRead.{digits_lower}
 use Rattle.reports.specs.Report.{status_name}
 use Rattle.domain.specs.declared.entry.Entry.{Entry}
 use Rattle.domain.specs.declared.entry.Entry.TheVariants as entry
 use Rattle.journal_text.specs.Legible.{AreParties, IsDomain, IsId, IsLegible, IsOperation, IsPlace}
 use Rattle.journal_text.specs.Notes.{bytes_are, end_text, in_flight_text, kind_name, note_head, note_text, number_word, packet_head}
 use Rattle.journal_text.specs.Words.{access_text, addressee_text, answerer_text, bytes_text, entry_text, offset_text, origin_text, parties_text, place_text, way_text}
-use Rattle.journal_text.proofs.BytesRead.{digits_lower}
-use Rattle.journal_text.proofs.FieldWords.{addressee_word, answerer_word, decimal_word, id_word, offset_word, origin_word, way_word}
-use Rattle.journal_text.proofs.LineLemmas.{IsLine, is_inline, line_of, line_of_word, lines_joined}
+use Rattle.journal_text.proofs.FieldWords.{addressee_word, answerer_word, decimal_word, offset_word, origin_word, way_word}
 
 -- ---- entries
 

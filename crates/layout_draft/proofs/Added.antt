@@ -7,6 +7,7 @@ use Rattle.std.proofs.lemmas.Bool.Decides.{nat_tests}
 use Rattle.fab_types.specs.declared.faults.layout.LayoutCause.{LayoutCause}
 use Rattle.fab_types.specs.declared.faults.layout.LayoutFault.{LayoutFault}
 use Rattle.text.specs.Text.{is_comment}
+use Rattle.text.proofs.LineLemmas.{IsLine, is_inline}
 use Rattle.layout.specs.Additions.{add}
 use Rattle.layout.specs.Reading.{and_on, fault_at, next_number, read_from, reading, unless_faulty, with_form, with_layout_line, with_line}
 use Rattle.layout.specs.Rules.{fault_of}
@@ -15,7 +16,6 @@ use Rattle.layout_line.specs.declared.lines.LayoutLine.TheVariants.{Frames, Root
 use Rattle.layout_line.specs.LayoutLines.{layout_line_of}
 use Rattle.line_texts.specs.LayoutLineTexts.{layout_line_text}
 use Rattle.line_texts.specs.Ranges.{IsInRange}
-use Rattle.line_texts.proofs.Lines.{IsLine, is_inline}
 use Rattle.line_texts.proofs.LinesRead.{layout_line_read}
 use Rattle.line_texts.proofs.WrittenLines.{layout_line_is_line, no_comment}
 use Rattle.platform.specs.Platform.{Platform}

@@ -5,9 +5,9 @@ use Rattle.fab_types.specs.declared.faults.layout.LayoutCause.{LayoutCause}
 use Rattle.fab_types.specs.declared.faults.layout.LayoutCause.TheVariants as cause
 use Rattle.fab_types.specs.declared.faults.layout.LayoutFault.{LayoutFault}
 use Rattle.text.specs.Text.{before_line, is_last, pieces}
+use Rattle.text.proofs.LineLemmas.{IsLine, pieces_line}
 use Rattle.text.proofs.Pieces.{some-piece}
 use Rattle.layout.specs.Reading.{and_on, ended, fault_at, next_number, read_after, read_from, read_pieces, reading, version_of, with_line}
-use Rattle.line_texts.proofs.Lines.{IsLine, pieces_line}
 use Rattle.platform.specs.declared.parts.LayoutVersion.{LayoutVersion}
 use Rattle.platform.specs.Platform.{Platform, no_lines}
 use Rattle.platform.specs.Tree.{has_root}

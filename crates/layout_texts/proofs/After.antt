@@ -6,6 +6,7 @@ use Rattle.std.proofs.lemmas.Bool.{cond-false}
 use Rattle.std.proofs.lemmas.List.{append-nil}
 use Rattle.fab_types.specs.declared.faults.layout.LayoutCause.{LayoutCause}
 use Rattle.text.specs.Text.{is_comment, is_last, pieces}
+use Rattle.text.proofs.LineLemmas.{IsLine, pieces_line}
 use Rattle.text.proofs.Pieces.{some-piece}
 use Rattle.layout_line.specs.declared.lines.LayoutLine.{LayoutLine}
 use Rattle.layout_line.specs.LayoutLines.{layout_line_of}
@@ -18,7 +19,6 @@ use Rattle.layout.specs.Reading.{and_on, ended, next_number, read_after, read_fr
 use Rattle.layout.specs.Rules.{fault_of}
 use Rattle.line_texts.specs.LayoutLineTexts.{layout_line_text}
 use Rattle.line_texts.specs.Ranges.{IsInRange}
-use Rattle.line_texts.proofs.Lines.{IsLine, pieces_line}
 use Rattle.line_texts.proofs.LinesRead.{layout_line_read}
 use Rattle.line_texts.proofs.WrittenLines.{layout_line_is_line, no_comment}
 use Rattle.layout_texts.specs.PlatformLines.{lines_of}

@@ -8,16 +8,12 @@ use Rattle.std.proofs.lemmas.Bool.Decides.{nat_tests}
 use Rattle.std.proofs.lemmas.Fmt.{decimal_nonempty, length-decimal-le}
 use Rattle.std.proofs.Math.Nat.{pow-suc, pow-zero}
 use Rattle.text.specs.Text.{decimal, decimal_digit, digits, hex_digit, hexadecimal}
-use Rattle.line_texts.specs.Words.{IsWord, hex_before, hex_text, is_inner}
-
-pub glyph_read : (d : ℕ) → d < 16 → hex_digit (fmt.digit_glyph false d) ≡ Some d
-glyph_read d small = grind (arith, nat_tests)
+use Rattle.text.specs.Words.{IsWord, is_inner}
+use Rattle.text.proofs.Ids.{glyph_inner, glyph_read}
+use Rattle.line_texts.specs.Words.{hex_before, hex_text}
 
 decimal_glyph_read : (d : ℕ) → d < 10 → decimal_digit (fmt.digit_glyph false d) ≡ Some d
 decimal_glyph_read d small = grind (arith, nat_tests)
-
-pub glyph_inner : (d : ℕ) → is_inner (fmt.digit_glyph false d) ≡ true
-glyph_inner d = grind (arith, nat_tests)
 
 -- ---- read
 

@@ -1,6 +1,4 @@
-pub mod WordLemmas
 pub mod Digits
-pub mod Ids
 pub mod LinesRead
 pub mod Lines
 pub mod WrittenLines

@@ -1,12 +1,16 @@
 -- Each line of a layout is read back from its text.
-use Rattle.std.proofs.Common.{◌≡◌, ℕ, ◌<◌, ◌^◌, ◌||◌, Bool, true, false, refl, ap, ◌∙◌, List, [], ◌∷◌, ◌++◌, Some, arith}
+use Rattle.std.proofs.Common.{◌≡◌, ℕ, ◌/◌, ◌%◌, ◌<◌, ◌^◌, ◌==◌, ◌&&◌, ◌||◌, Bool, true, false, refl, ap, ◌∙◌, List, [], ◌∷◌, ◌++◌, Some, arith}
 use Rattle.std.specs.Prelude.{codes, option_and_then, option_map}
-use Rattle.std.specs.Fmt.{decimal, digits}
+use Rattle.std.specs.Fmt.{decimal, digit_glyph, digits}
 use Rattle.std.specs.Str.{bytes_eq}
 use Rattle.std.proofs.lemmas.Bool.{cond-false}
 use Rattle.std.proofs.lemmas.List.{append-nil}
+use Rattle.fab_types.specs.Id.{bus_of}
 use Rattle.fab_types.specs.Texts.{id_text}
 use Rattle.text.specs.Text as text
+use Rattle.text.specs.Words.{IsWord}
+use Rattle.text.proofs.Ids.{id_read, id_word, spelled}
+use Rattle.text.proofs.WordLemmas.{first}
 use Rattle.layout_line.specs.declared.lines.BudgetText.{BudgetText}
 use Rattle.layout_line.specs.declared.lines.CreditText.{CreditText}
 use Rattle.layout_line.specs.declared.lines.EgressText.{EgressText}
@@ -21,11 +25,22 @@ use Rattle.layout_line.specs.declared.lines.LayoutLine.TheVariants.{Frames, Root
 use Rattle.layout_line.specs.LayoutLines.{budget_text, credit_fields, credit_text, egress_text, frames_text, function_text, layout_line_of, layout_line_of_word, map_fields, map_text, port_fields, port_text, rights_text, switch_below, switch_text, target_text}
 use Rattle.line_texts.specs.LayoutLineTexts.{layout_line_text, rights_name, target_kind, target_name}
 use Rattle.line_texts.specs.Ranges.{IsCount, IsCreditLine, IsId, IsInRange, IsMapLine, IsPortLine, IsTarget}
-use Rattle.line_texts.specs.Words.{IsWord, hex_text, more_words}
+use Rattle.line_texts.specs.Words.{hex_text, more_words}
 use Rattle.line_texts.proofs.Digits.{count_read, digits_word, hex_read, hex_word, page_read}
-use Rattle.line_texts.proofs.Ids.{id_read, id_word, no_root}
-use Rattle.line_texts.proofs.WordLemmas.{first}
 use Rattle.line_texts.proofs.WrittenLines.{kind_word, name_word}
+
+-- ---- an ID is no other word
+
+-- its third character is a colon, so it is no word that has another there
+and_none : (x : Bool) → (x && false) ≡ false
+and_none true = refl
+and_none false = refl
+
+no_root : (id : ℕ) → id < 2 ^ 16 → bytes_eq (id_text id) (codes "root") ≡ false
+no_root id small =
+    ap (λ (t : List ℕ). bytes_eq t (codes "root")) (spelled id small)
+    ∙ ap (λ (x : Bool). (digit_glyph false (bus_of id / 16) == 114) && x) (and_none (digit_glyph false (bus_of id % 16) == 111))
+    ∙ and_none (digit_glyph false (bus_of id / 16) == 114)
 
 -- ---- two fields
 

@@ -1,16 +1,18 @@
 -- The text of a layout's line has no line feed, and is no comment.
 use Rattle.std.proofs.Common.{◌≡◌, Bool, true, false, refl}
 use Rattle.text.specs.Text.{is_comment}
+use Rattle.text.specs.Words.{IsWord}
+use Rattle.text.proofs.Ids.{id_word}
+use Rattle.text.proofs.LineLemmas.{IsLine, lines_joined}
 use Rattle.layout_line.specs.declared.lines.TargetText.{TargetText}
 use Rattle.layout_line.specs.declared.lines.TargetText.TheVariants as target
 use Rattle.layout_line.specs.declared.lines.LayoutLine.{LayoutLine}
 use Rattle.layout_line.specs.declared.lines.LayoutLine.TheVariants.{Frames, Root, Switch, Port, Function, Map, Budget, Credit, Egress}
 use Rattle.line_texts.specs.LayoutLineTexts.{fields_of, first_word, layout_line_text, rights_name, target_kind, target_name}
 use Rattle.line_texts.specs.Ranges.{IsInRange, IsTarget}
-use Rattle.line_texts.specs.Words.{IsWord, more_words}
+use Rattle.line_texts.specs.Words.{more_words}
 use Rattle.line_texts.proofs.Digits.{digits_word, hex_word}
-use Rattle.line_texts.proofs.Ids.{id_word}
-use Rattle.line_texts.proofs.Lines.{AreWords, IsLine, lines_joined, words_are_line}
+use Rattle.line_texts.proofs.Lines.{AreWords, words_are_line}
 
 pub kind_word : (t : TargetText) → IsWord (target_kind t)
 kind_word (target.Frame frame) = refl

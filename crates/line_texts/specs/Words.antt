@@ -1,14 +1,6 @@
 -- Words, and the numbers among them, as they are written.
-use Rattle.std.specs.Prelude.{◌≡◌, ℕ, zero, suc, ◌/◌, ◌%◌, ◌==◌, Bool, true, false, ◌&&◌, not, List, [], ◌∷◌, ◌++◌}
+use Rattle.std.specs.Prelude.{ℕ, zero, suc, ◌/◌, ◌%◌, false, List, [], ◌∷◌, ◌++◌}
 use Rattle.std.specs.Fmt.{digit_glyph}
-use Rattle.std.specs.List.{list_all}
-
--- no blank, and no line feed
-abbrev pub is_inner : ℕ → Bool
-is_inner b = not (b == 32) && not (b == 10)
-
-abbrev pub IsWord : List ℕ → Type 0
-IsWord word = list_all is_inner word ≡ true
 
 -- words behind another, each behind one blank
 abbrev pub more_words : List (List ℕ) → List ℕ

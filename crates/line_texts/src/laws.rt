@@ -2,11 +2,12 @@
 
 ghost use Rattle.std.specs.Prelude.{◌≡◌, ◌++◌, ◌∷◌, List, ℕ, Some};
 ghost use Rattle.text.specs.Text.{at_blank};
+ghost use Rattle.text.specs.Words.{IsWord};
 ghost use Rattle.layout_line.specs.LayoutLines.{layout_line_of};
 ghost use Rattle.layout_line.specs.declared.lines.LayoutLine.{LayoutLine};
 ghost use Rattle.line_texts.specs.LayoutLineTexts.{layout_line_text};
 ghost use Rattle.line_texts.specs.Ranges.{IsInRange};
-ghost use Rattle.line_texts.specs.Words.{IsWord, more_words};
+ghost use Rattle.line_texts.specs.Words.{more_words};
 
 /// A law: a text that begins with a word is cut behind that word.
 pub fn words_are_read_back()

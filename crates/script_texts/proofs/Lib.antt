@@ -1,4 +1,3 @@
-pub mod BytesRead
 pub mod CommandsRead
 pub mod ScriptsRead
 pub mod CommandsInRange

@@ -4,13 +4,13 @@ use Rattle.std.specs.Prelude.{nat_lt, option_map}
 use Rattle.std.specs.List.{All}
 use Rattle.std.proofs.lemmas.Bool.{cond-false, le-ltb}
 use Rattle.text.specs.Text.{is_comment, is_last, pieces}
+use Rattle.text.proofs.LineLemmas.{pieces_line}
 use Rattle.text.proofs.Pieces.{some-piece}
 use Rattle.line_reader.specs.Reading as lines
 use Rattle.line_reader.specs.Reading.{adds, and_on, before, read_from}
 use Rattle.script.specs.Reading.{reading, said}
 use Rattle.script.specs.declared.lines.Command.{Command}
 use Rattle.script.specs.declared.lines.Line.{Line}
-use Rattle.line_texts.proofs.Lines.{pieces_line}
 use Rattle.script_texts.specs.CommandTexts.{command_text}
 use Rattle.script_texts.specs.Ranges.{IsInRange}
 use Rattle.script_texts.specs.ScriptTexts.{numbered, script_text}

@@ -1,2 +1,5 @@
 pub mod TextLemmas
 pub mod Pieces
+pub mod WordLemmas
+pub mod LineLemmas
+pub mod Ids

@@ -3,7 +3,7 @@ use Rattle.std.proofs.Common.{◌≡◌, ℕ, ◌==◌, Bool, true, not, refl, a
 use Rattle.std.specs.List.{list_all}
 use Rattle.std.proofs.lemmas.Bool.{and_from, and_parts, cond-false, not-true}
 use Rattle.text.specs.Text.{before_line, pieces}
-use Rattle.journal_text.proofs.WordLemmas.{IsWord, is_inner}
+use Rattle.text.specs.Words.{IsWord, is_inner}
 
 -- no line feed
 abbrev pub is_inline : ℕ → Bool

@@ -1,6 +1,6 @@
--- Bytes are read back from their digits.
+-- Bytes are read back from their word: their digits, or `-` for none.
 use Rattle.std.proofs.Common.{◌≡◌, ℕ, suc, ◌/◌, ◌%◌, ◌<◌, ◌==◌, Bool, true, false, cond, refl, ap, sym, ◌∙◌, List, [], ◌∷◌, length, get_or, Some, None, Ok, ◌&&◌, arith}
-use Rattle.std.specs.Prelude.{codes, slice_index}
+use Rattle.std.specs.Prelude.{codes, slice_index, if◌then◌else◌}
 use Rattle.std.specs.List.{list_all}
 use Rattle.std.specs.Result.{result_ok}
 use Rattle.std.specs.Str.{bytes_eq}
@@ -10,7 +10,6 @@ use Rattle.std.proofs.lemmas.List.Folds.{list_all_at}
 use Rattle.hex.specs.Hex.{IsBytes, decode_of, encode_lower, encode_with, lower_digits}
 use Rattle.hex.proofs.HexLemmas.{decode_of-encode_lower, length-encode_with}
 use Rattle.script.specs.PacketWord.{is_hexadecimal, is_lower_digit, packet_bytes}
-use Rattle.script_texts.specs.CommandTexts.{bytes_name}
 
 each : (p : ℕ → Bool) (xs : List ℕ) (i : ℕ) → list_all p xs ≡ true → i < length xs → p (get_or xs i 0) ≡ true
 each p xs i all below = go (p (get_or xs i 0)) (λ none. list_all_at p xs i 0 below none)
@@ -62,7 +61,7 @@ none_read : packet_bytes (codes "-") ≡ Some []
 unfolding packet_bytes
 none_read = refl
 
-pub bytes_read : (bytes : List ℕ) → IsBytes bytes → packet_bytes (bytes_name bytes) ≡ Some bytes
+pub bytes_read : (bytes : List ℕ) → IsBytes bytes → packet_bytes (if length bytes == 0 then codes "-" else encode_lower bytes) ≡ Some bytes
 bytes_read [] are = none_read
 bytes_read (b ∷ bytes) are =
     let more : (length (b ∷ bytes) == 0) ≡ false = grind (arith, nat_tests) in

@@ -1,18 +1,11 @@
--- A word, which has no blank and no line feed, is what stands before the first blank of a text that begins with
--- it.
-use Rattle.std.proofs.Common.{◌≡◌, ℕ, ◌+◌, ◌<◌, ◌==◌, Bool, true, not, ◌&&◌, refl, ap, ◌∙◌, List, [], ◌∷◌, ◌++◌, length, take, drop, Some, None, nat_lt, arith, length-append}
-use Rattle.std.specs.Prelude.{option_map}
+-- A word is what stands before the first blank of a text that begins with it and a blank.
+use Rattle.std.proofs.Common.{◌≡◌, ℕ, ◌+◌, ◌<◌, ◌==◌, not, refl, ap, ◌∙◌, List, [], ◌∷◌, ◌++◌, length, take, drop, Option, Some, None, nat_lt, arith, length-append}
+use Rattle.std.specs.Prelude.{option_and_then, option_map}
 use Rattle.std.specs.List.{list_all, position_or_len}
 use Rattle.std.proofs.lemmas.Bool.{and_from, and_parts, cond-true, lt-ltb}
 use Rattle.std.proofs.Math.Seq.{drop-append-add, take-append_seam}
 use Rattle.text.specs.Text.{at_blank, cut, cut_at, is_byte}
-
--- no blank, and no line feed
-abbrev pub is_inner : ℕ → Bool
-is_inner b = not (b == 32) && not (b == 10)
-
-abbrev pub IsWord : List ℕ → Type 0
-IsWord w = list_all is_inner w ≡ true
+use Rattle.text.specs.Words.{IsWord, is_inner}
 
 place : (w rest : List ℕ) → IsWord w → position_or_len (is_byte 32) (w ++ (32 ∷ rest)) ≡ length w
 place [] rest h = refl
@@ -33,6 +26,10 @@ word_cut w rest h =
     at_place (length w) (w ++ (32 ∷ rest)) (place w rest h) (omega (arith, longer))
     ∙ ap (λ (before : List ℕ). Some (before, drop (length w + 1) (w ++ (32 ∷ rest)))) (take-append_seam w (32 ∷ rest))
     ∙ ap (λ (after : List ℕ). Some (w, after)) (drop-append-add w (32 ∷ rest) 1)
+
+-- what a text is cut behind its first word, goes on
+pub first : {A : Type 0} (w rest : List ℕ) → IsWord w → (f : List ℕ × List ℕ → Option A) → option_and_then f (at_blank (w ++ (32 ∷ rest))) ≡ f (w, rest)
+first w rest word f = ap (option_and_then f) (word_cut w rest word)
 
 pub words_joined : (v w : List ℕ) → IsWord v → IsWord w → IsWord (v ++ w)
 words_joined [] w hv hw = hw

@@ -1,16 +1,25 @@
 -- IDs are read back from their texts, which are words.
-use Rattle.std.proofs.Common.{◌≡◌, ℕ, ◌+◌, ◌*◌, ◌/◌, ◌%◌, ◌<◌, ◌^◌, ◌==◌, ◌&&◌, Bool, true, false, refl, ap, sym, subst, ◌∙◌, List, [], ◌∷◌, ◌++◌, Option, Some, None, arith}
+use Rattle.std.proofs.Common.{◌≡◌, ℕ, ◌+◌, ◌*◌, ◌/◌, ◌%◌, ◌<◌, ◌^◌, true, false, refl, ap, sym, subst, ◌∙◌, List, [], ◌∷◌, ◌++◌, Option, Some, None, arith}
 use Rattle.std.specs.Prelude.{codes}
 use Rattle.std.specs.Fmt.{decimal, digit_glyph}
-use Rattle.std.specs.Str.{bytes_eq}
 use Rattle.std.proofs.lemmas.Bool.{cond-true, and_from, lt-ltb}
 use Rattle.std.proofs.lemmas.Bool.Decides.{nat_tests}
 use Rattle.std.proofs.lemmas.Fmt.{decimal_digit, hex_byte}
 use Rattle.fab_types.specs.Id.{bus_of, device_of, function_of, id_of}
 use Rattle.fab_types.specs.Texts.{byte_text, id_text}
 use Rattle.text.specs.Text.{hex_digit, hex_pair, id_at, id_of_known, id_of_parts}
-use Rattle.line_texts.specs.Words.{IsWord, is_inner}
-use Rattle.line_texts.proofs.Digits.{glyph_inner, glyph_read}
+use Rattle.text.specs.Words.{IsWord, is_inner}
+
+-- ---- digits
+
+pub glyph_read : (d : ℕ) → d < 16 → hex_digit (digit_glyph false d) ≡ Some d
+glyph_read d small = grind (arith, nat_tests)
+
+pub glyph_inner : (d : ℕ) → is_inner (digit_glyph false d) ≡ true
+glyph_inner d = grind (arith, nat_tests)
+
+pub digit_inner : (d : ℕ) → d < 10 → is_inner (48 + d) ≡ true
+digit_inner d small = grind (arith, nat_tests)
 
 digit_read : (d : ℕ) → d < 8 → hex_digit (48 + d) ≡ Some d
 digit_read d small = grind (arith, nat_tests)
@@ -22,6 +31,8 @@ pub byte_read : (n : ℕ) → n < 256 → hex_pair (digit_glyph false (n / 16)) 
 byte_read n small =
     let same : n / 16 * 16 + n % 16 ≡ n = omega arith in
     pair_of (n / 16) (n % 16) (digit_glyph false (n / 16)) (digit_glyph false (n % 16)) (glyph_read (n / 16) (omega (arith, small))) (glyph_read (n % 16) (omega arith)) ∙ ap (λ (m : ℕ). Some m) same
+
+-- ---- IDs
 
 known : (id : ℕ) → id_of_known (bus_of id) (device_of id) (function_of id) ≡ Some id
 known id =
@@ -51,23 +62,9 @@ id_read id small =
     ∙ at_seven (digit_glyph false (bus_of id / 16)) (digit_glyph false (bus_of id % 16)) (digit_glyph false (device_of id / 16)) (digit_glyph false (device_of id % 16)) (48 + function_of id)
     ∙ parts _ _ _ id (byte_read (bus_of id) (omega (arith, small))) (byte_read (device_of id) (omega arith)) (digit_read (function_of id) (omega arith))
 
-digit_inner : (d : ℕ) → d < 10 → is_inner (48 + d) ≡ true
-digit_inner d small = grind (arith, nat_tests)
-
 pub id_word : (id : ℕ) → id < 2 ^ 16 → IsWord (id_text id)
 id_word id small =
     subst IsWord (sym (spelled id small))
     (and_from _ _ (glyph_inner (bus_of id / 16)) (and_from _ _ (glyph_inner (bus_of id % 16))
     (and_from _ _ (glyph_inner (device_of id / 16)) (and_from _ _ (glyph_inner (device_of id % 16))
     (and_from _ _ (digit_inner (function_of id) (omega arith)) refl)))))
-
--- its third character is a colon, so it is no word that has another there
-and_none : (x : Bool) → (x && false) ≡ false
-and_none true = refl
-and_none false = refl
-
-pub no_root : (id : ℕ) → id < 2 ^ 16 → bytes_eq (id_text id) (codes "root") ≡ false
-no_root id small =
-    ap (λ (t : List ℕ). bytes_eq t (codes "root")) (spelled id small)
-    ∙ ap (λ (x : Bool). (digit_glyph false (bus_of id / 16) == 114) && x) (and_none (digit_glyph false (bus_of id % 16) == 111))
-    ∙ and_none (digit_glyph false (bus_of id / 16) == 114)
