@@ -4,6 +4,7 @@ use Rattle.std.specs.Prelude.{ℕ, ◌/◌, ◌==◌, ◌++◌, Bool, true, fals
 use Rattle.std.specs.List.{filter, filter_map, find, flat_map, list_any, range_with_len}
 use Rattle.std.specs.Option.{option_and_then, unwrap_or}
 use Rattle.fab_types.specs.Id.{bus_of, host_of}
+use Rattle.fab_types.specs.declared.controls.Control.TheVariants.{SourceValidation, TranslationBlocking, RequestRedirect}
 use Rattle.platform.specs.declared.parts.DownstreamPort.{DownstreamPort}
 use Rattle.platform.specs.declared.parts.EndpointFunction.{EndpointFunction}
 use Rattle.platform.specs.declared.parts.Mapping.{Mapping}
@@ -20,7 +21,6 @@ use Rattle.attacks.specs.declared.attack.Harm.{Harm}
 use Rattle.attacks.specs.declared.attack.Harm.TheVariants as harm
 use Rattle.attacks.specs.declared.attack.Way.{Way}
 use Rattle.attacks.specs.declared.attack.Way.TheVariants as way
-use Rattle.attacks.specs.declared.control.Control.TheVariants.{SourceValidation, TranslationBlocking, RequestRedirect}
 use Rattle.attacks.specs.Closings.{closings}
 use Rattle.attacks.specs.Paths.{is_blocked, is_validated, is_validated_below, turn_of}
 

@@ -4,10 +4,9 @@ ghost use Rattle.std.specs.Prelude.{◌≡◌, IfOk};
 ghost use Rattle.tlp_view.specs.Requests.{packet_bytes};
 ghost use Rattle.attacks.specs.Packets.{address_of, head_of, own_read, packet_of, payload};
 
-use crate::control::Control;
 use crate::own_read::OwnRead;
 use crate::packet::{head_at, start_of};
-use fab_types::{AddressType, Bdf, NoMemory, PacketBytes, PortId};
+use fab_types::{AddressType, Bdf, Control, NoMemory, PacketBytes, PortId};
 use std::alloc::Global;
 use tlp_view::{RequestBuf, RequestHead};
 

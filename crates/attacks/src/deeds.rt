@@ -4,8 +4,7 @@ ghost use Rattle.std.specs.Prelude.{◌≡◌, Some};
 ghost use Rattle.attacks.specs.Tries.{direct, on_frame, on_mapped, on_registers, on_unmapped, spoofed, translated};
 
 use crate::attack::{Attack, Deed, Harm, Way};
-use crate::control::Control;
-use fab_types::{Bdf, PortId};
+use fab_types::{Bdf, Control, PortId};
 use platform::{MapTarget, Mapping};
 
 /// What a request for a frame does in this way, and the harm.

@@ -4,8 +4,7 @@ ghost use Rattle.std.specs.Prelude.{◌≡◌};
 ghost use Rattle.attacks.specs.Findings.{has_witness};
 
 use crate::attack::Harm;
-use crate::control::Control;
-use fab_types::{Bdf, DomainId, PacketBytes, PortId};
+use fab_types::{Bdf, Control, DomainId, PacketBytes, PortId};
 
 /// A packet that was seen to harm a domain, and what let it pass.
 /// It was submitted in a fresh fabric, and nothing else was begun there but the read of the harm, if that has one. A control

@@ -15,7 +15,7 @@ mod path;
 mod requests;
 
 pub use attack::{Attack, Deed, Harm, Way};
-pub use control::{Control, is_clear};
+pub use control::is_clear;
 pub use findings::{Findings, Pair, Witness};
 pub use names::own_functions;
 pub use own_read::OwnRead;

@@ -7,5 +7,5 @@ mod seen;
 mod setting;
 mod trial;
 
-pub use attacks::{Control, Findings, Harm, OwnRead, Pair, Witness};
+pub use attacks::{Findings, Harm, OwnRead, Pair, Witness};
 pub use search::audit;

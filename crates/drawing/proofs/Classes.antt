@@ -14,13 +14,12 @@ use Rattle.drawing.specs.Elements.{Markup, Nothing, class_number, each, elements
 use Rattle.drawing.specs.Figures.{function_figure, function_inside, host_figure, host_inside, switch_figure, switch_inside}
 use Rattle.drawing.specs.Legend.{clear_shape, controls_shapes, domain_shape, domain_shapes, egress_shapes, legend_figure, legend_inside, named_shape, owner_shape}
 use Rattle.drawing.specs.Placing.{owns, port_cell}
-use Rattle.drawing.specs.Ports.{box_of_port, controls_shape, letter_shape, letters_shape, line_of_link, link_figure, link_inside, port_figure, port_inside, texts_of_port, vector_shape}
+use Rattle.drawing.specs.Ports.{box_of_port, controls_shape, letters_shape, line_of_link, link_figure, link_inside, port_figure, port_inside, span_shape, texts_of_port, vector_shape}
 use Rattle.drawing.specs.Shapes.{box_shape, label_shape, line_shape}
 use Rattle.drawing.specs.declared.attribute.Attribute.{Attribute}
 use Rattle.drawing.specs.declared.attribute.Class.{Class}
 use Rattle.drawing.specs.declared.attribute.Class.TheVariants as class
 use Rattle.drawing.specs.declared.attribute.Point.{Point}
-use Rattle.drawing.specs.declared.control.Control.TheVariants.{EgressControl}
 use Rattle.drawing.specs.declared.placing.Cell.{Cell}
 
 -- ---- each item of a list has one
@@ -41,8 +40,8 @@ unless_none wanted false m none = refl
 -- ---- what stands inside a port
 
 letters_none : (wanted : Class) (controls : AcsControl) → elements_of wanted (letters_shape controls) ≡ []
-unfolding letters_shape letter_shape
-letters_none wanted controls = unless_none wanted (controls_egress controls) (letter_shape controls EgressControl) refl
+unfolding letters_shape span_shape
+letters_none wanted controls = unless_none wanted (controls_egress controls) _ refl
 
 vector_none : (wanted : Class) (point : Point) (port : DownstreamPort) → elements_of wanted (vector_shape point port) ≡ []
 unfolding vector_shape label_shape

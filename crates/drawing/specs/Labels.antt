@@ -1,8 +1,8 @@
 -- What texts say, as it is spelled: fixed words, numbers and IDs, of which none has `<` or `&`.
 use Rattle.std.specs.Prelude.{ℕ, ◌-◌, ◌^◌, ◌==◌, ◌++◌, false, List, [], codes, if◌then◌else◌}
 use Rattle.std.specs.Fmt.{decimal, digits, format_spec, padded_integral}
+use Rattle.fab_types.specs.Controls.{control_letter, control_name}
 use Rattle.fab_types.specs.Texts.{byte_text, id_text}
-use Rattle.drawing.specs.Controls.{control_letter, control_name}
 use Rattle.drawing.specs.declared.label.Label.{Label}
 use Rattle.drawing.specs.declared.label.Label.TheVariants as label
 
@@ -22,8 +22,10 @@ label_text (label.Address address) = address_text address
 label_text (label.Domain number) = codes "domain " ++ decimal number
 label_text (label.Vector vector) = codes "egress " ++ address_text vector
 label_text (label.Letter control) = control_letter control
+label_text label.Egress = codes "E"
 label_text label.Controls = codes "ACS controls of a port"
 label_text (label.Named control) = control_letter control ++ codes " " ++ control_name control
+label_text label.EgressNamed = codes "E P2P Egress Control"
 label_text label.Clear = codes "in red where they are clear"
 label_text label.Vectors = codes "egress: Egress Control Vector"
 label_text label.Domains = codes "domains"

@@ -1,5 +1,7 @@
 -- The legend: the letters of controls, and the colours of domains.
 use Rattle.std.specs.Prelude.{ℕ, zero, suc, ◌+◌, ◌-◌, ◌*◌, List, [], ◌∷◌, if◌then◌else◌}
+use Rattle.fab_types.specs.declared.controls.Control.{Control}
+use Rattle.fab_types.specs.declared.controls.Control.TheVariants.{SourceValidation, TranslationBlocking, RequestRedirect, CompletionRedirect, UpstreamForwarding}
 use Rattle.platform.specs.declared.parts.DownstreamPort.{DownstreamPort}
 use Rattle.drawing.specs.Elements.{Markup, Element, Beside, Nothing}
 use Rattle.drawing.specs.Placing.{domains_before, legend_point, owns}
@@ -8,8 +10,6 @@ use Rattle.drawing.specs.declared.attribute.Area.{Area}
 use Rattle.drawing.specs.declared.attribute.Attribute.TheVariants as attribute
 use Rattle.drawing.specs.declared.attribute.Class.TheVariants as class
 use Rattle.drawing.specs.declared.attribute.Colour.TheVariants as colour
-use Rattle.drawing.specs.declared.control.Control.{Control}
-use Rattle.drawing.specs.declared.control.Control.TheVariants.{SourceValidation, TranslationBlocking, RequestRedirect, CompletionRedirect, UpstreamForwarding, EgressControl}
 use Rattle.drawing.specs.declared.element.Tag.TheVariants as tag
 use Rattle.drawing.specs.declared.label.Label.TheVariants as label
 
@@ -28,7 +28,7 @@ controls_shapes =
     (named_shape 5 UpstreamForwarding)
 
 unfoldable pub egress_shapes : Markup
-egress_shapes = Beside (named_shape 6 EgressControl) (label_shape (legend_point 7) label.Vectors)
+egress_shapes = Beside (label_shape (legend_point 6) label.EgressNamed) (label_shape (legend_point 7) label.Vectors)
 
 -- a letter in red is of a control that is clear
 unfoldable pub clear_shape : Markup

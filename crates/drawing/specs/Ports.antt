@@ -1,11 +1,12 @@
 -- The figure of a downstream port, and of the link below it.
 use Rattle.std.specs.Prelude.{ℕ, ◌-◌, ◌^◌, Bool, true, false, [], ◌∷◌, unwrap_or, if◌then◌else◌}
-use Rattle.fab_types.specs.Controls.{controls_egress}
+use Rattle.fab_types.specs.Controls.{controls_egress, is_set}
 use Rattle.fab_types.specs.declared.controls.AcsControl.{AcsControl}
+use Rattle.fab_types.specs.declared.controls.Control.{Control}
+use Rattle.fab_types.specs.declared.controls.Control.TheVariants.{SourceValidation, TranslationBlocking, RequestRedirect, CompletionRedirect, UpstreamForwarding}
 use Rattle.platform.specs.declared.parts.DownstreamPort.{DownstreamPort}
 use Rattle.platform.specs.Platform.{Platform}
 use Rattle.platform.specs.Tree.{id_below, is_taken}
-use Rattle.drawing.specs.Controls.{is_set}
 use Rattle.drawing.specs.Elements.{Markup, Element, Beside, Nothing, Words}
 use Rattle.drawing.specs.Figures.{node_area}
 use Rattle.drawing.specs.Placing.{point_in, port_cell}
@@ -16,9 +17,8 @@ use Rattle.drawing.specs.declared.attribute.Class.TheVariants as class
 use Rattle.drawing.specs.declared.attribute.Colour.{Colour}
 use Rattle.drawing.specs.declared.attribute.Colour.TheVariants as colour
 use Rattle.drawing.specs.declared.attribute.Point.{Point}
-use Rattle.drawing.specs.declared.control.Control.{Control}
-use Rattle.drawing.specs.declared.control.Control.TheVariants.{SourceValidation, TranslationBlocking, RequestRedirect, CompletionRedirect, UpstreamForwarding, EgressControl}
 use Rattle.drawing.specs.declared.element.Tag.TheVariants as tag
+use Rattle.drawing.specs.declared.label.Label.{Label}
 use Rattle.drawing.specs.declared.label.Label.TheVariants as label
 use Rattle.drawing.specs.declared.placing.Cell.{Cell}
 
@@ -36,11 +36,15 @@ abbrev pub ink : Bool → Colour
 ink true = colour.Black
 ink false = colour.Red
 
-unfoldable pub letter_shape : AcsControl → Control → Markup
-letter_shape controls control = Element tag.Span (attribute.Fill (ink (is_set controls control)) ∷ []) (Words (label.Letter control))
+-- a part of a text, in a colour of its own
+unfoldable pub span_shape : Colour → Label → Markup
+span_shape fill words = Element tag.Span (attribute.Fill fill ∷ []) (Words words)
+
+abbrev pub letter_shape : AcsControl → Control → Markup
+letter_shape controls control = span_shape (ink (is_set controls control)) (label.Letter control)
 
 abbrev pub egress_letter : AcsControl → Markup
-egress_letter controls = if controls_egress controls then letter_shape controls EgressControl else Nothing
+egress_letter controls = if controls_egress controls then span_shape colour.Black label.Egress else Nothing
 
 unfoldable pub letters_shape : AcsControl → Markup
 letters_shape controls =

@@ -3,8 +3,7 @@
 ghost use Rattle.std.specs.Prelude.{Some};
 ghost use Rattle.drawing.specs.Labels.{label_text};
 
-use crate::control::Control;
-use fab_types::Bdf;
+use fab_types::{Bdf, Control};
 use std::fmt;
 
 /// What a text says.
@@ -32,11 +31,15 @@ pub enum Label {
     Vector(u32),
     /// A control's letter.
     Letter(Control),
+    /// The letter of egress control.
+    Egress,
     // ---- of the legend
     /// The heading of the letters.
     Controls,
     /// A control's letter and name.
     Named(Control),
+    /// Those of egress control.
+    EgressNamed,
     /// What red letters mean.
     Clear,
     /// What stands behind the word `egress`.
@@ -66,12 +69,17 @@ impl fmt::Display for Label {
             Label::Address(address) => write!(f, "{address:08x}"),
             Label::Domain(number) => write!(f, "domain {number}"),
             Label::Vector(vector) => write!(f, "egress {vector:08x}"),
-            Label::Letter(control) => write!(f, "{control}"),
+            Label::Letter(control) => {
+                let letter = control.letter();
+                write!(f, "{letter}")
+            }
+            Label::Egress => write!(f, "E"),
             Label::Controls => write!(f, "ACS controls of a port"),
             Label::Named(control) => {
-                let name = control.name();
-                write!(f, "{control} {name}")
+                let (letter, name) = (control.letter(), control.name());
+                write!(f, "{letter} {name}")
             }
+            Label::EgressNamed => write!(f, "E P2P Egress Control"),
             Label::Clear => write!(f, "in red where they are clear"),
             Label::Vectors => write!(f, "egress: Egress Control Vector"),
             Label::Domains => write!(f, "domains"),

@@ -6,11 +6,11 @@ ghost use Rattle.drawing.specs.Elements.{text_of};
 ghost use Rattle.drawing.specs.Legend.{clear_shape, controls_shapes, domain_shape, domain_shapes, egress_shapes, legend_figure, legend_inside, named_shape, owner_shape};
 
 use crate::attribute::{Area, Attribute, Class, Colour, Point};
-use crate::control::Control;
 use crate::element::{Tag, close, open};
 use crate::label::Label;
 use crate::placing::{domains_before, legend_point, owns};
 use crate::shapes::{write_box, write_label};
+use fab_types::Control;
 use platform::DownstreamPort;
 use std::io;
 use std::io::Write;
@@ -61,7 +61,7 @@ fn write_named<W: Write>(out: &mut W, line: u16, control: Control) -> io::Result
 fn write_egress<W: Write>(out: &mut W) -> io::Result<()>
     ensures { OnOk result (Appends (W.contents out.old) (W.contents out.new) (text_of egress_shapes)) }
 {
-    write_named(out, 6, Control::EgressControl)?;
+    write_label(out, legend_point(6), Label::EgressNamed)?;
     write_label(out, legend_point(7), Label::Vectors)
 }
 

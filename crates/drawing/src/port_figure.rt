@@ -4,16 +4,15 @@ ghost use Rattle.std.specs.Prelude.{◌≡◌, OnOk};
 ghost use Rattle.std.specs.Io.KnownBytes.{Appends};
 ghost use Rattle.drawing.specs.Elements.{AreInside, text_of};
 ghost use Rattle.drawing.specs.Placing.{height_of, width_of};
-ghost use Rattle.drawing.specs.Ports.{box_of_port, ink, letter_shape, letters_shape, controls_shape, line_of_link, link_figure, link_inside, port_figure, port_inside, texts_of_port, vector_of, vector_shape};
+ghost use Rattle.drawing.specs.Ports.{box_of_port, ink, letter_shape, letters_shape, controls_shape, line_of_link, link_figure, link_inside, port_figure, port_inside, span_shape, texts_of_port, vector_of, vector_shape};
 
 use crate::attribute::{Area, Attribute, Class, Colour, Point};
-use crate::control::Control;
 use crate::element::{Tag, close, open};
 use crate::figures::node_area;
 use crate::label::Label;
 use crate::placing::{Cell, port_cell};
 use crate::shapes::{write_box, write_label, write_line};
-use fab_types::AcsControl;
+use fab_types::{AcsControl, Control};
 use layout::Layout;
 use platform::{DownstreamPort, id_below, is_taken};
 use std::io;
@@ -98,7 +97,7 @@ fn write_letters<W: Write>(out: &mut W, controls: AcsControl) -> io::Result<()>
     write_letter(out, controls, Control::CompletionRedirect)?;
     write_letter(out, controls, Control::UpstreamForwarding)?;
     if controls.controls_egress() {
-        write_letter(out, controls, Control::EgressControl)?;
+        write_span(out, Colour::Black, Label::Egress)?;
     }
     Ok(())
 }
@@ -109,13 +108,18 @@ fn ink(is_set: bool) -> Colour
     if is_set { Colour::Black } else { Colour::Red }
 }
 
-#[tactic(auto, unfolding(crate::specs::Ports::letter_shape))]
 fn write_letter<W: Write>(out: &mut W, controls: AcsControl, control: Control) -> io::Result<()>
     ensures { OnOk result (Appends (W.contents out.old) (W.contents out.new) (text_of (letter_shape controls control))) }
 {
-    let label = Label::Letter(control);
-    let fill = Attribute::Fill(ink(control.is_set(controls)));
-    open(out, Tag::Span, &[fill])?;
+    write_span(out, ink(control.is_set(controls)), Label::Letter(control))
+}
+
+/// Writes a part of a text, in a colour of its own.
+#[tactic(auto, unfolding(crate::specs::Ports::span_shape))]
+fn write_span<W: Write>(out: &mut W, colour: Colour, label: Label) -> io::Result<()>
+    ensures { OnOk result (Appends (W.contents out.old) (W.contents out.new) (text_of (span_shape colour label))) }
+{
+    open(out, Tag::Span, &[Attribute::Fill(colour)])?;
     write!(out, "{label}")?;
     close(out, Tag::Span)
 }

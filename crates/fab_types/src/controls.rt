@@ -86,6 +86,77 @@ impl AcsControl {
     }
 }
 
+/// One of the five controls by which a layout is guarded (PCIe 4.0, 6.12.1 and 7.7.8.3).
+#[derive(Clone, Copy, Debug, PartialEq, Eq)]
+pub enum Control {
+    /// V, ACS Source Validation.
+    SourceValidation,
+    /// B, ACS Translation Blocking.
+    TranslationBlocking,
+    /// R, ACS P2P Request Redirect.
+    RequestRedirect,
+    /// C, ACS P2P Completion Redirect.
+    CompletionRedirect,
+    /// U, ACS Upstream Forwarding.
+    UpstreamForwarding,
+}
+
+impl Control {
+    ghost use Rattle.fab_types.specs.Controls.{is_set, control_letter, control_name, short_name};
+
+    /// Is it set among these?
+    pub fn is_set(self, controls: AcsControl) -> bool
+        ensures { result ≡ is_set controls self }
+    {
+        match self {
+            Control::SourceValidation => controls.validates_source(),
+            Control::TranslationBlocking => controls.blocks_translated(),
+            Control::RequestRedirect => controls.redirects_requests(),
+            Control::CompletionRedirect => controls.redirects_completions(),
+            Control::UpstreamForwarding => controls.forwards_upstream(),
+        }
+    }
+
+    /// Its letter in the standard.
+    pub fn letter(self) -> &'static str
+        ensures { result.now ≡ control_letter self }
+    {
+        match self {
+            Control::SourceValidation => "V",
+            Control::TranslationBlocking => "B",
+            Control::RequestRedirect => "R",
+            Control::CompletionRedirect => "C",
+            Control::UpstreamForwarding => "U",
+        }
+    }
+
+    /// Its name in the standard, without the word ACS.
+    pub fn name(self) -> &'static str
+        ensures { result.now ≡ control_name self }
+    {
+        match self {
+            Control::SourceValidation => "Source Validation",
+            Control::TranslationBlocking => "Translation Blocking",
+            Control::RequestRedirect => "P2P Request Redirect",
+            Control::CompletionRedirect => "P2P Completion Redirect",
+            Control::UpstreamForwarding => "Upstream Forwarding",
+        }
+    }
+
+    /// Its name without the words ACS and P2P.
+    pub fn short_name(self) -> &'static str
+        ensures { result.now ≡ short_name self }
+    {
+        match self {
+            Control::SourceValidation => "Source Validation",
+            Control::TranslationBlocking => "Translation Blocking",
+            Control::RequestRedirect => "Request Redirect",
+            Control::CompletionRedirect => "Completion Redirect",
+            Control::UpstreamForwarding => "Upstream Forwarding",
+        }
+    }
+}
+
 impl Flags for AcsControl {
     type Bits = u8;
 

@@ -16,7 +16,7 @@ mod status;
 mod violation;
 
 pub use class::Class;
-pub use controls::AcsControl;
+pub use controls::{AcsControl, Control};
 pub use cost::{Cost, DataCredits};
 pub use faults::begin::{BeginFault, MmioFault, SubmitFault, TickFault};
 pub use faults::injector::InjectorFault;

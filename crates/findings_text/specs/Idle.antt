@@ -1,13 +1,13 @@
 -- Clear controls past which nothing was seen to land, as text.
 use Rattle.std.specs.Prelude.{ℕ, ◌++◌, ◌==◌, ◌&&◌, Bool, true, false, not, List, [], codes, Option, Some, None, if◌then◌else◌}
 use Rattle.std.specs.List.{find, flat_map, list_any}
+use Rattle.fab_types.specs.Controls.{is_set, short_name}
 use Rattle.fab_types.specs.Id.{bus_of}
+use Rattle.fab_types.specs.declared.controls.Control.{Control}
+use Rattle.fab_types.specs.declared.controls.Control.TheVariants.{SourceValidation, TranslationBlocking, RequestRedirect, CompletionRedirect, UpstreamForwarding}
 use Rattle.platform.specs.Owners.{holds_bus}
 use Rattle.platform.specs.Platform.{Platform}
 use Rattle.platform.specs.declared.parts.DownstreamPort.{DownstreamPort}
-use Rattle.attacks.specs.Controls.{control_name, is_set}
-use Rattle.attacks.specs.declared.control.Control.{Control}
-use Rattle.attacks.specs.declared.control.Control.TheVariants.{SourceValidation, TranslationBlocking, RequestRedirect, CompletionRedirect, UpstreamForwarding}
 use Rattle.attacks.specs.declared.findings.Findings.{Findings}
 use Rattle.attacks.specs.declared.findings.Findings.TheVariants.{NothingToKeep, Guarded, Unguarded}
 use Rattle.attacks.specs.declared.findings.Pair.{Pair}
@@ -77,7 +77,7 @@ reason_text names (Below other) stopped = below_text names other
 reason_text names Nothing stopped = codes "nothing below it was seen to use that\n"
 
 abbrev pub lack_text : Control → List ℕ
-lack_text control = codes " lacks " ++ control_name control ++ codes "; "
+lack_text control = codes " lacks " ++ short_name control ++ codes "; "
 
 abbrev pub idle_head : List Named → DownstreamPort → Control → List ℕ
 idle_head names port control = named_id names port.id ++ lack_text control

@@ -1,11 +1,13 @@
 -- The tree of a layout as text.
-use Rattle.std.specs.Prelude.{ℕ, zero, suc, ◌-◌, ◌*◌, ◌^◌, ◌==◌, ◌++◌, Bool, false, List, [], count_by, codes, min, Option, Some, None, unwrap_or, if◌then◌else◌}
+use Rattle.std.specs.Prelude.{ℕ, zero, suc, ◌-◌, ◌*◌, ◌^◌, ◌==◌, ◌++◌, false, List, [], count_by, codes, min, Option, Some, None, unwrap_or, if◌then◌else◌}
 use Rattle.std.specs.Fmt.{decimal, digits, format_spec, padded_integral}
 use Rattle.std.specs.List.{find}
-use Rattle.fab_types.specs.Controls.{controls_egress}
+use Rattle.fab_types.specs.Controls.{control_letter, controls_egress, is_set}
 use Rattle.fab_types.specs.Id.{bus_of}
 use Rattle.fab_types.specs.Texts.{byte_text}
 use Rattle.fab_types.specs.declared.controls.AcsControl.{AcsControl}
+use Rattle.fab_types.specs.declared.controls.Control.{Control}
+use Rattle.fab_types.specs.declared.controls.Control.TheVariants.{SourceValidation, TranslationBlocking, RequestRedirect, CompletionRedirect, UpstreamForwarding}
 use Rattle.platform.specs.Owners.{holds_bus}
 use Rattle.platform.specs.Platform.{Platform}
 use Rattle.platform.specs.Tree.{domain_of, internal_bus}
@@ -14,11 +16,9 @@ use Rattle.platform.specs.declared.parts.EndpointFunction.{EndpointFunction}
 use Rattle.platform.specs.declared.parts.LayoutVersion.{LayoutVersion}
 use Rattle.platform.specs.declared.parts.LayoutVersion.TheVariants.{One, Two}
 use Rattle.platform.specs.declared.parts.Switch.{Switch}
-use Rattle.attacks.specs.Controls.{is_set}
 use Rattle.findings_text.specs.declared.remarks.Named.{Named}
 use Rattle.findings_text.specs.declared.tree.Tree.{Tree}
 use Rattle.findings_text.specs.Remarks.{named_id}
-use Rattle.attacks.specs.declared.control.Control.TheVariants.{SourceValidation, TranslationBlocking, RequestRedirect, CompletionRedirect, UpstreamForwarding}
 
 -- eight hexadecimal digits
 abbrev pub word_text : ℕ → List ℕ
@@ -29,15 +29,14 @@ abbrev pub indent : ℕ → List ℕ
 indent zero = []
 indent (suc depth) = indent depth ++ codes "  "
 
-abbrev pub letter_or_dot : Bool → List ℕ → List ℕ
-letter_or_dot is_set letter = if is_set then letter else codes "."
+abbrev pub letter_or_dot : AcsControl → Control → List ℕ
+letter_or_dot controls control = if is_set controls control then control_letter control else codes "."
 
 -- `VBRCU`, with a dot for each that is clear
 abbrev pub controls_text : AcsControl → List ℕ
 controls_text controls =
-    (letter_or_dot (is_set controls SourceValidation) (codes "V") ++ letter_or_dot (is_set controls TranslationBlocking) (codes "B")
-    ++ letter_or_dot (is_set controls RequestRedirect) (codes "R"))
-    ++ (letter_or_dot (is_set controls CompletionRedirect) (codes "C") ++ letter_or_dot (is_set controls UpstreamForwarding) (codes "U"))
+    (letter_or_dot controls SourceValidation ++ letter_or_dot controls TranslationBlocking ++ letter_or_dot controls RequestRedirect)
+    ++ (letter_or_dot controls CompletionRedirect ++ letter_or_dot controls UpstreamForwarding)
 
 -- the Egress Control Vector, all ones where none was given
 abbrev pub vector_of : DownstreamPort → ℕ

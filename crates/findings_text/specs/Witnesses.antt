@@ -2,14 +2,14 @@
 use Rattle.std.specs.Prelude.{ℕ, ◌+◌, ◌==◌, ◌++◌, Bool, List, [], ◌∷◌, Option, Some, None, codes, length, if◌then◌else◌}
 use Rattle.std.specs.Fmt.{decimal}
 use Rattle.std.specs.List.{flat_map}
+use Rattle.fab_types.specs.Controls.{short_name}
 use Rattle.fab_types.specs.Texts.{id_text}
+use Rattle.fab_types.specs.declared.controls.Control.{Control}
 use Rattle.reports.specs.Report.{packet_text}
 use Rattle.platform.specs.Platform.{Platform}
-use Rattle.attacks.specs.Controls.{control_name}
 use Rattle.attacks.specs.Packets.{own_bytes, own_read}
 use Rattle.attacks.specs.declared.attack.Harm.{Harm}
 use Rattle.attacks.specs.declared.attack.Harm.TheVariants.{FrameWritten, FrameRead, RegistersWritten, RegistersRead, TagClosed, Completion, Counts, AnswersFrame, AnswersRegisters}
-use Rattle.attacks.specs.declared.control.Control.{Control}
 use Rattle.attacks.specs.declared.findings.Findings.{Findings}
 use Rattle.attacks.specs.declared.findings.Findings.TheVariants.{NothingToKeep, Guarded, Unguarded}
 use Rattle.attacks.specs.declared.findings.Pair.{Pair}
@@ -42,7 +42,7 @@ abbrev pub pair_text : ℕ → ℕ → List ℕ
 pair_text attacker victim = codes "domain " ++ decimal attacker ++ codes " reaches domain " ++ decimal victim ++ codes ": "
 
 abbrev pub control_text : Control → List ℕ
-control_text control = codes ", " ++ control_name control ++ codes " clear\n"
+control_text control = codes ", " ++ short_name control ++ codes " clear\n"
 
 -- who reaches whom, how, and past which port and control
 abbrev pub head_text : List Named → Witness → List ℕ

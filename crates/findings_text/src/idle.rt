@@ -5,8 +5,8 @@ ghost use Rattle.std.specs.List.{find, list_any};
 ghost use Rattle.std.specs.Option.{option_copied};
 ghost use Rattle.findings_text.specs.Idle.{is_idle, is_set_above, is_set_below, is_used, obstacle_below, obstacle_of, uses};
 
-use attacks::{Control, Pair, Witness};
-use fab_types::PortId;
+use attacks::{Pair, Witness};
+use fab_types::{Control, PortId};
 use platform::DownstreamPort;
 
 /// What still stops what a clear control would have stopped.

@@ -7,8 +7,8 @@ ghost use Rattle.findings_text.specs.Idle.{above_text, below_text, idle_head, id
 
 use crate::idle::{Obstacle, is_idle, obstacle_of};
 use crate::remarks::{Remarks, write_id};
-use attacks::{Control, Findings, Pair};
-use fab_types::PortId;
+use attacks::{Findings, Pair};
+use fab_types::{Control, PortId};
 use layout::Layout;
 use platform::DownstreamPort;
 use std::io;
@@ -57,7 +57,7 @@ fn write_reason<W: Write>(
 fn write_lack<W: Write>(out: &mut W, control: Control) -> io::Result<()>
     ensures { OnOk result (Appends (W.contents out.old) (W.contents out.new) (lack_text control)) }
 {
-    let name = control.name();
+    let name = control.short_name();
     write!(out, " lacks {name}; ")
 }
 

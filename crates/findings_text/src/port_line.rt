@@ -6,28 +6,31 @@ ghost use Rattle.findings_text.specs.Tree.{clear_egress_text, controls_text, egr
 
 use crate::indent::write_indent;
 use crate::remarks::{Remarks, write_with_id};
-use attacks::Control;
-use fab_types::AcsControl;
+use fab_types::{AcsControl, Control};
 use platform::{DownstreamPort, LayoutVersion};
 use std::io;
 use std::io::Write;
 
 /// The letter where the control is set, and a dot where it is clear.
-fn letter_or_dot(is_set: bool, letter: &'static str) -> &'static str
-    ensures { result.now ≡ letter_or_dot is_set letter.entry.now }
+fn letter_or_dot(controls: AcsControl, control: Control) -> &'static str
+    ensures { result.now ≡ letter_or_dot controls control }
 {
-    if is_set { letter } else { "." }
+    if control.is_set(controls) {
+        control.letter()
+    } else {
+        "."
+    }
 }
 
 /// Writes the five controls by their letters, and E where it is set.
 fn write_controls<W: Write>(out: &mut W, controls: AcsControl) -> io::Result<()>
     ensures { OnOk result (Appends (W.contents out.old) (W.contents out.new) (controls_text controls)) }
 {
-    let source = letter_or_dot(Control::SourceValidation.is_set(controls), "V");
-    let translation = letter_or_dot(Control::TranslationBlocking.is_set(controls), "B");
-    let requests = letter_or_dot(Control::RequestRedirect.is_set(controls), "R");
-    let completions = letter_or_dot(Control::CompletionRedirect.is_set(controls), "C");
-    let upstream = letter_or_dot(Control::UpstreamForwarding.is_set(controls), "U");
+    let source = letter_or_dot(controls, Control::SourceValidation);
+    let translation = letter_or_dot(controls, Control::TranslationBlocking);
+    let requests = letter_or_dot(controls, Control::RequestRedirect);
+    let completions = letter_or_dot(controls, Control::CompletionRedirect);
+    let upstream = letter_or_dot(controls, Control::UpstreamForwarding);
     write!(out, "{source}{translation}{requests}")?;
     write!(out, "{completions}{upstream}")
 }

@@ -7,7 +7,7 @@ ghost use Rattle.findings_text.specs.Witnesses.{closed_text, control_text, harm_
 ghost use Rattle.reports.specs.Report.{packet_text};
 
 use crate::remarks::{Remarks, write_with_id};
-use attacks::{Control, Harm, OwnRead, Witness};
+use attacks::{Harm, OwnRead, Witness};
 use fab_types::{Bdf, DomainId};
 use std::alloc::Global;
 use std::io;
@@ -57,7 +57,7 @@ fn write_pair_head<W: Write>(out: &mut W, attacker: DomainId, victim: DomainId) 
 fn write_control<W: Write>(out: &mut W, control: Control) -> io::Result<()>
     ensures { OnOk result (Appends (W.contents out.old) (W.contents out.new) (control_text control)) }
 {
-    let name = control.name();
+    let name = control.short_name();
     writeln!(out, ", {name} clear")
 }
 
