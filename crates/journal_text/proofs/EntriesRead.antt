@@ -20,7 +20,7 @@ use Rattle.text.proofs.Ids.{id_read, id_word}
 use Rattle.text.proofs.WordLemmas.{first}
 use Rattle.script.specs.Commands.{access_of, operation_text, submission_of}
 use Rattle.script.specs.PacketWord.{packet_bytes}
-use Rattle.script.proofs.BytesRead.{bytes_read}
+use Rattle.script.proofs.PacketWords.{bytes_read}
 use Rattle.domain.specs.declared.entry.Entry.{Entry}
 use Rattle.domain.specs.declared.entry.Entry.TheVariants as entry
 use Rattle.journal_text.specs.Fields.{access_by, addressee_of, alien_of, answer_of, entry_of, entry_of_word, parties_of, place_of}

@@ -25,10 +25,10 @@ use Rattle.tlp_view.specs.Malformed as tlp
 use Rattle.tlp_view.specs.Packet.{Packet, address_in, status_in}
 use Rattle.tlp_view.specs.declared.kind.Kind.{Kind}
 use Rattle.tlp_view.specs.declared.kind.Kind.TheVariants.{MRd, MRdLk, MWr, IORd, IOWr, CfgRd0, CfgWr0, CfgRd1, CfgWr1, Msg, MsgD, Cpl, CplD, CplLk, CplDLk, FetchAdd, Swap, CAS}
+use Rattle.text.specs.Bytes.{is_lower_digit}
+use Rattle.text.proofs.BytesRead.{digits_lower}
 use Rattle.text.proofs.Ids.{id_word}
 use Rattle.text.proofs.LineLemmas.{IsLine, is_inline, line_of, line_of_word, lines_joined}
-use Rattle.script.specs.PacketWord.{is_lower_digit}
-use Rattle.script.proofs.BytesRead.{digits_lower}
 use Rattle.reports.specs.Report.{status_name}
 use Rattle.domain.specs.declared.entry.Entry.{Entry}
 use Rattle.domain.specs.declared.entry.Entry.TheVariants as entry

@@ -11,9 +11,10 @@ use Rattle.hex.proofs.HexLemmas.{decode_of-ok}
 use Rattle.fab_types.specs.declared.host_access.HostAccess.{HostAccess}
 use Rattle.fab_types.specs.declared.host_access.Operation.{Operation}
 use Rattle.fab_types.specs.declared.host_access.Operation.TheVariants.{Read, Write}
+use Rattle.text.specs.Bytes.{is_hexadecimal}
 use Rattle.text.specs.Text.{at_blank, decimal, hexadecimal, id_at}
 use Rattle.script.specs.Commands.{access_of, access_text, command_of, command_of_word, decimal_within, domain_text, mmio_text, operation_text, submission_of, submit_text, sweep_text, tick_text}
-use Rattle.script.specs.PacketWord.{is_hexadecimal, packet_bytes}
+use Rattle.script.specs.PacketWord.{packet_bytes}
 use Rattle.script.specs.declared.lines.Command.{Command}
 use Rattle.script.specs.declared.lines.Command.TheVariants.{Submit, Tick, Mmio, Sweep}
 use Rattle.line_texts.proofs.ReadRanges.{came, count_small, hexadecimal_small, id_small, if-some, mapped-from}

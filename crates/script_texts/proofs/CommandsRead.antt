@@ -11,16 +11,18 @@ use Rattle.fab_types.specs.Texts.{id_text}
 use Rattle.fab_types.specs.declared.host_access.HostAccess.{HostAccess}
 use Rattle.fab_types.specs.declared.host_access.Operation.{Operation}
 use Rattle.fab_types.specs.declared.host_access.Operation.TheVariants.{Read, Write}
+use Rattle.text.specs.Bytes.{is_lower_digit}
 use Rattle.text.specs.Text as text
 use Rattle.text.specs.Words.{IsWord, is_inner}
+use Rattle.text.proofs.BytesRead.{digits_lower}
 use Rattle.text.proofs.Ids.{id_read, id_word}
 use Rattle.text.proofs.LineLemmas.{IsLine, lines_joined}
 use Rattle.text.proofs.WordLemmas.{first}
 use Rattle.script.specs.Commands.{access_of, access_text, command_of, command_of_word, decimal_within, mmio_text, operation_text, submission_of, submit_text, sweep_text}
-use Rattle.script.specs.PacketWord.{is_lower_digit, packet_bytes}
+use Rattle.script.specs.PacketWord.{packet_bytes}
 use Rattle.script.specs.declared.lines.Command.{Command}
 use Rattle.script.specs.declared.lines.Command.TheVariants.{Submit, Tick, Mmio, Sweep}
-use Rattle.script.proofs.BytesRead.{bytes_read, digits_lower}
+use Rattle.script.proofs.PacketWords.{bytes_read}
 use Rattle.line_texts.specs.Ranges.{IsId}
 use Rattle.line_texts.specs.Words.{hex_text, more_words}
 use Rattle.line_texts.proofs.Digits.{count_read, digits_word, hex_read, hex_word}

@@ -3,3 +3,5 @@ pub mod Pieces
 pub mod WordLemmas
 pub mod LineLemmas
 pub mod Ids
+pub mod Decoding
+pub mod BytesRead

@@ -1,11 +1,12 @@
 -- Cuts of a text, and the numbers that digits spell.
-use Rattle.std.proofs.Common.{◌≡◌, ℕ, ◌+◌, ◌-◌, ◌*◌, ◌^◌, ◌<◌, ◌≤◌, List, length, get_or, take, drop, Option, Some, None, refl, ap, arith, add-one, lit<}
+use Rattle.std.proofs.Common.{◌≡◌, ℕ, ◌+◌, ◌-◌, ◌*◌, ◌^◌, ◌<◌, ◌≤◌, ◌&&◌, ◌||◌, Bool, true, false, cond, nat_le, List, length, get_or, take, drop, Option, Some, None, refl, ap, arith, add-one, lit<}
 use Rattle.std.specs.Prelude.{option_map, IfSome}
 use Rattle.std.specs.List.{position}
 use Rattle.std.proofs.lemmas.List.{take_rest}
 use Rattle.std.proofs.Math.Seq.{drop-cons}
 use Rattle.std.proofs.Math.Nat.{pow-suc, pow-le-pow_right}
-use Rattle.text.specs.Text.{cut, cut_at, is_byte, digits}
+use Rattle.text.specs.Bytes.{is_lower_digit}
+use Rattle.text.specs.Text.{cut, cut_at, is_byte, digits, hex_digit}
 
 pub cut-some : (byte at : ℕ) (text : List ℕ) → Some at ≡ position (is_byte byte) text → Some (take at text, take (length text - (at + 1)) (drop (at + 1) text)) ≡ cut byte text
 unfolding cut
@@ -14,6 +15,15 @@ cut-some byte at text e = rw (take_rest text (at + 1)) (ap (λ (p : Option ℕ).
 pub cut-none : (byte : ℕ) (text : List ℕ) → None ≡ position (is_byte byte) text → None ≡ cut byte text
 unfolding cut
 cut-none byte text e = ap (λ (p : Option ℕ). option_map (cut_at text) p) e
+
+-- what passes no test of a digit is none
+neither : (a b : Bool) (m n : ℕ) → (a || b) ≡ false → cond a (Some m) (cond b (Some n) None) ≡ None
+neither true b m n h = absurd cc
+neither false true m n h = absurd cc
+neither false false m n h = refl
+
+pub no_digit : (c : ℕ) → is_lower_digit c ≡ false → hex_digit c ≡ None
+no_digit c h = neither (nat_le 48 c && nat_le c 57) (nat_le 97 c && nat_le c 102) (c - 48) (c - 87) h
 
 -- one more digit is read
 pub digits-step : (digit : ℕ → Option ℕ) (base high d i : ℕ) (text : List ℕ) → i < length text → Some d ≡ digit (get_or text i 0)

@@ -3,6 +3,7 @@
 ghost use Rattle.std.specs.Prelude.{◌≡◌, ℕ, ◌<◌, ◌≤◌, ◌^◌, length, IfSome};
 ghost use Rattle.text.specs.Text.{decimal_digit, hex_digit, digits, decimal, wide_decimal, hexadecimal, hex_pair, id_of_known, id_of_parts, id_at};
 
+use crate::bytes::{digit_value, is_lower_digit};
 use fab_types::Bdf;
 
 fn decimal_digit(byte: u8) -> Option<u8>
@@ -17,17 +18,16 @@ fn decimal_digit(byte: u8) -> Option<u8>
 }
 
 /// A hexadecimal digit, in lower case.
+#[tactic(auto, using(crate::proofs::TextLemmas::no_digit))]
 fn hex_digit(byte: u8) -> Option<u8>
     ensures value { result ≡ hex_digit byte }
     ensures small { IfSome result (λ digit. digit < 16) }
 {
-    if b'0' <= byte && byte <= b'9' {
-        return Some(byte - b'0');
+    if is_lower_digit(byte) {
+        Some(digit_value(byte))
+    } else {
+        None
     }
-    if b'a' <= byte && byte <= b'f' {
-        return Some(byte - 87);
-    }
-    None
 }
 
 /// Twenty digits fit in 128 bits with room to spare.

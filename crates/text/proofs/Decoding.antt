@@ -13,7 +13,7 @@ use Rattle.hex.specs.declared.error.FromHexError.{FromHexError}
 use Rattle.hex.specs.Hex.{decode_of, decode_pairs, hex_digit_value, is_hex_digit, pair_value}
 use Rattle.hex.proofs.HexLemmas.{decode_of-digits, decode_of-even}
 use Rattle.hex.proofs.Pairs.{cons_byte, decode_pairs-ok_pair, drop-pair, prepend, prepend-cons_byte}
-use Rattle.script.specs.PacketWord.{is_hexadecimal, is_lower_digit}
+use Rattle.text.specs.Bytes.{is_hexadecimal, is_lower_digit}
 
 -- a digit in lower case is a digit
 is_hex_digit-from_lower : (c : ℕ) → is_lower_digit c ≡ true → is_hex_digit c ≡ true
