@@ -10,13 +10,13 @@ ghost use Rattle.fab_types.specs.declared.faults.begin.MmioFault.{MmioFault};
 ghost use Rattle.frame_log.specs.Descriptor.{Descriptor};
 ghost use Rattle.port_queue.specs.Leaving.{has};
 ghost use Rattle.lane.specs.Lanes.{Class, eligible};
-ghost use Rattle.domains.specs.Domains.{Emits, IsGivenBack, IsStray, delivered as delivery, domain_at, made, made_at, mmio_refusal, place_of, place_of_function, submit_refusal, tick_refusal};
+ghost use Rattle.domains.specs.Domains.{Emits, IsGivenBack, IsStray, domain_at, made, made_at, mmio_refusal, place_of, place_of_function, submit_refusal, tick_refusal};
 ghost use Rattle.agents.specs.Agents.{AreFound, AreReplayed, accessed, carried_at, carried_by_function, carried_by_host, IsSettled, delivered, agents_of, is_function_of, submitted, taken_from, ticked, waiting_of};
 
-use domain::{Domain, Record};
+use domain::Domain;
 use domains::Domains;
 use fab_types::{
-    Bdf, Class, DomainId, Head, HostAccess, MmioFault, NoMemory, Origin, PacketBytes, PortId,
+    Bdf, Class, DomainId, HostAccess, MmioFault, NoMemory, Origin, PacketBytes, PortId,
     SubmitFault, TickFault,
 };
 use frame_log::{Frame, FrameFault};
@@ -189,18 +189,7 @@ impl Agents {
         }
     }
 
-    /// A completion reached whom it answers. It answers the record that it made, if it closed a Tag.
-    pub fn deliver(&mut self, frame: Frame) -> Result<Option<Record>, FrameFault>
-        ensures ok { OnOk result (delivered self.old frame ≡ Some self.new) }
-        ensures record { IfOk result (λ given. given ≡ delivery self.old.domains frame) }
-        ensures fault { IfErr result (λ fault. IsStray (made self.old.domains frame.domain (Deliver frame.number)) frame fault) }
-        ensures stray { delivered self.old frame ≡ None → result ≡ Err (FrameFault.Stray frame) }
-        ensures err { OnErr result (self.new ≡ self.old) }
-    {
-        self.domains.deliver(frame)
-    }
-
-    /// The same as `deliver` without the record, of which no copy is made then.
+    /// A completion reached whom it answers.
     pub fn complete(&mut self, frame: Frame) -> Result<(), FrameFault>
         ensures ok { OnOk result (delivered self.old frame ≡ Some self.new) }
         ensures fault { IfErr result (λ fault. IsStray (made self.old.domains frame.domain (Deliver frame.number)) frame fault) }
@@ -208,13 +197,6 @@ impl Agents {
         ensures err { OnErr result (self.new ≡ self.old) }
     {
         self.domains.complete(frame)
-    }
-
-    /// What ports read of the eligible packet of a class that an origin has waiting.
-    pub fn head(&self, origin: Origin, class: Class) -> Option<Head>
-        ensures { result ≡ option_map (λ taken. taken.0.head) (eligible class (waiting_of self.now.outboxes origin)) }
-    {
-        self.outboxes.head(origin, class)
     }
 
     /// Does no packet wait in the outbox of this origin? So it is too where there is no such outbox.

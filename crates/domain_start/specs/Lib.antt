@@ -2,4 +2,3 @@ pub mod Reach
 pub mod Buses
 pub mod Tables
 pub mod Starts
-pub mod First

@@ -1,15 +1,14 @@
 //! What a domain starts from.
 
-ghost use Rattle.std.specs.Prelude.{◌≡◌, ◌≤◌, IfOk, [], ◌∷◌};
+ghost use Rattle.std.specs.Prelude.{◌≡◌, ◌≤◌, IfOk};
 ghost use Rattle.std.specs.List.Sorted.{IsStrictlyIncreasing};
 ghost use Rattle.platform.specs.Share.{Share, IsShare, is_guarded};
-ghost use Rattle.domain_start.specs.First.{first_share};
 ghost use Rattle.domain_start.specs.Buses.{bus_entry};
 ghost use Rattle.domain_start.specs.Tables.{MapsOnce};
 
 use crate::buses::{BusEntry, bus_table};
-use fab_types::{AcsControl, Bdf, DomainId, NoMemory, PortId};
-use platform::{DownstreamPort, EndpointFunction, MapTarget, Mapping, Rights, Switch, are_guarded};
+use fab_types::{DomainId, NoMemory};
+use platform::{DownstreamPort, EndpointFunction, Mapping, Switch, are_guarded};
 use std::alloc::Global;
 use std::marker::Model;
 
@@ -51,55 +50,6 @@ impl Model for Start {
 }
 
 impl Start {
-    /// The start of domain 1 in the smallest platform.
-    /// That has a port with all controls set, above it one switch, below it function 03:00.0, whose page 1 is
-    /// mapped to frame 0 for reads and writes. The budget is 256 begins. It answers `NoMemory` where memory was
-    /// refused.
-    pub fn first(alloc: Global) -> Result<Start, NoMemory>
-        ensures { IfOk result (λ start. start ≡ first_share) }
-    {
-        let port = DownstreamPort {
-            id: PortId::new(Bdf::from_bits(0x0200)),
-            secondary: 3,
-            subordinate: 3,
-            base: 0x9000_0000,
-            limit: 0x900f_ffff,
-            controls: AcsControl::from_register(0x1f).unwrap(),
-            owner: DomainId::new(1).unwrap(),
-            egress_vector: None,
-        };
-        let function = EndpointFunction {
-            id: Bdf::from_bits(0x0300),
-            bar: 0x9000_0000,
-        };
-        let map = Mapping {
-            requester: function.id,
-            page: 1,
-            target: MapTarget::Frame(0),
-            rights: Rights {
-                read: true,
-                write: true,
-            },
-        };
-        let switch = Switch {
-            id: Bdf::from_bits(0x0100),
-            above: None,
-        };
-        let ports = vec![in alloc; port]?;
-        let functions = vec![in alloc; function]?;
-        let buses = bus_table(alloc, &ports, &functions, port.owner)?;
-        Ok(Start {
-            domain: port.owner,
-            budget: 256,
-            frames: vec![in alloc; 0]?,
-            maps: vec![in alloc; map]?,
-            switches: vec![in alloc; switch]?,
-            ports,
-            functions,
-            buses,
-        })
-    }
-
     /// The start of a domain to which a layout of these switches, ports and functions grants this.
     /// It answers `NoMemory` where memory was refused.
     pub fn of(

@@ -2,7 +2,6 @@
 -- all of them.
 use Rattle.std.specs.Prelude.{◌≡◌, ℕ, ◌==◌, List, [], ◌∷◌, ◌++◌, length, map, filter, slice_get, slice_set, Option, Some, None, IsSome, option_map}
 use Rattle.std.specs.List.{position, range_with_len}
-use Rattle.std.specs.Option.{option_and_then}
 use Rattle.fab_types.specs.declared.faults.begin.SubmitFault.{SubmitFault}
 use Rattle.fab_types.specs.declared.faults.begin.SubmitFault.TheVariants as submit
 use Rattle.fab_types.specs.declared.faults.begin.TickFault.{TickFault}
@@ -18,12 +17,11 @@ use Rattle.platform.specs.Share.{Share}
 use Rattle.layout.specs.Views.{share_of_domain}
 use Rattle.fab_types.specs.declared.host_access.HostAccess.{HostAccess}
 use Rattle.domain.specs.declared.entry.Entry.{Entry}
-use Rattle.domain.specs.Deliveries.{arrival, record_of_arrival}
 use Rattle.domain.specs.Domains.{DomainView}
 use Rattle.request_handling.specs.Heads.{descriptor_of}
 use Rattle.domain_parts.specs.HostAccesses.{mmio_fault}
 use Rattle.domain.specs.Machine.{change}
-use Rattle.domain_parts.specs.State.{Change, Delivery, item_at, start_state}
+use Rattle.domain_parts.specs.State.{Change, start_state}
 use Rattle.domain.specs.Submits.{submit_fault}
 use Rattle.domain.specs.Ticks.{tick_fault}
 
@@ -116,16 +114,6 @@ mmio_refusal_by (Some d) access = mmio_fault d.share d.state access
 
 abbrev pub mmio_refusal : List DomainView → ℕ → HostAccess → Option MmioFault
 mmio_refusal domains number access = mmio_refusal_by (domain_at domains (place_of domains number)) access
-
--- ---- the record of a delivery
-
-abbrev pub record_by : Option DomainView → ℕ → Option Delivery
-record_by None n = None
-record_by (Some d) n = option_and_then record_of_arrival (arrival d.state.open_tags (item_at d.state.flight n))
-
--- the record that the delivery of this packet makes, if it closes a Tag
-abbrev pub delivered : List DomainView → Descriptor → Option Delivery
-delivered domains frame = record_by (domain_at domains (place_of domains frame.domain)) frame.number
 
 -- ---- where they start
 

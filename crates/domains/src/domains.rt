@@ -8,15 +8,15 @@ ghost use Rattle.fab_types.specs.declared.faults.begin.TickFault.{TickFault};
 ghost use Rattle.fab_types.specs.declared.faults.begin.MmioFault.{MmioFault};
 ghost use Rattle.frame_log.specs.Descriptor.{IsCompletion};
 ghost use Rattle.domains.specs.Aliens.{IsUntaken, aliened, answers, owner_of_frame};
-ghost use Rattle.domains.specs.Domains.{Emits, IsGivenBack, IsHome, IsStray, delivered, domain_at, made, made_at, mmio_refusal, place_of, place_of_function, submit_refusal, starting_domains, tick_refusal};
+ghost use Rattle.domains.specs.Domains.{Emits, IsGivenBack, IsHome, IsStray, domain_at, made, made_at, mmio_refusal, place_of, place_of_function, submit_refusal, starting_domains, tick_refusal};
 
 use crate::aliens::{alien_at, answers_alien, has_alien};
 use crate::begins::{mmio_at, submit_at, tick_at};
-use crate::ends::{carry_at, complete_at, deliver_at, refuse_at};
+use crate::ends::{carry_at, complete_at, refuse_at};
 use crate::indexing::{index_of, indexed_home, indexed_place};
 use crate::places::owner_of_frame;
 use crate::starts::domains_of;
-use domain::{Domain, Record};
+use domain::Domain;
 use fab_types::{
     Bdf, DomainId, HostAccess, MmioFault, NoMemory, PacketBytes, Place, PortId, SubmitFault,
     TickFault,
@@ -192,21 +192,7 @@ impl Domains {
         }
     }
 
-    /// A completion reached whom it answers. It answers the record that it made, if it closed a Tag.
-    pub fn deliver(&mut self, frame: Frame) -> Result<Option<Record>, FrameFault>
-        ensures ok { IfOk result (λ given. made self.old frame.domain (Deliver frame.number) ≡ Some (record { domains = self.new; sent = None })) }
-        ensures delivery { IfOk result (λ given. given ≡ delivered self.old frame) }
-        ensures fault { IfErr result (λ fault. IsStray (made self.old frame.domain (Deliver frame.number)) frame fault) }
-        ensures stray { made self.old frame.domain (Deliver frame.number) ≡ None → result ≡ Err (FrameFault.Stray frame) }
-        ensures err { OnErr result (self.new ≡ self.old) }
-    {
-        match self.place(frame.domain()) {
-            Some(place) => deliver_at(&mut self.domains, place, frame),
-            None => Err(FrameFault::Stray(frame)),
-        }
-    }
-
-    /// The same as `deliver` without the record, of which no copy is made then.
+    /// A completion reached whom it answers.
     pub fn complete(&mut self, frame: Frame) -> Result<(), FrameFault>
         ensures ok { OnOk result (made self.old frame.domain (Deliver frame.number) ≡ Some (record { domains = self.new; sent = None })) }
         ensures fault { IfErr result (λ fault. IsStray (made self.old frame.domain (Deliver frame.number)) frame fault) }

@@ -1,13 +1,13 @@
 //! Ends of packets of the domain at a place.
 
-ghost use Rattle.std.specs.Prelude.{◌≡◌, ◌<◌, IfErr, IfOk, IfSome, None, OnErr, OnOk, Some, length, slice_get};
+ghost use Rattle.std.specs.Prelude.{◌≡◌, ◌<◌, IfErr, IfOk, IfSome, None, OnErr, OnOk, Some, length};
 ghost use Rattle.fab_types.specs.declared.origin.Origin.{Origin};
 ghost use Rattle.frame_log.specs.Descriptor.{IsCompletion};
 ghost use Rattle.domain.specs.declared.entry.Entry.TheVariants.{Carry, Deliver, Refuse};
 ghost use Rattle.domains.specs.Indexes.{place_of_origin};
-ghost use Rattle.domains.specs.Domains.{IsGivenBack, IsHome, IsStray, made_at, record_by};
+ghost use Rattle.domains.specs.Domains.{IsGivenBack, IsHome, IsStray, made_at};
 
-use domain::{Domain, Record};
+use domain::Domain;
 use fab_types::PortId;
 use frame_log::{Frame, FrameFault};
 use std::sync::Wait;
@@ -49,23 +49,6 @@ pub(crate) fn carry_at<R: Wait>(
 }
 
 /// A completion of the domain at this place reached whom it answers.
-pub(crate) fn deliver_at(
-    domains: &mut [Domain],
-    place: usize,
-    frame: Frame,
-) -> Result<Option<Record>, FrameFault>
-    requires within { place < length domains.old }
-    requires home { IsHome domains.old place frame.domain }
-    ensures ok { IfOk result (λ given. made_at domains.old (Deliver frame.number) (Some place) ≡ Some (record { domains = domains.new; sent = None })) }
-    ensures delivery { IfOk result (λ given. given ≡ record_by (slice_get domains.old place) frame.number) }
-    ensures fault { IfErr result (λ fault. IsStray (made_at domains.old (Deliver frame.number) (Some place)) frame fault) }
-    ensures err { OnErr result (domains.new ≡ domains.old) }
-    ensures places { (origin : Origin) → place_of_origin domains.new origin ≡ place_of_origin domains.old origin }
-{
-    domains[place].deliver(frame)
-}
-
-/// The same, for whoever doesn't want the record.
 pub(crate) fn complete_at(
     domains: &mut [Domain],
     place: usize,

@@ -127,14 +127,6 @@ impl HostMemory {
         })
     }
 
-    /// The numbers of the frames, rising.
-    pub fn numbers(&self) -> &[u16]
-        ensures value { result.now ≡ map (λ page. page.0) self.now }
-        ensures rising { IsStrictlyIncreasing result.now }
-    {
-        self.numbers.as_slice()
-    }
-
     /// The bytes of this frame, if it is of the domain.
     pub fn page(&self, frame: u16) -> Option<&[u8]>
         ensures bytes { option_copied result ≡ page_of self.now frame }

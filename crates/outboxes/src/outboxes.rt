@@ -10,7 +10,7 @@ use crate::changes::{more_at, put_at, take_at};
 use crate::indexing::{index_of, indexed_place};
 use crate::origin_box::OriginBox;
 use crate::starts::boxes_of;
-use fab_types::{Class, DomainId, Head, NoMemory, Origin};
+use fab_types::{Class, DomainId, NoMemory, Origin};
 use frame_log::Frame;
 use layout::Layout;
 use origin_index::OriginIndex;
@@ -118,15 +118,6 @@ impl Outboxes {
             Some(place) => self.boxes[place].leaving(),
             None => LeavingClasses::NONE,
         }
-    }
-
-    /// What ports read of the eligible packet of a class (PCIe 4.0, 2.4.1).
-    /// That is the oldest that this origin has waiting, unless an older posted one waits that it may not pass.
-    pub fn head(&self, origin: Origin, class: Class) -> Option<Head>
-        ensures { result ≡ option_map (λ taken. taken.0.head) (eligible class (waiting_of self.now origin)) }
-    {
-        let place = self.place(origin)?;
-        self.boxes[place].head(class)
     }
 
     /// The domain that made the eligible packet of a class of this origin.

@@ -2,7 +2,7 @@
 
 ghost use Rattle.std.specs.Prelude.{◌≡◌, ℕ, true};
 ghost use Rattle.tlp_view.specs.Kinds.{has_address};
-ghost use Rattle.request_handling.specs.Fates.{fails_egress, fails_source, fails_translation, fate, fate_at, goes_to, is_blocked_from, is_untranslated, packet_fate, returns_completion, returns_to_sender, stopped};
+ghost use Rattle.request_handling.specs.Fates.{fails_egress, fails_source, fails_translation, goes_to, is_blocked_from, is_untranslated, packet_fate, returns_completion, returns_to_sender, stopped};
 
 use crate::answers::address_of;
 use fab_types::{AddressType, Bdf, Class, Status};
@@ -119,25 +119,5 @@ pub(crate) fn packet_fate(
         stopped(Status::CA, class)
     } else {
         goes_to(start.direct_to(function, address_of(view)))
-    }
-}
-
-fn fate_at(start: &Start, function: Bdf, port: &DownstreamPort, bytes: &[u8]) -> Fate
-    ensures { result ≡ fate_at start.now.ports function port.now bytes.now }
-{
-    match TlpView::read(bytes) {
-        Ok(view) => packet_fate(start, function, port, &view),
-        Err(_) => Fate::Vanish,
-    }
-}
-
-/// What the function's first port does with these bytes of the function. Bytes that are no well-formed
-/// packet vanish, and so do those of a function without a first port.
-pub fn first_port_fate(start: &Start, function: Bdf, bytes: &[u8]) -> Fate
-    ensures { result ≡ fate start.now.ports function bytes.now }
-{
-    match start.first_port(function) {
-        Some(port) => fate_at(start, function, &port, bytes),
-        None => Fate::Vanish,
     }
 }

@@ -16,7 +16,7 @@ mod taker;
 pub use carriage::{access_of, carriage_up};
 pub use data_reply::DataReply;
 pub use disposition::Disposition;
-pub use fate::{Fate, first_port_fate};
+pub use fate::Fate;
 pub use handling::{Effect, Handling, Made, Reply, discarded};
 pub use heads::{head_of, target_for, well_formed_head};
 pub use page::{function_of, place};

@@ -22,6 +22,7 @@ use std::marker::Model;
 /// Where the links of a layout lead, and where the ports of its switches stand. A contract sees a `Tree`.
 #[derive(Drop)]
 pub struct Topology {
+    // how many outputs lead out of each node, by which contracts say which ends there are
     outputs: Vec<usize>,
     links: Vec<Link>,
     places: Vec<PortPlace>,
@@ -125,13 +126,6 @@ impl Topology {
             links,
             places,
         })
-    }
-
-    /// How many outputs lead out of each node.
-    pub fn outputs(&self) -> &[usize]
-        ensures { result.now ≡ self.now.outputs }
-    {
-        &self.outputs
     }
 
     /// All links. Those of switches come first, then those of functions, in the order of the layout's lines.
