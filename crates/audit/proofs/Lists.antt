@@ -9,7 +9,7 @@ use Rattle.std.proofs.lemmas.Bool.Decides.{eqb_tells}
 use Rattle.std.proofs.lemmas.Grind.{flat_map-append}
 use Rattle.std.proofs.lemmas.List.{append-nil, map-append, take_more}
 use Rattle.std.proofs.lemmas.List.Elements.{All-append, All-cons, All-nil}
-use Rattle.reports.proofs.Taking.{take_all, take_next}
+use Rattle.fab_types.proofs.Taking.{take_all, take_next}
 use Rattle.platform.specs.Platform.{Platform}
 use Rattle.platform.specs.Share.{Share}
 use Rattle.domain.specs.Domains.{DomainView}

@@ -4,7 +4,7 @@ use Rattle.std.specs.Prelude.{slice_index_or}
 use Rattle.std.specs.List.{flat_map}
 use Rattle.std.proofs.lemmas.Grind.{flat_map-append}
 use Rattle.std.proofs.lemmas.List.{append-nil, length-take-le}
-use Rattle.reports.proofs.Taking.{take_next}
+use Rattle.fab_types.proofs.Taking.{take_next}
 use Rattle.attacks.specs.declared.findings.Witness.{Witness}
 use Rattle.findings_text.specs.Remarks.{Told}
 use Rattle.findings_text.specs.Witnesses.{script_text}

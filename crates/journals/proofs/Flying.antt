@@ -6,7 +6,7 @@ use Rattle.std.proofs.lemmas.List.{append-nil}
 use Rattle.domain_parts.specs.State.{item_at}
 use Rattle.request_handling.specs.Emissions.{Emission}
 use Rattle.journal_text.specs.Journals.{numbers_from}
-use Rattle.reports.proofs.Taking.{take_all}
+use Rattle.fab_types.proofs.Taking.{take_all}
 
 abbrev Flight : Type 0
 Flight = List (Option Emission)

@@ -9,7 +9,7 @@ use Rattle.domain.specs.Machine.{change, replay, replay_from, step_from}
 use Rattle.domain.proofs.Replaying.{replay_stops}
 use Rattle.domain_parts.specs.State.{Alone, Change, start_state}
 use Rattle.journal_text.specs.declared.read.JournalLine.{JournalLine}
-use Rattle.reports.proofs.Taking.{take_next}
+use Rattle.fab_types.proofs.Taking.{take_next}
 use Rattle.journals.specs.Steps.{entries_of}
 
 entries-push : (lines : List JournalLine) (line : JournalLine) → entries_of (lines ++ line ∷ []) ≡ entries_of lines ++ line.entry ∷ []

@@ -3,3 +3,4 @@ pub mod Platform
 pub mod Share
 pub mod Owners
 pub mod Tree
+pub mod Rising

@@ -6,6 +6,7 @@ mod egress;
 mod guarded;
 mod owners;
 mod parts;
+mod rising;
 mod tree;
 
 pub use egress::{direct_to, goes_directly, holder_beside};
@@ -15,6 +16,7 @@ pub use parts::{
     Access, BudgetLine, CreditLimits, CreditLine, DownstreamPort, EndpointFunction, LayoutVersion,
     MapTarget, Mapping, Rights, Switch,
 };
+pub use rising::rising;
 pub use tree::{
     domain_of, find_port, has_root, id_below, internal_bus, is_on_bus, is_switch, is_taken,
     is_third_level, port_above, port_at, port_leading_to, switch_on,

@@ -1,3 +1,2 @@
 pub mod Parts
-pub mod Taking
 pub mod Writing

@@ -3,7 +3,7 @@ use Rattle.std.proofs.Common.{◌≡◌, ℕ, ◌+◌, ◌<◌, ◌≤◌, List,
 use Rattle.std.specs.Prelude.{slice_index_or}
 use Rattle.std.proofs.lemmas.List.{append-nil}
 use Rattle.domain.specs.Domains.{DomainView}
-use Rattle.reports.proofs.Taking.{take_all, take_next}
+use Rattle.fab_types.proofs.Taking.{take_all, take_next}
 use Rattle.reports.specs.Report.{AreParts, IsPart}
 
 parts_more : (ds : List DomainView) (d : DomainView) (text part : List ℕ) → AreParts ds text → IsPart d part → AreParts (ds ++ d ∷ []) (text ++ part)

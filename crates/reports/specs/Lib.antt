@@ -1,3 +1,2 @@
 pub mod Report
-pub mod Rising
 pub mod Writing

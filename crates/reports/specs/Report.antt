@@ -17,7 +17,7 @@ use Rattle.domain.specs.Domains.{DomainView}
 use Rattle.fab_types.specs.Origins.{origin_id}
 use Rattle.domain_parts.specs.State.{Delivery}
 use Rattle.monitor.specs.Lines.{violation_line}
-use Rattle.reports.specs.Rising.{IsRising}
+use Rattle.platform.specs.Rising.{IsRising}
 use Rattle.reports.specs.declared.rows.PageName.{PageName}
 use Rattle.reports.specs.declared.rows.PageName.TheVariants.{Frame, Registers}
 

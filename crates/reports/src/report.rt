@@ -4,13 +4,13 @@ ghost use Rattle.std.specs.Prelude.{◌≡◌, IfOk, OnOk};
 ghost use Rattle.std.specs.List.{flat_map};
 ghost use Rattle.std.specs.Io.KnownBytes.{Appends};
 ghost use Rattle.reports.specs.Report.{AreParts, IsHolding, IsPart, counts_line, memory_lines, own_functions, packet_text, record_head, record_line, refusal_line, register_lines, status_name, violation_lines, violation_row};
-ghost use Rattle.reports.specs.Rising.{IsRising};
+ghost use Rattle.platform.specs.Rising.{IsRising};
 ghost use Rattle.reports.specs.Writing.{Wrote};
 
-use crate::ids::rising;
 use crate::rows::{PageName, write_rows};
 use domain::{Domain, Record};
 use fab_types::{Bdf, BeginFault, NoMemory, Origin, Status, Violation};
+use platform::rising;
 use std::alloc::{AllocError, Global};
 use std::io;
 use std::io::{ErrorKind, Write};

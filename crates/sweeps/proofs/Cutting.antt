@@ -14,7 +14,7 @@ use Rattle.fabric_core.specs.Stations.{events_at}
 use Rattle.fabric_core.specs.World.{World}
 use Rattle.sweeps.specs.Sweeps.{CutShort, Sweeps, SweepsCutShort}
 use Rattle.sweeps.proofs.Running.{sweep_then}
-use Rattle.reports.proofs.Taking.{take_next}
+use Rattle.fab_types.proofs.Taking.{take_next}
 
 -- ---- events of a sweep
 

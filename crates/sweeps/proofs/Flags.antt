@@ -6,7 +6,7 @@ use Rattle.std.proofs.lemmas.List.{get_or-replicate, length-map, length-replicat
 use Rattle.std.proofs.lemmas.List.Elements.{Contains-append_cases}
 use Rattle.std.proofs.lemmas.Option.{get_or_from_slice_get, same_Some, slice_get_within}
 use Rattle.topology.proofs.Members.{cases_contained, nothing_contained}
-use Rattle.reports.proofs.Taking.{take_all, take_next}
+use Rattle.fab_types.proofs.Taking.{take_all, take_next}
 use Rattle.sweeps.specs.declared.moves.Moves.{Moves}
 use Rattle.sweeps.specs.declared.stop.Stop.{Stop}
 use Rattle.sweeps.specs.Asleep.{AreWoken, IsSettledAt, IsUnblocked, IsUnwoken, Nowhere, has_moved}

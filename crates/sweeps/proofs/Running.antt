@@ -19,7 +19,7 @@ use Rattle.fabric_core.proofs.effect.QuietStations.{none_leaves}
 use Rattle.fabric_core.specs.Stations.{events_at, taking}
 use Rattle.fabric_core.specs.World.{World}
 use Rattle.sweeps.specs.Sweeps.{Sweeps, SweepsUpTo, is_moved, lacks_memory}
-use Rattle.reports.proofs.Taking.{take_all, take_next}
+use Rattle.fab_types.proofs.Taking.{take_all, take_next}
 
 -- ---- events of a sweep
 

@@ -28,7 +28,7 @@ use Rattle.fabric_core.specs.Still.{IsStationOf, IsStill}
 use Rattle.fabric_core.specs.World.{World, world_of}
 use Rattle.fabric_core.proofs.progress.Elsewhere.{still_elsewhere}
 use Rattle.fabric_core.proofs.progress.Stations.{station_listed}
-use Rattle.reports.specs.Rising.{IsRising}
+use Rattle.platform.specs.Rising.{IsRising}
 use Rattle.sweeps.specs.Sweeps.{IsSweep, Places, Sweeps, both_ways, host_outbox, is_moved, lacks_memory, stations_of}
 
 -- ---- one event

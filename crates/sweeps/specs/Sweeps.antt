@@ -13,7 +13,7 @@ use Rattle.fabric_core.specs.Events.{StepsTo}
 use Rattle.fabric_core.specs.Runs.{Run}
 use Rattle.fabric_core.specs.Stations.{events_at}
 use Rattle.fabric_core.specs.World.{World}
-use Rattle.reports.specs.Rising.{IsRising}
+use Rattle.platform.specs.Rising.{IsRising}
 
 -- ---- the events of a sweep
 

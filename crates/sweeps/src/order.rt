@@ -4,14 +4,14 @@ ghost use Rattle.std.specs.Prelude.{◌≡◌, ◌++◌, IfOk, OnOk, map};
 ghost use Rattle.std.specs.List.{flat_map};
 ghost use Rattle.fabric_core.specs.Stations.{events_at};
 ghost use Rattle.fabric_core.specs.declared.station.Station.TheVariants as station;
-ghost use Rattle.reports.specs.Rising.{IsRising};
+ghost use Rattle.platform.specs.Rising.{IsRising};
 ghost use Rattle.sweeps.specs.Sweeps.{IsSweep, both_ways, host_outbox};
 
 use domain::Domain;
 use fab_types::{Bdf, Direction, NoMemory, PortId, Way};
 use fabric_core::Station;
 use layout::Layout;
-use reports::rising;
+use platform::rising;
 use std::alloc::{AllocError, Global};
 
 /// The functions of a layout, by rising ID.

@@ -3,7 +3,7 @@ use Rattle.std.proofs.Common.{◌≡◌, ℕ, ◌+◌, ◌<◌, ◌≤◌, List,
 use Rattle.std.specs.Prelude.{slice_index_or}
 use Rattle.std.proofs.lemmas.List.{append-nil, get_or-map}
 use Rattle.domain.specs.Domains.{DomainView}
-use Rattle.reports.proofs.Taking.{take_all, take_next}
+use Rattle.fab_types.proofs.Taking.{take_all, take_next}
 use Rattle.threads_command.specs.Counted.{AreCountedParts, IsCountedPart}
 use Rattle.totals.specs.declared.totals.Totals.{Totals}
 

@@ -1,7 +1,7 @@
 use Rattle.std.proofs.Common.{◌∙◌, ap}
 use Rattle.std.proofs.Math.ListN.{drop_of_length-le}
 use Rattle.domain_parts.specs.State.{start_state}
-use Rattle.reports.proofs.Taking.{take_all, take_next}
+use Rattle.fab_types.proofs.Taking.{take_all, take_next}
 use Rattle.journals.proofs.Writing.{at_first, dropped, is_read_back, next_is_legal, ok_last, one_more}
 use Rattle.journals.proofs.write.write_journal.Goals as goal
 

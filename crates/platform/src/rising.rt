@@ -1,7 +1,7 @@
 //! IDs in their order.
 
 ghost use Rattle.std.specs.Prelude.{IfOk};
-ghost use Rattle.reports.specs.Rising.{IsRising};
+ghost use Rattle.platform.specs.Rising.{IsRising};
 
 use fab_types::Bdf;
 use std::alloc::AllocError;
