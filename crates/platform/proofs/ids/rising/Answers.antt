@@ -1,5 +1,5 @@
 use Rattle.std.proofs.lemmas.List.Sorted.{IsNonDecreasingBy-from_sort}
-use Rattle.platform.proofs.rising.rising.Goals as goal
+use Rattle.platform.proofs.ids.rising.Goals as goal
 
 pub returns : goal.returns
 returns c = record {
