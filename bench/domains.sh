@@ -13,13 +13,13 @@ here=$(cd "$(dirname "$0")/.." && pwd)
 work=$(mktemp -d)
 trap 'rm -rf "$work"' EXIT
 mkdir -p "$work/crates/begins/src" "$work/texts"
-for crate in fab_types tlp_view function frame_log text layout_line platform domain_start layout host_memory host_table request_handling domain_parts domain; do
+for crate in fab_types tlp_view function frame_log text layout_line platform layout host_memory host_table request_handling domain_state domain; do
     cp -r "$here/crates/$crate" "$work/crates/$crate"
     rm -rf "$work/crates/$crate/must-fail"
 done
 cp "$here/HANDLES" "$work"
 {
-    grep -E '^(fab_types|tlp_view|function|frame_log|text|layout_line|platform|domain_start|layout|host_memory|host_table|request_handling|domain_parts|domain):' "$here/crates.txt"
+    grep -E '^(fab_types|tlp_view|function|frame_log|text|layout_line|platform|layout|host_memory|host_table|request_handling|domain_state|domain):' "$here/crates.txt"
     echo 'begins: fab_types frame_log layout domain'
 } > "$work/crates.txt"
 

@@ -52,12 +52,12 @@ GENERATOR
 
 . "$here/bench/work.sh"
 mkdir -p "$work/crates/layouts/src" "$work/texts"
-for crate in fab_types text layout_line platform domain_start layout; do
+for crate in fab_types text layout_line platform layout; do
     cp -r "$here/crates/$crate" "$work/crates/$crate"
     rm -rf "$work/crates/$crate/must-fail"
 done
 {
-    grep -E '^(fab_types|text|layout_line|platform|domain_start|layout):' "$here/crates.txt"
+    grep -E '^(fab_types|text|layout_line|platform|layout):' "$here/crates.txt"
     echo 'layouts: fab_types layout'
 } > "$work/crates.txt"
 

@@ -17,7 +17,7 @@ trap 'rm -rf "$work"' EXIT
 libraries='fab_types frame_log layout domain script fabric_core sweeps layout_tests'
 copy_crates $libraries
 add_program refused "$here/bench/refused_events" $libraries
-cp "$here/crates/run_tests/src/moves.rt" "$work/crates/refused/src"
+cp "$here/crates/fabric_tests/src/moves.rt" "$work/crates/refused/src"
 build
 program=$work/crates/refused/out/refused_tests
 cc -O2 -shared -fPIC -o "$work/refuse.so" "$here/bench/refusals/refuse.c" -ldl

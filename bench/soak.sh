@@ -34,8 +34,7 @@ work=$(mktemp -d)
 trap 'rm -rf "$work"' EXIT
 . "$here/bench/crates.sh"
 
-libraries='fab_types frame_log platform layout domain script function_work root_work link_side outboxes injector wiring even_gate
-    port_threads'
+libraries='fab_types frame_log platform layout domain script thread_workers outboxes injector thread_rings port_threads'
 copy_crates $libraries
 add_program soak "$here/bench/soak" $libraries
 build

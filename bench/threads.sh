@@ -18,9 +18,9 @@ work=$(mktemp -d)
 trap 'rm -rf "$work"' EXIT
 . "$here/bench/crates.sh"
 
-rings='fab_types frame_log crew wiring'
-turns='fab_types frame_log credit layout bridge switch_output port domain locks monitor wiring link_side plan port_work'
-floods='fab_types layout injector fabric_core sweeps even_gate port_threads'
+rings='fab_types frame_log thread_crew thread_rings'
+turns='fab_types frame_log credit layout bridge switch_output port domain thread_domains monitor thread_rings thread_workers thread_plan'
+floods='fab_types layout injector fabric_core sweeps port_threads'
 
 copy_crates $rings $turns $floods
 for name in rings turns floods; do

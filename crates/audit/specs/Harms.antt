@@ -8,7 +8,7 @@ use Rattle.fab_types.specs.declared.origin.Origin.TheVariants.{Function}
 use Rattle.fab_types.specs.declared.status.Status.{Status}
 use Rattle.fab_types.specs.declared.status.Status.TheVariants.{SC, UR, CRS, CA}
 use Rattle.host_memory.specs.Pages.{page_of}
-use Rattle.domain_parts.specs.State.{Delivery}
+use Rattle.domain_state.specs.State.{Delivery}
 use Rattle.domain.specs.declared.entry.Entry.{Entry}
 use Rattle.domain.specs.declared.entry.Entry.TheVariants.{Alien}
 use Rattle.domain.specs.Domains.{DomainView}

@@ -2,8 +2,8 @@
 use Rattle.std.proofs.Common.{◌≡◌, ◌⊎◌, ℕ, Result, Ok, Err, IfErr, inl, inr, refl, sym, subst}
 use Rattle.std.specs.Result.{IsErrAnd}
 use Rattle.std.specs.declared.io.Error.{Error}
-use Rattle.journals.specs.declared.lines.LineFault.{LineFault}
-use Rattle.journals.specs.declared.lines.LineFault.TheVariants as line_faults
+use Rattle.journal_text.specs.declared.replaying.LineFault.{LineFault}
+use Rattle.journal_text.specs.declared.replaying.LineFault.TheVariants as line_faults
 use Rattle.inputs.specs.Endings.{IsRunFault, IsWriterFault, fault_of_line}
 use Rattle.inputs.specs.declared.fault.Fault.{Fault}
 use Rattle.inputs.specs.declared.fault.Fault.TheVariants as fault

@@ -4,3 +4,4 @@ pub mod Settling
 pub mod Owning
 pub mod Faults
 pub mod Reading
+pub mod ScriptFiles

@@ -15,7 +15,7 @@ use Rattle.layout.specs.Views.{share_of_domain, share_of_owner}
 use Rattle.script.specs.declared.lines.Line.{Line}
 use Rattle.domain.specs.Domains.{DomainView}
 use Rattle.domains.specs.Domains.{domain_at, fresh, place_of, starting_domains, starting_domains_among}
-use Rattle.agents.proofs.Lists.{position_map}
+use Rattle.domains.proofs.Lists.{position_map}
 use Rattle.topology.proofs.Members.{mapped, mapped_from, passes, passing}
 use Rattle.fabric_core.specs.Runs.{share_of}
 use Rattle.fabric_core.specs.World.{World, world_of}

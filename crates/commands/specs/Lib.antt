@@ -5,4 +5,9 @@ pub mod Runs
 pub mod Isolated
 pub mod Settled
 pub mod Owners
-pub mod Refusals
+pub mod ReplayRefusals
+pub mod Drawn
+pub mod Imported
+pub mod ImportRefusals
+pub mod Explained
+pub mod ExplainScripts

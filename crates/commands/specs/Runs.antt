@@ -17,7 +17,7 @@ use Rattle.commands.specs.Settled.{Settles}
 use Rattle.reports.specs.Report.{IsPart}
 use Rattle.journal_text.specs.Journals.{IsReadBack, journal_text}
 use Rattle.journal_text.specs.Reading as journal
-use Rattle.journals.specs.Steps.{entries_of}
+use Rattle.journal_text.specs.Steps.{entries_of}
 use Rattle.journal_text.specs.declared.read.JournalLine.{JournalLine}
 
 -- What `run` prints: the fabric of the one file is driven by the other, and of that the begins that were refused, as

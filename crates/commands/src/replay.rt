@@ -4,7 +4,7 @@ ghost use Rattle.std.specs.Prelude.{◌≡◌, ◌⊎◌, IfErr, OnOk};
 ghost use Rattle.inputs.specs.Endings.{IsRunFault};
 ghost use Rattle.inputs.specs.Refusals.{HasNoText, IsNoLayout, IsNoOwner};
 ghost use Rattle.reports.specs.Writing.{Wrote};
-ghost use Rattle.commands.specs.Refusals.{HasIllegalEntry, HasNoJournal};
+ghost use Rattle.commands.specs.ReplayRefusals.{HasIllegalEntry, HasNoJournal};
 ghost use Rattle.commands.specs.Runs.{ReplayPrints};
 
 use crate::report::write_part;
@@ -36,7 +36,7 @@ pub fn replay<'a, R: Wait, F: FileGiver, W: Write>(
     let text = text_of(files, journal_name)?;
     let start = start_of(alloc, &layout, number)?;
     let journal = journal_of(alloc, start.domain(), text.as_str())?;
-    let domain = journals::replay(rt, alloc, &start, journal.lines())?;
+    let domain = journal_text::replay(rt, alloc, &start, journal.lines())?;
     write_part(alloc, out, &domain)?;
     Ok(())
 }

@@ -13,7 +13,7 @@ use command_line::Files;
 use domain::Domain;
 use fab_types::ReplayFault;
 use inputs::{Fault, FileGiver, Inputs, inputs_of, layout_of, script_of};
-use journals::write_journal;
+use journal_text::write_journal;
 use layout::{Layout, Start};
 use script::Line;
 use std::alloc::Global;

@@ -29,7 +29,7 @@ use Rattle.platform.specs.declared.parts.MapTarget.TheVariants.{Frame, Peer}
 use Rattle.platform.specs.declared.parts.DownstreamPort.{DownstreamPort}
 use Rattle.platform.specs.Owners.{bar_of, first_port, is_own_function, owner_of}
 use Rattle.platform.specs.Share.{Share}
-use Rattle.domain_start.specs.Tables.{target_of}
+use Rattle.platform.specs.Tables.{target_of}
 use Rattle.function.specs.declared.plan.Plan.{Plan}
 use Rattle.function.specs.declared.plan.Plan.TheVariants.{Nothing, Halt, Fault, Pass, Emit}
 use Rattle.function.specs.Accesses.{answer as page_answer}
@@ -42,7 +42,7 @@ use Rattle.tlp_view.specs.View.{address_type_in}
 use Rattle.tlp_view.specs.Runs.{runs, is_write}
 use Rattle.tlp_view.specs.Bytes.{packet_of}
 use Rattle.fab_types.specs.declared.host_access.HostAccess.{HostAccess}
-use Rattle.domain_parts.specs.declared.counts.Counts.{Counts}
+use Rattle.domain_state.specs.declared.counts.Counts.{Counts}
 use Rattle.request_handling.specs.declared.handling.Effect.{Effect}
 use Rattle.request_handling.specs.declared.handling.Effect.TheVariants.{Leave, Block, Store, Add, Access}
 use Rattle.request_handling.specs.declared.handling.Handling.{Handling}
@@ -63,17 +63,17 @@ use Rattle.request_handling.specs.Answers.{address_of, answered_by, function_ans
 use Rattle.request_handling.specs.AtFunctions.{access_of, discarded}
 use Rattle.request_handling.specs.Carries.{add_if, carriage_by, carriage_of, forward, frame_for, from_frame, is_carried, is_owner, port_id, read_from, refusal_by, refusal_of, refused_by_host, serve, serve_add, serve_read, to_frame, write_to}
 use Rattle.domain.specs.Deliveries.{Arrival, arrival_by, arrival_of, arriving_at, arrived, recorded, unexpected}
-use Rattle.domain_parts.specs.Ends.{blocked, conclude, done, replied, with_access, with_added, with_stored}
+use Rattle.domain_state.specs.Ends.{blocked, conclude, done, replied, with_access, with_added, with_stored}
 use Rattle.request_handling.specs.Fates.{fate, fate_at}
 use Rattle.request_handling.specs.Heads.{target_for}
 use Rattle.domain.specs.Machine.{aliens_from, aliens_in, carry, change, deliver, refuse, replay, replay_from, with_alien}
 use Rattle.request_handling.specs.Emissions.{Emission}
 use Rattle.request_handling.proofs.Discarding.{answer_discarded}
-use Rattle.domain_parts.specs.State.{Alone, Change, Delivery, begun, emits_nothing, item_at, start_state, with_emission, without}
-use Rattle.domain_parts.specs.HostAccesses.{host_emission, is_in_page, mmio_fault, mmio_unless, mmio_with, opened_for, size_of, tag_for}
+use Rattle.domain_state.specs.State.{Alone, Change, Delivery, begun, emits_nothing, item_at, start_state, with_emission, without}
+use Rattle.domain_state.specs.HostAccesses.{host_emission, is_in_page, mmio_fault, mmio_unless, mmio_with, opened_for, size_of, tag_for}
 use Rattle.domain.specs.Ticks.{sent_by, tick_fault, tick_unless, ticked, ticks}
 use Rattle.domain.specs.Submits.{submit_fault, submit_unless, submitted}
-use Rattle.domain_parts.specs.Tags.{completes, is_open, opens_tag}
+use Rattle.domain_state.specs.Tags.{completes, is_open, opens_tag}
 use Rattle.request_handling.specs.Takers.{taker_of}
 
 -- how many packets may still come of one in flight, itself left out

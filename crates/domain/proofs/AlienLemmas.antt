@@ -43,20 +43,20 @@ use Rattle.request_handling.specs.AtFunctions.{discarded}
 use Rattle.request_handling.specs.Carries.{from_frame, is_owner, refusal_by, refused_by_host, serve, to_frame}
 use Rattle.domain.specs.Deliveries.{arriving_at, is_port}
 use Rattle.domain.specs.Domains.{DomainView, Makes}
-use Rattle.domain_parts.specs.Ends.{BytesFit, EffectFits}
+use Rattle.domain_state.specs.Ends.{BytesFit, EffectFits}
 use Rattle.request_handling.specs.Fates.{fate_at}
 use Rattle.fab_types.specs.Origins.{origin_id}
 use Rattle.request_handling.specs.Heads.{descriptor_of, target_for}
 use Rattle.domain.specs.Machine.{aliens_from, aliens_in, change, replay, replay_from, with_alien}
 use Rattle.domain.specs.Receptions.{IsReceivable, received}
-use Rattle.domain_parts.specs.State.{Alone, Change, start_state}
-use Rattle.domain_parts.specs.Tags.{is_open}
+use Rattle.domain_state.specs.State.{Alone, Change, start_state}
+use Rattle.domain_state.specs.Tags.{is_open}
 use Rattle.request_handling.specs.Takers.{taker_of, takes}
 use Rattle.domain.proofs.Accounting.{aliens_more, goes_on}
 use Rattle.domain.proofs.EndLemmas.{serve_fits}
 use Rattle.domain.proofs.FunctionFits.{Fits, at_function_fits, both-first, either_fits, or_fits, unserved_fits}
 use Rattle.domain.proofs.Keeping.{makes_end, makes_seen}
-use Rattle.domain_parts.proofs.PageFits.{write_in_page}
+use Rattle.domain_state.proofs.PageFits.{write_in_page}
 
 abbrev some : {A : Type 0} → A → Option A
 some x = Some x

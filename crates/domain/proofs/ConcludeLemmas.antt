@@ -8,7 +8,7 @@ use Rattle.fab_types.specs.declared.origin.Origin.TheVariants.{Function, Host}
 use Rattle.fab_types.specs.declared.status.Status.{Status}
 use Rattle.tlp_view.specs.Bytes.{packet_of}
 use Rattle.tlp_view.specs.Runs.{runs}
-use Rattle.domain_parts.proofs.FlightLemmas.{clear_push, item_push}
+use Rattle.domain_state.proofs.FlightLemmas.{clear_push, item_push}
 use Rattle.request_handling.specs.declared.handling.Effect.{Effect}
 use Rattle.request_handling.specs.declared.handling.Effect.TheVariants.{Leave, Block, Store, Add, Access}
 use Rattle.platform.specs.Share.{Share}
@@ -19,13 +19,13 @@ use Rattle.function.specs.declared.tags.OpenTag.{OpenTag}
 use Rattle.function.specs.declared.tags.TagUse.{TagUse}
 use Rattle.function.specs.declared.tags.TagUse.TheVariants.{Raw}
 use Rattle.function.specs.Tags.{closed}
-use Rattle.domain_parts.specs.Closings.{completed}
-use Rattle.domain_parts.specs.RegisterPages.{changed_at}
+use Rattle.domain_state.specs.Closings.{completed}
+use Rattle.domain_state.specs.RegisterPages.{changed_at}
 use Rattle.std.proofs.lemmas.List.{set-get_or}
-use Rattle.domain_parts.specs.Ends.{EffectFits, blocked, done, replied, with_access, with_added, with_stored}
+use Rattle.domain_state.specs.Ends.{EffectFits, blocked, done, replied, with_access, with_added, with_stored}
 use Rattle.request_handling.specs.Emissions.{Emission}
-use Rattle.domain_parts.specs.State.{Alone, Delivery, item_at, without}
-use Rattle.domain_parts.specs.Tags.{is_open, same_origin}
+use Rattle.domain_state.specs.State.{Alone, Delivery, item_at, without}
+use Rattle.domain_state.specs.Tags.{is_open, same_origin}
 
 abbrev pub with_flight : Alone → List (Option Emission) → Alone
 with_flight s flight = record { frames = s.frames; registers = s.registers; open_tags = s.open_tags; deliveries = s.deliveries; counts = s.counts; flight = flight }

@@ -11,7 +11,7 @@ use Rattle.request_handling.specs.Carries.{carriage_end, refusal_end}
 use Rattle.domain.specs.Consumed.{AreConsumedOnce, consumes, times_consumed, times_waiting}
 use Rattle.domain.specs.Machine.{change, deliver, ended, replay, replay_from}
 use Rattle.request_handling.specs.Emissions.{Emission}
-use Rattle.domain_parts.specs.State.{Alone, Change, item_at, start_state}
+use Rattle.domain_state.specs.State.{Alone, Change, item_at, start_state}
 use Rattle.domain.proofs.Accounting.{goes_on}
 use Rattle.domain.proofs.Joining.{mmio_flight, submit_flight, tick_flight}
 use Rattle.domain.proofs.Leaving.{alien_flight, carry_flight, deliver_flight, joined, refuse_flight}

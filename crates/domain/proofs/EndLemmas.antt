@@ -11,12 +11,12 @@ use Rattle.platform.specs.declared.parts.MapTarget.TheVariants.{Frame, Peer}
 use Rattle.platform.specs.declared.parts.DownstreamPort.{DownstreamPort}
 use Rattle.platform.specs.Owners.{bar_of, first_port}
 use Rattle.platform.specs.Share.{Share}
-use Rattle.domain_start.specs.Tables.{target_of}
+use Rattle.platform.specs.Tables.{target_of}
 use Rattle.tlp_view.specs.Bytes.{packet_of}
 use Rattle.tlp_view.specs.Malformed.{malformed}
 use Rattle.tlp_view.specs.Packet.{Packet, dw_count, status_in}
 use Rattle.tlp_view.specs.Runs.{is_write}
-use Rattle.domain_parts.proofs.PageFits.{operand_in_page, write_in_page}
+use Rattle.domain_state.proofs.PageFits.{operand_in_page, write_in_page}
 use Rattle.request_handling.specs.declared.handling.Effect.TheVariants.{Leave, Access}
 use Rattle.request_handling.specs.declared.disposition.Disposition.{Disposition}
 use Rattle.request_handling.specs.declared.handling.Handling.{Handling}
@@ -30,14 +30,14 @@ use Rattle.request_handling.specs.AtFunctions.{request_at_function}
 use Rattle.domain.proofs.FunctionFits.{at_function_fits, effect_fits}
 use Rattle.request_handling.specs.Carries.{add_if, carriage_by, carriage_end, carriage_of, forward, frame_for, is_carried, port_id, read_from, refusal_by, refusal_end, refusal_of, serve, serve_add, serve_read, write_to}
 use Rattle.domain.specs.Domains.{Disposes, DomainView, EndsBy, disposed}
-use Rattle.domain_parts.specs.Ends.{EffectFits, conclude}
+use Rattle.domain_state.specs.Ends.{EffectFits, conclude}
 use Rattle.request_handling.specs.Fates.{fate, fate_below, fate_unless}
 use Rattle.domain.specs.Machine.{change, ended}
 use Rattle.request_handling.specs.Emissions.{Emission}
 use Rattle.request_handling.proofs.Discarding.{answer_discarded}
-use Rattle.domain_parts.specs.State.{Alone, Delivery, emits_nothing, item_at, without}
+use Rattle.domain_state.specs.State.{Alone, Delivery, emits_nothing, item_at, without}
 use Rattle.domain.specs.declared.deliver.Arriving.{Arriving}
-use Rattle.domain_parts.specs.Tags.{is_open}
+use Rattle.domain_state.specs.Tags.{is_open}
 use Rattle.fab_types.specs.Origins.{origin_id}
 use Rattle.fab_types.specs.declared.head.Answerer.{Answerer}
 use Rattle.fab_types.specs.declared.origin.Origin.{Origin}

@@ -17,7 +17,7 @@ use Rattle.request_handling.specs.Answers.{address_of, function_answer, function
 use Rattle.request_handling.specs.AtFunctions.{access_of, is_access, lies_in, or_discarded, request_at_function, unserved}
 use Rattle.request_handling.specs.Emissions.{Emission}
 use Rattle.request_handling.proofs.WellMadeLemmas.{is_an_access}
-use Rattle.domain_parts.specs.Ends.{BytesFit, EffectFits}
+use Rattle.domain_state.specs.Ends.{BytesFit, EffectFits}
 
 abbrev some : {A : Type 0} → A → Option A
 some x = Some x

@@ -14,9 +14,9 @@ use Rattle.domain.specs.declared.entry.Entry.TheVariants.{Mmio}
 use Rattle.request_handling.specs.Answers.{page_at}
 use Rattle.domain.specs.Domains.{DomainView, Makes}
 use Rattle.request_handling.specs.Heads.{descriptor_of}
-use Rattle.domain_parts.specs.HostAccesses.{host_emission, host_request, mmio_fault, mmio_unless, mmio_with, opened_for, tag_for}
+use Rattle.domain_state.specs.HostAccesses.{host_emission, host_request, mmio_fault, mmio_unless, mmio_with, opened_for, tag_for}
 use Rattle.domain.specs.Machine.{aliens_in, change, replay}
-use Rattle.domain_parts.specs.State.{Alone, begun, with_emission}
+use Rattle.domain_state.specs.State.{Alone, begun, with_emission}
 use Rattle.domain.proofs.Accounting.{accounted, mmio_budget, room_to_begin}
 use Rattle.domain.proofs.Keeping.{makes_end, makes_seen}
 

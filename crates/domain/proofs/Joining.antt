@@ -9,9 +9,9 @@ use Rattle.platform.specs.Share.{Share}
 use Rattle.platform.specs.Owners.{bar_of}
 use Rattle.fab_types.specs.declared.host_access.HostAccess.{HostAccess}
 use Rattle.domain.specs.declared.entry.Entry.TheVariants.{Submit, Tick, Mmio}
-use Rattle.domain_parts.specs.HostAccesses.{mmio_fault, mmio_unless, mmio_with, tag_for}
+use Rattle.domain_state.specs.HostAccesses.{mmio_fault, mmio_unless, mmio_with, tag_for}
 use Rattle.domain.specs.Machine.{change}
-use Rattle.domain_parts.specs.State.{Alone, Change}
+use Rattle.domain_state.specs.State.{Alone, Change}
 use Rattle.domain.specs.Submits.{submit_fault, submit_unless}
 use Rattle.domain.specs.Ticks.{sent_by, tick_fault, tick_unless, ticked, ticks, ticks_by}
 use Rattle.domain.proofs.Leaving.{joined, replied_flight}

@@ -9,11 +9,11 @@ use Rattle.domain.specs.declared.entry.Entry.{Entry}
 use Rattle.domain.specs.declared.entry.Entry.TheVariants.{Submit}
 use Rattle.domain.specs.Domains.{DomainView, EndsBy, Makes, disposed}
 use Rattle.request_handling.specs.declared.disposition.Disposition.{Disposition}
-use Rattle.domain_parts.specs.Ends.{conclude}
+use Rattle.domain_state.specs.Ends.{conclude}
 use Rattle.request_handling.specs.Heads.{descriptor_of}
 use Rattle.domain.specs.Machine.{aliens_in, change, step_from, replay_from, replay, with_alien}
 use Rattle.request_handling.specs.Emissions.{Emission}
-use Rattle.domain_parts.specs.State.{Alone, Change, item_at, start_state, with_emission}
+use Rattle.domain_state.specs.State.{Alone, Change, item_at, start_state, with_emission}
 use Rattle.domain.specs.Submits.{submit_fault, submitted, submit_unless}
 use Rattle.domain.proofs.Accounting.{accounted, aliens_more, submit_budget, room_to_begin, room_to_end}
 

@@ -15,10 +15,10 @@ use Rattle.domain.specs.Aliens.{received_if, reception_of}
 use Rattle.domain.specs.Receptions.{received}
 use Rattle.request_handling.specs.Carries.{carriage_end, refusal_end}
 use Rattle.domain.specs.Deliveries.{Arrival, arrival, arrival_by, arrived, recorded, unexpected}
-use Rattle.domain_parts.specs.Ends.{done, replied}
+use Rattle.domain_state.specs.Ends.{done, replied}
 use Rattle.domain.specs.Machine.{change, ended}
 use Rattle.request_handling.specs.Emissions.{Emission}
-use Rattle.domain_parts.specs.State.{Alone, Change, Delivery, emits_nothing, item_at, without}
+use Rattle.domain_state.specs.State.{Alone, Change, Delivery, emits_nothing, item_at, without}
 
 abbrev some : {A : Type 0} → A → Option A
 some x = Some x

@@ -33,13 +33,13 @@ use Rattle.domain.specs.declared.receive.Reception.TheVariants.{Ends, Arrives}
 use Rattle.domain.specs.Aliens.{received_if, reception_of}
 use Rattle.request_handling.specs.Carries.{carriage_end, refusal_end}
 use Rattle.domain.specs.Deliveries.{Arrival, arrival, arrival_by, arrived, recorded, unexpected}
-use Rattle.domain_parts.specs.Closings.{completed}
-use Rattle.domain_parts.specs.Ends.{done, replied}
-use Rattle.domain_parts.specs.HostAccesses.{mmio_fault, mmio_unless, mmio_with, tag_for}
+use Rattle.domain_state.specs.Closings.{completed}
+use Rattle.domain_state.specs.Ends.{done, replied}
+use Rattle.domain_state.specs.HostAccesses.{mmio_fault, mmio_unless, mmio_with, tag_for}
 use Rattle.domain.specs.Machine.{change, ended, replay, replay_from}
-use Rattle.domain_parts.specs.RegisterPages.{changed, changed_at}
+use Rattle.domain_state.specs.RegisterPages.{changed, changed_at}
 use Rattle.request_handling.specs.Emissions.{Emission}
-use Rattle.domain_parts.specs.State.{Alone, Change, Delivery, emits_nothing, first_registers, item_at, start_state, without}
+use Rattle.domain_state.specs.State.{Alone, Change, Delivery, emits_nothing, first_registers, item_at, start_state, without}
 use Rattle.domain.specs.Submits.{submit_fault, submit_unless}
 use Rattle.domain.specs.Ticks.{sent_by, tick_fault, tick_unless, ticked, ticks}
 use Rattle.domain.proofs.Accounting.{goes_on}

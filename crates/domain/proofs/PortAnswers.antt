@@ -28,7 +28,7 @@ use Rattle.domain.specs.Receptions.{received}
 use Rattle.request_handling.specs.Carries.{refusal_by}
 use Rattle.request_handling.specs.Fates.{fate_at}
 use Rattle.request_handling.specs.Emissions.{Emission}
-use Rattle.domain_parts.specs.State.{Alone, Change}
+use Rattle.domain_state.specs.State.{Alone, Change}
 use Rattle.request_handling.specs.Takers.{is_at_port, is_port, taker_of}
 use Rattle.domain.proofs.CompletionsRead.{refusal_well}
 

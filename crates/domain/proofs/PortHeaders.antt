@@ -20,8 +20,8 @@ use Rattle.request_handling.specs.Emissions.{Emission}
 use Rattle.request_handling.specs.Fates.{fate}
 use Rattle.request_handling.specs.Heads.{descriptor_of, target_for}
 use Rattle.request_handling.proofs.Discarding.{answer_discarded}
-use Rattle.domain_parts.specs.Ends.{conclude}
-use Rattle.domain_parts.specs.State.{Alone, Change, item_at}
+use Rattle.domain_state.specs.Ends.{conclude}
+use Rattle.domain_state.specs.State.{Alone, Change, item_at}
 use Rattle.domain.specs.declared.entry.Entry.TheVariants.{Refuse}
 use Rattle.domain.specs.Domains.{DomainView, Makes}
 use Rattle.domain.specs.Machine.{change, ended}

@@ -4,7 +4,7 @@ use Rattle.std.specs.Prelude.{option_map, slice_get, slice_index_or}
 use Rattle.platform.specs.Share.{Share}
 use Rattle.domain.specs.declared.entry.Entry.{Entry}
 use Rattle.domain.specs.Machine.{change, step_from, replay_from, replay}
-use Rattle.domain_parts.specs.State.{Alone, Change, start_state}
+use Rattle.domain_state.specs.State.{Alone, Change, start_state}
 use Rattle.domain.proofs.Accounting.{none_stays}
 
 abbrev some : {A : Type 0} → A → Option A

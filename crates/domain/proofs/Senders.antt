@@ -16,7 +16,7 @@ use Rattle.platform.specs.Share.{Share}
 use Rattle.request_handling.specs.Carries.{carriage_end}
 use Rattle.request_handling.specs.Emissions.{Emission}
 use Rattle.request_handling.specs.declared.handling.Handling.{Handling}
-use Rattle.domain_parts.specs.State.{Alone, Change, item_at}
+use Rattle.domain_state.specs.State.{Alone, Change, item_at}
 use Rattle.domain.specs.declared.entry.Entry.{Entry}
 use Rattle.domain.specs.declared.entry.Entry.TheVariants.{Submit, Tick, Mmio, Refuse, Carry, Deliver, Alien}
 use Rattle.domain.specs.Machine.{change, ended, replay_from}

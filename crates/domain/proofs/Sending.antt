@@ -11,7 +11,7 @@ use Rattle.domain.specs.Deliveries.{Arrival, arrival, arrived}
 use Rattle.domain.specs.Machine.{change, replay, replay_from, step_from}
 use Rattle.domain.specs.Sent.{AreSent, IsBySource, Sent, sent, sent_at, sent_by_entry, sent_from, sent_of, source}
 use Rattle.request_handling.specs.Emissions.{Emission}
-use Rattle.domain_parts.specs.State.{Alone, Change, emits_nothing, item_at, start_state, without}
+use Rattle.domain_state.specs.State.{Alone, Change, emits_nothing, item_at, start_state, without}
 use Rattle.domain.proofs.Accounting.{goes_on}
 use Rattle.domain.proofs.Joining.{mmio_flight, submit_flight, tick_flight}
 use Rattle.domain.proofs.Leaving.{alien_flight, carry_flight, deliver_flight, joined, refuse_flight}

@@ -14,7 +14,7 @@ use Rattle.domain.specs.declared.entry.Entry.TheVariants.{Tick}
 use Rattle.domain.specs.Domains.{DomainView, Emits, Makes}
 use Rattle.request_handling.specs.Heads.{descriptor_of}
 use Rattle.domain.specs.Machine.{aliens_in, change, replay}
-use Rattle.domain_parts.specs.State.{Alone}
+use Rattle.domain_state.specs.State.{Alone}
 use Rattle.domain.specs.Ticks.{sent_by, tick_fault, tick_unless, ticks, ticks_by}
 use Rattle.domain.proofs.Accounting.{accounted, passed, room_to_begin, tick_budget}
 use Rattle.domain.proofs.Keeping.{makes_end, makes_seen}

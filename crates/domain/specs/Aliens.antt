@@ -28,7 +28,7 @@ use Rattle.request_handling.specs.Requests.{at_port, request_at_host}
 use Rattle.domain.specs.Deliveries.{arriving_at}
 use Rattle.request_handling.specs.Heads.{target_for}
 use Rattle.domain.specs.Receptions.{received}
-use Rattle.domain_parts.specs.State.{Alone, Change}
+use Rattle.domain_state.specs.State.{Alone, Change}
 use Rattle.request_handling.specs.Takers.{taker_of}
 
 -- ---- completions

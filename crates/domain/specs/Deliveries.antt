@@ -12,10 +12,10 @@ use Rattle.domain.specs.declared.deliver.Arriving.{Arriving}
 use Rattle.function.specs.declared.tags.OpenTag.{OpenTag}
 use Rattle.fab_types.specs.Origins.{origin_id}
 use Rattle.function.specs.Tags.{closed, use_of}
-use Rattle.domain_parts.specs.Closings.{completed}
+use Rattle.domain_state.specs.Closings.{completed}
 use Rattle.request_handling.specs.Emissions.{Emission}
-use Rattle.domain_parts.specs.State.{Alone, Delivery, item_at, without}
-use Rattle.domain_parts.specs.Tags.{is_open}
+use Rattle.domain_state.specs.State.{Alone, Delivery, item_at, without}
+use Rattle.domain_state.specs.Tags.{is_open}
 
 abbrev pub is_port : Answerer → Bool
 is_port by.Port = true

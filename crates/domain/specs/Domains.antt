@@ -13,9 +13,9 @@ use Rattle.request_handling.specs.declared.handling.Handling.{Handling}
 use Rattle.request_handling.specs.Dispositions.{Suits, effect_of, handling}
 use Rattle.tlp_view.specs.Bytes.{packet_of}
 use Rattle.domain.specs.Deliveries.{Arrival, arrival, record_of_arrival}
-use Rattle.domain_parts.specs.Ends.{EffectFits, conclude, replied}
+use Rattle.domain_state.specs.Ends.{EffectFits, conclude, replied}
 use Rattle.request_handling.specs.Emissions.{Emission}
-use Rattle.domain_parts.specs.State.{Alone, Change, Delivery, item_at}
+use Rattle.domain_state.specs.State.{Alone, Change, Delivery, item_at}
 use Rattle.request_handling.specs.Heads.{descriptor_of}
 use Rattle.domain.specs.Machine.{change, with_alien}
 

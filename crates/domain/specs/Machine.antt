@@ -5,13 +5,13 @@ use Rattle.domain.specs.declared.entry.Entry.{Entry}
 use Rattle.domain.specs.declared.entry.Entry.TheVariants.{Submit, Tick, Mmio, Refuse, Carry, Deliver, Alien}
 use Rattle.request_handling.specs.declared.handling.Handling.{Handling}
 use Rattle.request_handling.specs.Emissions.{Emission}
-use Rattle.domain_parts.specs.State.{Alone, Change, emits_nothing, item_at, start_state, without}
+use Rattle.domain_state.specs.State.{Alone, Change, emits_nothing, item_at, start_state, without}
 use Rattle.domain.specs.Submits.{submit}
 use Rattle.domain.specs.Aliens.{alien}
 use Rattle.request_handling.specs.Carries.{carriage_end, refusal_end}
 use Rattle.domain.specs.Deliveries.{arrival, arrived}
-use Rattle.domain_parts.specs.Ends.{conclude}
-use Rattle.domain_parts.specs.HostAccesses.{mmio}
+use Rattle.domain_state.specs.Ends.{conclude}
+use Rattle.domain_state.specs.HostAccesses.{mmio}
 use Rattle.domain.specs.Ticks.{tick}
 
 -- a packet in flight that ends so

@@ -6,9 +6,9 @@ use Rattle.domain.specs.declared.deliver.Arriving.{Arriving}
 use Rattle.domain.specs.declared.receive.Reception.{Reception}
 use Rattle.domain.specs.declared.receive.Reception.TheVariants.{Ends, Arrives}
 use Rattle.domain.specs.Deliveries.{arrival_by, arrived}
-use Rattle.domain_parts.specs.Ends.{BytesFit, does}
-use Rattle.domain_parts.specs.State.{Alone, Change, emits_nothing}
-use Rattle.domain_parts.specs.Tags.{is_open}
+use Rattle.domain_state.specs.Ends.{BytesFit, does}
+use Rattle.domain_state.specs.State.{Alone, Change, emits_nothing}
+use Rattle.domain_state.specs.Tags.{is_open}
 
 -- a completion may arrive so, if it is well formed; where it is awaited its Tag is open
 abbrev pub MayArrive : List OpenTag → List ℕ → Arriving → Type 0

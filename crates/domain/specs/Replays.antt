@@ -5,7 +5,7 @@ use Rattle.domain.specs.declared.entry.Entry.{Entry}
 use Rattle.domain.specs.Domains.{DomainView}
 use Rattle.domain.specs.Machine.{change, replay}
 use Rattle.request_handling.specs.Emissions.{Emission}
-use Rattle.domain_parts.specs.State.{Alone}
+use Rattle.domain_state.specs.State.{Alone}
 
 -- the entry was legal, and is the last of the journal now
 pub record Follows (old : DomainView) (entry : Entry) (new : DomainView) : Type 0 where

@@ -10,7 +10,7 @@ use Rattle.domain.specs.declared.entry.Entry.TheVariants.{Submit, Tick, Mmio, Re
 use Rattle.domain.specs.Machine.{change, step_from}
 use Rattle.request_handling.specs.Emissions.{Emission}
 use Rattle.request_handling.specs.Fates.{direct_in, fate}
-use Rattle.domain_parts.specs.State.{Alone, Change, item_at, start_state}
+use Rattle.domain_state.specs.State.{Alone, Change, item_at, start_state}
 
 -- A port's answer is put in no outbox. In which an alien packet's is put depends on who took that, and isn't said here
 pub record Sent : Type 0 where

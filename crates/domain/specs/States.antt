@@ -1,7 +1,7 @@
 -- What a clause sees of a domain's state.
 use Rattle.std.specs.Prelude.{◌+◌, ◌≤◌, length, vec_capacity}
 use Rattle.domain.specs.declared.state.State.TheInside.{Inside}
-use Rattle.domain_parts.specs.State.{Alone}
+use Rattle.domain_state.specs.State.{Alone}
 
 abbrev pub alone_of : Inside → Alone
 alone_of s = record {

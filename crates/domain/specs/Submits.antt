@@ -7,8 +7,8 @@ use Rattle.fab_types.specs.declared.origin.Origin.TheVariants.{Function}
 use Rattle.platform.specs.Share.{Share}
 use Rattle.platform.specs.Owners.{is_own_function}
 use Rattle.tlp_view.specs.Bytes.{packet_of}
-use Rattle.domain_parts.specs.State.{Alone, Change, emits}
-use Rattle.domain_parts.specs.Tags.{opens_tag, completes, is_open, opened}
+use Rattle.domain_state.specs.State.{Alone, Change, emits}
+use Rattle.domain_state.specs.Tags.{opens_tag, completes, is_open, opened}
 
 -- the first refusal that applies, if one does
 abbrev pub submit_fault : Share → Alone → ℕ → List ℕ → Option SubmitFault

@@ -11,10 +11,10 @@ use Rattle.host_memory.specs.Pages.{page_of}
 use Rattle.platform.specs.Owners.{is_own_function}
 use Rattle.platform.specs.Share.{Share}
 use Rattle.tlp_view.specs.Requests.{packet_bytes}
-use Rattle.domain_parts.specs.Ends.{replied}
-use Rattle.domain_parts.specs.RegisterPages.{changed}
+use Rattle.domain_state.specs.Ends.{replied}
+use Rattle.domain_state.specs.RegisterPages.{changed}
 use Rattle.request_handling.specs.Emissions.{Emission}
-use Rattle.domain_parts.specs.State.{Alone, Change, begun, with_registers}
+use Rattle.domain_state.specs.State.{Alone, Change, begun, with_registers}
 
 -- the first refusal that applies, if one does
 abbrev pub tick_fault : Share → Alone → ℕ → Option TickFault

@@ -10,14 +10,14 @@ ghost use Rattle.tlp_view.specs.Requests.{packet_bytes};
 ghost use Rattle.request_handling.specs.declared.handling.Made.TheVariants as made;
 ghost use Rattle.request_handling.specs.Answers.{IsReply};
 ghost use Rattle.request_handling.specs.Heads.{descriptor_of};
-ghost use Rattle.domain_parts.specs.State.{begun, with_emission};
-ghost use Rattle.domain_parts.specs.Tags.{and_opened, opened};
+ghost use Rattle.domain_state.specs.State.{begun, with_emission};
+ghost use Rattle.domain_state.specs.Tags.{and_opened, opened};
 ghost use Rattle.domain.specs.Submits.{submitted};
 ghost use Rattle.domain.specs.Ticks.{sent_by, ticks_by};
 
 use crate::deliver::Record;
 use crate::state::State;
-use domain_parts::{perform, tag_to_open};
+use domain_state::{perform, tag_to_open};
 use fab_types::{Bdf, DomainId, NoMemory, Origin, PacketBytes, Parties};
 use frame_log::Frame;
 use function::{OpenTag, OpenTags, Plan, TagUse};

@@ -2,7 +2,7 @@
 
 ghost use Rattle.std.specs.Prelude.{◌≡◌, Some, None, IfOk, IfErr, IfSome, MatchOption, OnErr, OnOk};
 ghost use Rattle.frame_log.specs.Descriptor.{IsCompletion};
-ghost use Rattle.domain_parts.specs.Ends.{conclude};
+ghost use Rattle.domain_state.specs.Ends.{conclude};
 
 use crate::deliver::Record;
 use crate::domain::Domain;
@@ -27,7 +27,7 @@ impl Domain {
     ghost use Rattle.request_handling.specs.Carries.{carriage_end, refusal_end};
     ghost use Rattle.domain.specs.Deliveries.{HasArrived};
     ghost use Rattle.domain.specs.Domains.{Delivers, Disposes, EndsBy, IsEntryFault, IsRefused, IsStray, Makes};
-    ghost use Rattle.domain_parts.specs.State.{item_at};
+    ghost use Rattle.domain_state.specs.State.{item_at};
 
     /// How a packet in flight ends at its sender's first port, if it ends there.
     fn refusal_end(&self, number: u64) -> Option<Disposition>

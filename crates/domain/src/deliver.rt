@@ -23,7 +23,7 @@ pub struct Record {
 }
 
 impl Model for Record {
-    ghost use Rattle.domain_parts.specs.State.{Delivery};
+    ghost use Rattle.domain_state.specs.State.{Delivery};
 
     ghost Value = { Delivery };
 

@@ -4,13 +4,13 @@ ghost use Rattle.std.specs.Prelude.{◌≡◌, ◌≤◌, ◌↔◌, IfOk, IfSom
 ghost use Rattle.std.specs.Option.{option_copied};
 ghost use Rattle.host_memory.specs.Pages.{page_of};
 ghost use Rattle.domain.specs.Machine.{replay};
-ghost use Rattle.domain_parts.specs.State.{item_at, start_state};
+ghost use Rattle.domain_state.specs.State.{item_at, start_state};
 
 use crate::deliver::Record;
 use crate::entry::Entry;
 use crate::same::same_journals;
 use crate::state::State;
-use domain_parts::Counts;
+use domain_state::Counts;
 use fab_types::{Bdf, NoMemory};
 use frame_log::Log;
 use function::OpenTags;

@@ -13,7 +13,7 @@ ghost use Rattle.domain.specs.Consumed.{AreConsumedOnce, consumes, is_in_order, 
 ghost use Rattle.domain.specs.Machine.{aliens_in, change, replay};
 ghost use Rattle.domain.specs.Orders.{IsPosted, KeepOrder};
 ghost use Rattle.domain.specs.Sent.{AreSent, Sent, sent, sent_by_entry};
-ghost use Rattle.domain_parts.specs.State.{Alone, Change, item_at};
+ghost use Rattle.domain_state.specs.State.{Alone, Change, item_at};
 ghost use Rattle.request_handling.specs.Takers.{is_at_port};
 
 use crate::domain::Domain;

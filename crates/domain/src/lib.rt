@@ -24,7 +24,7 @@ pub use consume::EntryFault;
 pub use copies::copied;
 pub use deliver::Record;
 pub use domain::Domain;
-pub use domain_parts::Counts;
+pub use domain_state::Counts;
 pub use entry::Entry;
 pub use function::{OpenTag, OpenTags, TagUse};
 pub use laws::{

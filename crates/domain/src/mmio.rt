@@ -4,11 +4,11 @@ ghost use Rattle.std.specs.Prelude.{◌≡◌, IfErr, IfOk, None, OnErr, Some, t
 ghost use Rattle.std.specs.Result.{IsOkUnless};
 ghost use Rattle.fab_types.specs.declared.faults.begin.MmioFault.{MmioFault};
 ghost use Rattle.platform.specs.Owners.{bar_of};
-ghost use Rattle.domain_parts.specs.HostAccesses.{is_in_page, mmio_fault, size_of, tag_for};
+ghost use Rattle.domain_state.specs.HostAccesses.{is_in_page, mmio_fault, size_of, tag_for};
 
 use crate::domain::Domain;
 use crate::entry::Entry;
-use domain_parts::{host_request, is_in_page, opened_for, register_address, size_of, tag_for};
+use domain_state::{host_request, is_in_page, opened_for, register_address, size_of, tag_for};
 use fab_types::{HostAccess, MmioFault, Parties};
 use frame_log::Frame;
 use std::sync::Wait;

@@ -1,7 +1,7 @@
 //! The change of a domain's state that an alien packet makes.
 
 ghost use Rattle.std.specs.Prelude.{◌≡◌, ◌+◌, ◌<◌, ◌≤◌, ◌^◌, IfOk, OnErr, length, option_map};
-ghost use Rattle.domain_parts.specs.Ends.{BytesFit, does};
+ghost use Rattle.domain_state.specs.Ends.{BytesFit, does};
 ghost use Rattle.request_handling.specs.Heads.{descriptor_of};
 ghost use Rattle.domain.specs.Receptions.{IsReceivable, received};
 

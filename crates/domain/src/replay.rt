@@ -5,7 +5,7 @@ ghost use Rattle.std.specs.Result.{IsOkUnless};
 ghost use Rattle.fab_types.specs.declared.faults.replay.ReplayFault.TheVariants.{Illegal};
 ghost use Rattle.domain.specs.declared.consume.EntryFault.TheVariants as end;
 ghost use Rattle.domain.specs.Machine.{change, replay};
-ghost use Rattle.domain_parts.specs.State.{Alone};
+ghost use Rattle.domain_state.specs.State.{Alone};
 
 use crate::consume::EntryFault;
 use crate::domain::Domain;

@@ -3,7 +3,7 @@
 ghost use Rattle.std.specs.Prelude.{◌≡◌, ◌↔◌, IsTrue};
 
 use crate::entry::Entry;
-use domain_parts::{same_access, same_bytes, same_parties, same_place};
+use domain_state::{same_access, same_bytes, same_parties, same_place};
 
 /// Are the entries the same?
 fn same_entry(one: &Entry, other: &Entry) -> bool

@@ -4,11 +4,11 @@ ghost use Rattle.std.specs.Prelude.{◌≡◌, ◌≤◌, ◌-◌, ℕ, List, le
 ghost use Rattle.std.specs.Option.{option_copied};
 ghost use Rattle.function.specs.Plans.{OpensLineTag, PlanFits, plan_of};
 ghost use Rattle.host_memory.specs.Pages.{page_of};
-ghost use Rattle.domain_parts.specs.State.{item_at, start_state};
+ghost use Rattle.domain_state.specs.State.{item_at, start_state};
 ghost use Rattle.request_handling.specs.WellMade.{IsWellMade};
 
 use crate::deliver::Record;
-use domain_parts::{Contents, Counts, Flight, first_registers, planned, register_page};
+use domain_state::{Contents, Counts, Flight, first_registers, planned, register_page};
 use fab_types::{Bdf, NoMemory, Parties};
 use frame_log::Log;
 use function::{Functions, OpenTags, Plan};
@@ -29,7 +29,7 @@ pub(crate) struct State {
 }
 
 impl Model for State {
-    ghost use Rattle.domain_parts.specs.State.{Alone};
+    ghost use Rattle.domain_state.specs.State.{Alone};
 
     ghost Value = { Alone };
 

@@ -5,12 +5,12 @@ ghost use Rattle.std.specs.Result.{IsOkUnless};
 ghost use Rattle.fab_types.specs.declared.origin.Origin.TheVariants.{Function};
 ghost use Rattle.tlp_view.specs.Bytes.{packet_of};
 ghost use Rattle.fab_types.specs.declared.faults.begin.SubmitFault.{SubmitFault};
-ghost use Rattle.domain_parts.specs.Tags.{is_open, opens_tag};
+ghost use Rattle.domain_state.specs.Tags.{is_open, opens_tag};
 ghost use Rattle.domain.specs.Submits.{submit_fault};
 
 use crate::domain::Domain;
 use crate::entry::Entry;
-use domain_parts::{completes, tag_to_open};
+use domain_state::{completes, tag_to_open};
 use fab_types::{Bdf, Origin, PacketBytes, SubmitFault};
 use frame_log::Frame;
 use std::sync::Wait;

@@ -10,7 +10,7 @@ use Rattle.fab_types.specs.declared.origin.Origin.{Origin}
 use Rattle.fab_types.specs.declared.origin.Origin.TheVariants.{Function, Host}
 use Rattle.platform.specs.Owners.{is_own_function}
 use Rattle.platform.specs.Share.{Share}
-use Rattle.origin_index.specs.declared.index.OriginIndex.{OriginIndex}
+use Rattle.outboxes.specs.declared.origin_index.OriginIndex.{OriginIndex}
 use Rattle.domain.specs.Domains.{DomainView}
 use Rattle.domains.specs.Indexes.{IsIndexOf, place_of_origin}
 use Rattle.domains.specs.Domains.{IsHome, place_of, place_of_function}

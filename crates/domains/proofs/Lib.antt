@@ -1,3 +1,13 @@
 pub mod Indexed
 pub mod Making
-pub mod Starting
+pub mod DomainsStarting
+pub mod Emitting
+pub mod Entering
+pub mod Flights
+pub mod Keeping
+pub mod Lists
+pub mod OneOwner
+pub mod AlienPlaces
+pub mod Settling
+pub mod AgentsStarting
+pub mod Viewing

@@ -10,7 +10,7 @@ use Rattle.domain.specs.Domains.{DomainView, Emits as Emitting, IsRefused, Makes
 use Rattle.request_handling.specs.Heads.{descriptor_of}
 use Rattle.domain.specs.Machine.{change}
 use Rattle.request_handling.specs.Emissions.{Emission}
-use Rattle.domain_parts.specs.State.{Alone, Change}
+use Rattle.domain_state.specs.State.{Alone, Change}
 use Rattle.domains.specs.Aliens.{answers}
 use Rattle.domains.specs.Domains.{Emits, IsGivenBack, IsHome, Made, after, made_at, made_by, made_of, sent_by}
 

@@ -9,7 +9,7 @@ use Rattle.frame_log.specs.declared.fault.FrameFault.TheVariants.{Stray, NoMemor
 use Rattle.domain.specs.declared.entry.Entry.TheVariants.{Alien}
 use Rattle.domain.specs.Domains.{DomainView}
 use Rattle.request_handling.specs.Emissions.{Emission}
-use Rattle.domain_parts.specs.State.{item_at}
+use Rattle.domain_state.specs.State.{item_at}
 use Rattle.domains.specs.Domains.{Made, domain_at, made_at, place_of}
 
 -- what its home has in flight under a packet's number

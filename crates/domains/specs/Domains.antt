@@ -19,9 +19,9 @@ use Rattle.fab_types.specs.declared.host_access.HostAccess.{HostAccess}
 use Rattle.domain.specs.declared.entry.Entry.{Entry}
 use Rattle.domain.specs.Domains.{DomainView}
 use Rattle.request_handling.specs.Heads.{descriptor_of}
-use Rattle.domain_parts.specs.HostAccesses.{mmio_fault}
+use Rattle.domain_state.specs.HostAccesses.{mmio_fault}
 use Rattle.domain.specs.Machine.{change}
-use Rattle.domain_parts.specs.State.{Change, start_state}
+use Rattle.domain_state.specs.State.{Change, start_state}
 use Rattle.domain.specs.Submits.{submit_fault}
 use Rattle.domain.specs.Ticks.{tick_fault}
 

@@ -2,8 +2,8 @@
 use Rattle.std.specs.Prelude.{◌≡◌, ℕ, List, Option, Some}
 use Rattle.fab_types.specs.declared.origin.Origin.{Origin}
 use Rattle.fab_types.specs.declared.origin.Origin.TheVariants.{Function, Host}
-use Rattle.origin_index.specs.declared.index.OriginIndex.{OriginIndex}
-use Rattle.origin_index.specs.Indexes.{noted_place}
+use Rattle.outboxes.specs.declared.origin_index.OriginIndex.{OriginIndex}
+use Rattle.outboxes.specs.OriginIndexes.{noted_place}
 use Rattle.domain.specs.Domains.{DomainView}
 use Rattle.domains.specs.Domains.{place_of, place_of_function}
 

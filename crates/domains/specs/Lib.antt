@@ -1,4 +1,7 @@
 pub mod Domains
 pub mod Aliens
-pub mod Kept
+pub mod DomainsKept
 pub mod Indexes
+pub mod Agents
+pub mod AgentsKept
+pub mod AlienPlaces

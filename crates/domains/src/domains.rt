@@ -23,7 +23,7 @@ use fab_types::{
 };
 use frame_log::{Frame, FrameFault};
 use layout::Layout;
-use origin_index::OriginIndex;
+use outboxes::OriginIndex;
 use std::alloc::Global;
 use std::marker::Model;
 use std::sync::Wait;
@@ -41,7 +41,7 @@ impl Model for Domains {
 
     ghost Value = { List DomainView };
 
-    ghost use Rattle.domains.specs.Kept.{IsIndexed, domains_of};
+    ghost use Rattle.domains.specs.DomainsKept.{IsIndexed, domains_of};
 
     ghost view = { domains_of };
 

@@ -7,7 +7,7 @@ ghost use Rattle.domains.specs.Domains.{IsHome, place_of, place_of_function};
 use crate::places::{place_of, place_of_function};
 use domain::Domain;
 use fab_types::{Bdf, DomainId, Origin};
-use origin_index::OriginIndex;
+use outboxes::OriginIndex;
 use platform::EndpointFunction;
 
 fn note_functions(index: &mut OriginIndex, functions: &[EndpointFunction], domains: &[Domain])

@@ -7,7 +7,7 @@ use Rattle.fab_types.specs.declared.place.Way.TheVariants.{Up, Down}
 use Rattle.frame_log.specs.Descriptor.{Descriptor}
 use Rattle.platform.specs.declared.parts.DownstreamPort.{DownstreamPort}
 use Rattle.received.specs.Receivers.{receiver_at_host}
-use Rattle.agents.specs.Agents.{AgentsView, aliened_at_function, aliened_at_host}
+use Rattle.domains.specs.Agents.{AgentsView, aliened_at_function, aliened_at_host}
 use Rattle.domains.specs.Aliens.{owner_of_frame}
 
 -- the link between the host and the top switch

@@ -11,7 +11,7 @@ use Rattle.fab_types.specs.declared.origin.Origin.{Origin}
 use Rattle.fab_types.specs.declared.origin.Origin.TheVariants.{Function, Host}
 use Rattle.fab_types.specs.declared.place.Way.TheVariants.{Up}
 use Rattle.frame_log.specs.Descriptor.{Descriptor}
-use Rattle.agents.specs.Agents.{accessed, submitted, taken_from, ticked, waiting_of}
+use Rattle.domains.specs.Agents.{accessed, submitted, taken_from, ticked, waiting_of}
 use Rattle.link.specs.Channels.{is_full, deliver, send, update_fc}
 use Rattle.lane.specs.Lanes.{eligible}
 use Rattle.domains.specs.Domains.{mmio_refusal, submit_refusal, tick_refusal}

@@ -2,7 +2,7 @@
 -- layout, and between events no port holds a report or an answer.
 use Rattle.std.specs.Prelude.{◌≡◌, ℕ, ◌<◌, ◌≤◌, List, length, map, slice_index_or, true, All, None}
 use Rattle.domain.specs.Domains.{DomainView}
-use Rattle.agents.specs.Agents.{IsSettled}
+use Rattle.domains.specs.Agents.{IsSettled}
 use Rattle.platform.specs.declared.parts.DownstreamPort.{DownstreamPort}
 use Rattle.port.specs.Turns.{PortView}
 use Rattle.topology.specs.Topologies.{IsTree}

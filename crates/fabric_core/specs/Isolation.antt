@@ -8,11 +8,11 @@ use Rattle.fab_types.specs.declared.outcome.Outcome.{Outcome}
 use Rattle.frame_log.specs.Descriptor.{Descriptor}
 use Rattle.domain.specs.declared.entry.Entry.{Entry}
 use Rattle.domain.specs.Domains.{DomainView}
-use Rattle.domain_parts.specs.HostAccesses.{mmio_fault}
+use Rattle.domain_state.specs.HostAccesses.{mmio_fault}
 use Rattle.domain.specs.Machine.{step}
 use Rattle.domain.specs.Submits.{submit_fault}
 use Rattle.domain.specs.Ticks.{tick_fault}
-use Rattle.agents.specs.Agents.{waiting_of}
+use Rattle.domains.specs.Agents.{waiting_of}
 use Rattle.link.specs.Channels.{Channel}
 use Rattle.lane.specs.Lanes.{eligible}
 use Rattle.domains.specs.Domains.{domain_at, place_of, place_of_function}

@@ -21,7 +21,7 @@ use Rattle.fab_types.specs.declared.place.Way.{Way}
 use Rattle.fab_types.specs.declared.place.Way.TheVariants.{Up, Down}
 use Rattle.frame_log.specs.Descriptor.{Descriptor}
 use Rattle.platform.specs.declared.parts.Switch.{Switch}
-use Rattle.agents.specs.Agents.{Outbox}
+use Rattle.domains.specs.Agents.{Outbox}
 use Rattle.link.specs.Channels.{Channel, same_counters, unspent}
 use Rattle.topology.specs.declared.links.Link.{Link}
 use Rattle.topology.specs.declared.nodes.LinkEnd.{LinkEnd}

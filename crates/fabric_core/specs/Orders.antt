@@ -12,7 +12,7 @@ use Rattle.domain.specs.Consumed.{is_in_order}
 use Rattle.domain.specs.Domains.{DomainView}
 use Rattle.domain.specs.Orders.{IsPosted, IsTo, KeepOrder, direct_from}
 use Rattle.domain.specs.Sent.{Sent, sent}
-use Rattle.domain_parts.specs.State.{item_at}
+use Rattle.domain_state.specs.State.{item_at}
 use Rattle.guarded_routes.specs.Guarded.{IsFunctionOf}
 use Rattle.guarded_routes.specs.Links.{IsPath, IsWay}
 use Rattle.guarded_routes.specs.Sound.{let_by}

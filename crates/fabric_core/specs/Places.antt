@@ -7,13 +7,13 @@ use Rattle.domain.specs.Domains.{DomainView}
 use Rattle.request_handling.specs.Heads.{descriptor_of}
 use Rattle.domain.specs.Consumed.{AreConsumedOnce, times_waiting}
 use Rattle.request_handling.specs.Emissions.{Emission}
-use Rattle.domain_parts.specs.State.{item_at}
-use Rattle.agents.specs.Agents.{Outbox}
+use Rattle.domain_state.specs.State.{item_at}
+use Rattle.domains.specs.Agents.{Outbox}
 use Rattle.link.specs.Channels.{Channel}
 use Rattle.port.specs.Turns.{PortView}
 pub use Rattle.domains.specs.Aliens.{flown, flown_by}
-pub use Rattle.whereabouts.specs.Standing.{is_numbered}
-pub use Rattle.whereabouts.specs.Whereabouts.{AreWhereabouts, Whereabout, is_named, stands_at}
+pub use Rattle.packet_places.specs.Standing.{is_numbered}
+pub use Rattle.packet_places.specs.Whereabouts.{AreWhereabouts, Whereabout, is_named, stands_at}
 use Rattle.fabric_core.specs.Trails.{standing_at}
 use Rattle.fabric_core.specs.World.{World, is_guarded}
 

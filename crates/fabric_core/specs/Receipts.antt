@@ -6,7 +6,7 @@ use Rattle.fab_types.specs.declared.place.Way.TheVariants.{Down}
 use Rattle.frame_log.specs.Descriptor.{Descriptor}
 use Rattle.domain.specs.Domains.{DomainView}
 use Rattle.platform.specs.declared.parts.DownstreamPort.{DownstreamPort}
-use Rattle.agents.specs.Agents.{AgentsView, carried_by_function, carried_by_host, delivered, is_function_of}
+use Rattle.domains.specs.Agents.{AgentsView, carried_by_function, carried_by_host, delivered, is_function_of}
 use Rattle.link.specs.Channels.{Channel, is_full}
 use Rattle.lane.specs.Lanes.{eligible}
 use Rattle.domains.specs.Domains.{place_of_function}

@@ -10,7 +10,7 @@ use Rattle.frame_log.specs.declared.fault.FrameFault.{FrameFault}
 use Rattle.frame_log.specs.declared.fault.FrameFault.TheVariants as fault
 use Rattle.domain.specs.declared.entry.Entry.TheVariants as entry
 use Rattle.domain.specs.Domains.{DomainView}
-use Rattle.agents.specs.Agents.{AgentsView, carried_at}
+use Rattle.domains.specs.Agents.{AgentsView, carried_at}
 use Rattle.link.specs.Channels.{is_full}
 use Rattle.link.specs.Simplexes.{simplex_restored}
 use Rattle.lane.specs.Lanes.{Class, class_of, eligible}

@@ -11,7 +11,7 @@ use Rattle.domain.specs.Domains.{DomainView}
 use Rattle.domain.specs.Machine.{replay}
 use Rattle.request_handling.specs.Emissions.{Emission}
 use Rattle.request_handling.specs.WellMade.{IsWellMade}
-use Rattle.agents.specs.Agents.{waiting_of}
+use Rattle.domains.specs.Agents.{waiting_of}
 use Rattle.port.specs.Configs.{Config}
 use Rattle.port.specs.Turns.{PortView}
 use Rattle.domains.specs.Domains.{starting_domains}

@@ -3,7 +3,7 @@ use Rattle.std.specs.Prelude.{Bool, List, [], ◌∷◌, ◌++◌, map}
 use Rattle.fab_types.specs.declared.class.Class.{Class}
 use Rattle.fab_types.specs.declared.class.Class.TheVariants.{Posted, NonPosted, Completion}
 use Rattle.fab_types.specs.declared.origin.Origin.TheVariants as origin
-use Rattle.agents.specs.Agents.{waiting_of}
+use Rattle.domains.specs.Agents.{waiting_of}
 use Rattle.interconnect.specs.Passes.{input_of}
 use Rattle.interconnect.specs.Quiet.{is_quiet_at, none_received_at}
 use Rattle.link.specs.Quiet.{none_eligible}

@@ -3,7 +3,7 @@ use Rattle.std.specs.Prelude.{◌≡◌, ⊤, ℕ, false, List, [], ◌++◌, ma
 use Rattle.fab_types.specs.declared.origin.Origin.TheVariants as origin
 use Rattle.fab_types.specs.declared.outcome.Outcome.{Outcome}
 use Rattle.fab_types.specs.declared.place.Place.{Place}
-use Rattle.agents.specs.Agents.{outbox_place}
+use Rattle.domains.specs.Agents.{outbox_place}
 use Rattle.domains.specs.Aliens.{flown}
 use Rattle.domains.specs.Domains.{place_of_function}
 use Rattle.interconnect.specs.Passes.{index_of}

@@ -5,7 +5,7 @@ use Rattle.fab_types.specs.declared.origin.Origin.TheVariants as origin
 use Rattle.fab_types.specs.declared.place.Place.{Place}
 use Rattle.fab_types.specs.declared.place.Place.TheVariants as place
 use Rattle.frame_log.specs.Descriptor.{Descriptor}
-pub use Rattle.whereabouts.specs.Standing.{channel_in, down, egress_of, ingress_of, places_on, standing_in, up, wire_of}
+pub use Rattle.packet_places.specs.Standing.{channel_in, down, egress_of, ingress_of, places_on, standing_in, up, wire_of}
 use Rattle.fabric_core.specs.World.{World}
 
 -- ---- where packets stand

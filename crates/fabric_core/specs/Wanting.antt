@@ -3,7 +3,7 @@
 use Rattle.std.specs.Prelude.{◌≡◌, ⊤, ℕ, false, Option, Some, None, IsSome, slice_index_or}
 use Rattle.fab_types.specs.declared.class.Class.{Class}
 use Rattle.domain.specs.declared.entry.Entry.TheVariants as entry
-use Rattle.agents.specs.Agents.{accessed, submitted}
+use Rattle.domains.specs.Agents.{accessed, submitted}
 use Rattle.port.specs.Courses.{course_of}
 use Rattle.port.specs.declared.course.Forwarding.{Forwarding}
 use Rattle.port.specs.declared.course.Forwarding.TheVariants.{To, Stop, NoCase}

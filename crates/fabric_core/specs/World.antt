@@ -11,7 +11,7 @@ use Rattle.port.specs.Turns.{PortView}
 use Rattle.topology.specs.Topologies.{Tree, tree_of}
 use Rattle.interconnect.specs.Starts.{nodes_of, ports_of}
 use Rattle.interconnect.specs.Views.{InterconnectView, channels, channels_of}
-use Rattle.agents.specs.Agents.{AgentsView, agents_of}
+use Rattle.domains.specs.Agents.{AgentsView, agents_of}
 
 pub record World : Type 0 where
   pub tree : Tree  -- the ends of each link, and the places of the ports

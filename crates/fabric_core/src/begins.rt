@@ -8,7 +8,7 @@ ghost use Rattle.fabric_core.specs.declared.event.Event.TheVariants.{Mmio, Submi
 ghost use Rattle.fabric_core.specs.Events.{StepsTo};
 ghost use Rattle.fabric_core.specs.World.{world_over};
 
-use agents::Agents;
+use domains::Agents;
 use fab_types::{
     Bdf, BeginFault, DomainId, HostAccess, MmioFault, Outcome, PacketBytes, SubmitFault, TickFault,
 };

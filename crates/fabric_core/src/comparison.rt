@@ -1,7 +1,7 @@
 //! Two runs, compared by the journal of one domain.
 
 ghost use Rattle.std.specs.Prelude.{◌≡◌, ◌↔◌, Err, IfOk, IsTrue, None, is_some};
-ghost use Rattle.agents.specs.Agents.{AreReplayed};
+ghost use Rattle.domains.specs.Agents.{AreReplayed};
 ghost use Rattle.fab_types.specs.declared.faults.runs.CompareFault.{CompareFault};
 ghost use Rattle.platform.specs.Owners.{owns_port};
 ghost use Rattle.fabric_core.specs.Comparisons.{Compares, IsRun, journal_of};

@@ -14,7 +14,7 @@ ghost use Rattle.domains.specs.Domains.{Emits};
 ghost use Rattle.fabric_core.specs.World.{world_over};
 
 use crate::wires::TOP_SWITCH;
-use agents::Agents;
+use domains::Agents;
 use fab_types::{Bdf, Class, Direction, Outcome, Place, Way};
 use frame_log::{Frame, FrameFault};
 use interconnect::Interconnect;

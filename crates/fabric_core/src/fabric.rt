@@ -3,7 +3,7 @@
 ghost use Rattle.std.specs.Prelude.{◌≡◌, ◌≢◌, ◌↔◌, All, IfOk, OnErr, None, option_map, false, true};
 ghost use Rattle.std.specs.List.{list_all};
 ghost use Rattle.std.specs.Option.{option_copied};
-ghost use Rattle.agents.specs.Agents.{AreReplayed};
+ghost use Rattle.domains.specs.Agents.{AreReplayed};
 ghost use Rattle.fab_types.specs.declared.outcome.Outcome.TheVariants.{Idle};
 ghost use Rattle.platform.specs.Share.{is_guarded_port};
 ghost use Rattle.domains.specs.Domains.{domain_at, place_of};
@@ -35,19 +35,19 @@ use crate::station::Station;
 use crate::step::step;
 use crate::waits::waits;
 use crate::whose::home;
-use agents::Agents;
 use credit::Limits;
 use domain::Domain;
+use domains::Agents;
 use fab_types::{Class, Direction, DomainId, NoMemory, Outcome, Place, PlacesFault, Violation};
 use frame_log::Frame;
 use interconnect::Interconnect;
 use layout::Layout;
+use packet_places::whereabouts_of;
 use port::Reports;
 use port_queue::LeavingClasses;
 use std::alloc::Global;
 use std::marker::Model;
 use std::sync::Wait;
-use whereabouts::whereabouts_of;
 
 /// A fabric: the links and switches of a layout, and its domains.
 /// It also has what the domains have emitted, the violations that its ports reported, and the packets that the

@@ -8,7 +8,7 @@ ghost use Rattle.fab_types.specs.declared.place.Place.{Place};
 ghost use Rattle.domain.specs.Consumed.{is_in_order};
 ghost use Rattle.domain.specs.Orders.{IsPosted};
 ghost use Rattle.domain.specs.Sent.{Sent, sent};
-ghost use Rattle.domain_parts.specs.State.{item_at};
+ghost use Rattle.domain_state.specs.State.{item_at};
 ghost use Rattle.domain.specs.declared.entry.Entry.TheVariants.{Refuse};
 ghost use Rattle.domain.specs.Domains.{DomainView};
 ghost use Rattle.platform.specs.Platform.{Platform};

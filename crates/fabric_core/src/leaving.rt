@@ -4,7 +4,7 @@ ghost use Rattle.std.specs.Prelude.{◌≡◌, List, is_some};
 ghost use Rattle.fab_types.specs.declared.class.Class.{Class};
 ghost use Rattle.fab_types.specs.declared.violation.Violation.{Violation};
 ghost use Rattle.frame_log.specs.Descriptor.{Descriptor};
-ghost use Rattle.agents.specs.Agents.{AgentsView};
+ghost use Rattle.domains.specs.Agents.{AgentsView};
 ghost use Rattle.interconnect.specs.Views.{channels};
 ghost use Rattle.topology.specs.Links.{sender_of};
 ghost use Rattle.fabric_core.specs.declared.station.Station.TheVariants.{Link, Port};
@@ -15,7 +15,7 @@ ghost use Rattle.fabric_core.specs.World.{world_over};
 
 use crate::ends::top_link;
 use crate::station::Station;
-use agents::Agents;
+use domains::Agents;
 use fab_types::{Direction, Origin, PortId, Way};
 use interconnect::Interconnect;
 use port_queue::LeavingClasses;

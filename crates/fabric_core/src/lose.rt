@@ -13,7 +13,7 @@ ghost use Rattle.fabric_core.specs.Losing.{is_at_port_of};
 ghost use Rattle.fabric_core.specs.Passing.{answered_at};
 ghost use Rattle.fabric_core.specs.Settling.{AnswersByCompletion, IsBack, IsTaken, Loses};
 
-use agents::Agents;
+use domains::Agents;
 use fab_types::{NoMemory, Outcome, Place, Violation};
 use frame_log::{Frame, FrameFault};
 use interconnect::{Interconnect, Lost};

@@ -8,7 +8,7 @@ ghost use Rattle.fabric_core.specs.Invariant.{IsConsistent};
 ghost use Rattle.fabric_core.specs.World.{world_over};
 
 use crate::lose::{lose, may_lose};
-use agents::Agents;
+use domains::Agents;
 use fab_types::{Class, Outcome, PortId};
 use interconnect::Interconnect;
 use port::Reports;

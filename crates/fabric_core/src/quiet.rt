@@ -3,14 +3,14 @@
 ghost use Rattle.std.specs.Prelude.{◌≡◌, List};
 ghost use Rattle.fab_types.specs.declared.violation.Violation.{Violation};
 ghost use Rattle.frame_log.specs.Descriptor.{Descriptor};
-ghost use Rattle.agents.specs.Agents.{waiting_of};
+ghost use Rattle.domains.specs.Agents.{waiting_of};
 ghost use Rattle.link.specs.Quiet.{none_eligible};
 ghost use Rattle.fabric_core.specs.Stations.{is_quiet};
 ghost use Rattle.fabric_core.specs.World.{world_over};
 
 use crate::ends::top_link;
 use crate::station::Station;
-use agents::Agents;
+use domains::Agents;
 use fab_types::{Direction, Origin, Way};
 use interconnect::Interconnect;
 

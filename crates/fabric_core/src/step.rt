@@ -10,7 +10,7 @@ use crate::ends::{arrive, root};
 use crate::event::Event;
 use crate::pass::pass;
 use crate::wires::{deliver, enter, send, update_fc};
-use agents::Agents;
+use domains::Agents;
 use fab_types::Outcome;
 use frame_log::Frame;
 use interconnect::Interconnect;

@@ -3,7 +3,7 @@
 ghost use Rattle.std.specs.Prelude.{◌≡◌, List};
 ghost use Rattle.fab_types.specs.declared.violation.Violation.{Violation};
 ghost use Rattle.frame_log.specs.Descriptor.{Descriptor};
-ghost use Rattle.agents.specs.Agents.{AgentsView};
+ghost use Rattle.domains.specs.Agents.{AgentsView};
 ghost use Rattle.interconnect.specs.Views.{IsSameRest, channels};
 ghost use Rattle.fabric_core.specs.Waits.{waits};
 ghost use Rattle.fabric_core.specs.World.{world_over};

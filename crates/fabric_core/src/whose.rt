@@ -2,7 +2,7 @@
 
 ghost use Rattle.std.specs.Prelude.{◌≡◌, List};
 ghost use Rattle.std.specs.Option.{option_and_then};
-ghost use Rattle.agents.specs.Agents.{AgentsView};
+ghost use Rattle.domains.specs.Agents.{AgentsView};
 ghost use Rattle.fab_types.specs.declared.violation.Violation.{Violation};
 ghost use Rattle.frame_log.specs.Descriptor.{Descriptor};
 ghost use Rattle.interconnect.specs.Passes.{input_of};
@@ -15,7 +15,7 @@ ghost use Rattle.domains.specs.Domains.{domain_at, place_of};
 
 use crate::ends::top_link;
 use crate::event::Event;
-use agents::Agents;
+use domains::Agents;
 use fab_types::{Class, Direction, DomainId, PortId, Way};
 use interconnect::Interconnect;
 

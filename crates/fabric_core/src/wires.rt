@@ -6,10 +6,10 @@ ghost use Rattle.fab_types.specs.declared.outcome.Outcome.TheVariants.{Idle, Mov
 ghost use Rattle.frame_log.specs.Descriptor.{Descriptor};
 ghost use Rattle.fabric_core.specs.declared.event.Event.TheVariants.{Credit, Enter, Send, Take};
 ghost use Rattle.fabric_core.specs.Events.{StepsTo, link_of};
-ghost use Rattle.agents.specs.Agents.{AgentsView};
+ghost use Rattle.domains.specs.Agents.{AgentsView};
 ghost use Rattle.fabric_core.specs.World.{world_over};
 
-use agents::Agents;
+use domains::Agents;
 use fab_types::{Bdf, Class, Direction, Origin, Outcome, Way};
 use interconnect::Interconnect;
 

@@ -1,9 +1,18 @@
-//! Tests of ports and of domains by public calls: what no text of a run shows.
+//! Tests of ports, of domains and of fabrics by public calls, of what no text of a run shows: turns, lists of single
+//! events, runs without the events of other domains, and where packets stand.
 #![tactic(auto)]
 
 #[cfg(test)]
-mod domains;
-#[cfg(test)]
 mod fakes;
+#[cfg(test)]
+mod lists;
+#[cfg(test)]
+mod moves;
+#[cfg(test)]
+mod places;
+#[cfg(test)]
+mod taken_out;
+#[cfg(test)]
+mod tenants;
 #[cfg(test)]
 mod turns;

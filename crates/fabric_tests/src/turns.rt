@@ -1,7 +1,7 @@
 //! Turns of ports over queues in memory, with one domain at the desk.
 
-use crate::domains::domain_of;
 use crate::fakes::{Giving, OneDomain, Place};
+use crate::tenants::domain_of;
 use bridge::Bridge;
 use fab_types::Class::{Completion, NonPosted, Posted};
 use fab_types::{Bdf, Class, Outcome, PortId};

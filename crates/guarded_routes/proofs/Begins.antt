@@ -42,12 +42,12 @@ use Rattle.fab_types.specs.declared.host_access.Operation.TheVariants as access
 use Rattle.domain.specs.declared.entry.Entry.TheVariants.{Submit, Tick, Mmio}
 use Rattle.request_handling.specs.Answers.{page_at}
 use Rattle.request_handling.specs.Heads.{descriptor_of, header_unless, packet_header}
-use Rattle.domain_parts.specs.HostAccesses.{host_emission, host_request, is_in_page, mmio_fault, mmio_unless, mmio_with, size_of, tag_for}
+use Rattle.domain_state.specs.HostAccesses.{host_emission, host_request, is_in_page, mmio_fault, mmio_unless, mmio_with, size_of, tag_for}
 use Rattle.domain.specs.Machine.{change}
 use Rattle.request_handling.specs.Emissions.{Emission}
-use Rattle.domain_parts.specs.State.{Alone, Change}
+use Rattle.domain_state.specs.State.{Alone, Change}
 use Rattle.domain.specs.Submits.{submit_fault, submit_unless}
-use Rattle.domain_parts.specs.Tags.{completes, is_completion_unless}
+use Rattle.domain_state.specs.Tags.{completes, is_completion_unless}
 use Rattle.domain.specs.Ticks.{sent_by, tick_fault, tick_unless, ticks, ticks_by}
 use Rattle.request_handling.specs.WellMade.{IsWellMade}
 use Rattle.guarded_routes.specs.Guarded.{IsFunctionOf, IsGuarded, holds_if_any, top_id}

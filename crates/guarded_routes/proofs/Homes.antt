@@ -11,7 +11,7 @@ use Rattle.platform.specs.declared.parts.DownstreamPort.{DownstreamPort}
 use Rattle.layout.specs.Laws.{IsPlatform, is_home_map, is_home_target, is_known, is_known_map, is_placed, is_placed_below}
 use Rattle.platform.specs.Owners.{first_port, is_function}
 use Rattle.platform.specs.Platform.{Platform}
-use Rattle.domain_start.specs.Tables.{fits, target_of}
+use Rattle.platform.specs.Tables.{fits, target_of}
 use Rattle.platform.specs.Tree.{domain_of, id_below, owner_or_none, port_leading_to}
 use Rattle.layout.specs.Views.{is_map_of, maps_of}
 use Rattle.guarded_routes.specs.Guarded.{IsFunctionOf}

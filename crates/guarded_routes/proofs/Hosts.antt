@@ -21,7 +21,7 @@ use Rattle.platform.specs.Egress.{direct_to}
 use Rattle.platform.specs.Owners.{bar_of, owner_of, is_function}
 use Rattle.platform.specs.Platform.{Platform}
 use Rattle.platform.specs.Share.{Share}
-use Rattle.domain_start.specs.Tables.{target_of}
+use Rattle.platform.specs.Tables.{target_of}
 use Rattle.layout.specs.Views.{share_of_domain}
 use Rattle.tlp_view.specs.Bytes.{packet_of}
 use Rattle.tlp_view.specs.Packet.{Packet, dw_count, status_in}
@@ -33,12 +33,12 @@ use Rattle.request_handling.specs.Answers.{address_of}
 use Rattle.request_handling.specs.AtFunctions.{request_at_function}
 use Rattle.request_handling.specs.Carries.{carriage_by, carriage_of, forward, is_carried, is_owner, read_from, refused_by_host, serve, serve_add, serve_read, write_to}
 use Rattle.domain.specs.Deliveries.{arrival_at, arrival_of}
-use Rattle.domain_parts.specs.Ends.{conclude}
+use Rattle.domain_state.specs.Ends.{conclude}
 use Rattle.request_handling.specs.Fates as fates
 use Rattle.request_handling.specs.Heads.{head_of}
 use Rattle.domain.specs.Machine.{carry, deliver}
 use Rattle.request_handling.specs.Emissions.{Emission}
-use Rattle.domain_parts.specs.State.{Alone}
+use Rattle.domain_state.specs.State.{Alone}
 use Rattle.guarded_routes.specs.Ends.{Flies, IsFor, IsLegal, IsOwnRequest}
 use Rattle.guarded_routes.specs.Guarded.{IsFunctionOf, IsGuarded, has_id, top_id}
 use Rattle.guarded_routes.specs.Sound.{Falling, IsCleared, Reaches, Replying, Rising, is_reply, let_by}

@@ -9,7 +9,7 @@ use Rattle.platform.specs.declared.parts.Switch.{Switch}
 use Rattle.layout.specs.Laws.{IsPlatform, is_hung, is_hung_by, is_hung_below, is_no_switch, is_placed, is_placed_below}
 use Rattle.platform.specs.Owners.{first_port, holds_bus, is_function}
 use Rattle.platform.specs.Platform.{Platform}
-use Rattle.domain_start.specs.Reach.{holds_bus_if_any}
+use Rattle.platform.specs.Reach.{holds_bus_if_any}
 use Rattle.platform.specs.Tree.{id_below, internal_bus, is_switch, is_taken, port_above, port_at, port_leading_to, switch_on}
 use Rattle.bridge.specs.declared.target.Target.{Target}
 use Rattle.bridge.specs.declared.target.Target.TheVariants.{Bus}

@@ -11,7 +11,7 @@ use Rattle.platform.specs.declared.parts.DownstreamPort.{DownstreamPort}
 use Rattle.layout.specs.Laws.{has_domain}
 use Rattle.platform.specs.Owners.{holds_bus, owner_of, owner_of_bus, owner_of_parts, owns_port}
 use Rattle.platform.specs.Platform.{Platform}
-use Rattle.domain_start.specs.Reach.{holds_bus_if_any}
+use Rattle.platform.specs.Reach.{holds_bus_if_any}
 use Rattle.switch_output.specs.Vetted.{is_own, requester_owner}
 use Rattle.bridge.specs.declared.target.Target.TheVariants.{Bus}
 use Rattle.guarded_routes.specs.Guarded.{IsFunctionOf, IsGuarded, has_id}

@@ -20,7 +20,7 @@ use Rattle.layout.specs.Laws.{is_hung, is_nested_on}
 use Rattle.platform.specs.Egress.{direct_at, direct_to}
 use Rattle.platform.specs.Owners.{first_port, holds_address, holds_bus, is_function}
 use Rattle.platform.specs.Platform.{Platform}
-use Rattle.domain_start.specs.Reach.{holds_bus_if_any}
+use Rattle.platform.specs.Reach.{holds_bus_if_any}
 use Rattle.platform.specs.Share.{is_guarded_port}
 use Rattle.platform.specs.Tree.{id_below, internal_bus, is_switch, is_taken, port_above, port_leading_to, switch_on}
 use Rattle.bridge.specs.declared.route.Route.TheVariants as to

@@ -9,7 +9,7 @@ use Rattle.platform.specs.declared.parts.EndpointFunction.{EndpointFunction}
 use Rattle.platform.specs.declared.parts.DownstreamPort.{DownstreamPort}
 use Rattle.platform.specs.Owners.{first_port, is_function, is_own_function}
 use Rattle.platform.specs.Platform.{Platform}
-use Rattle.domain_start.specs.Reach.{function_at, holds_bus_if_any, reach}
+use Rattle.platform.specs.Reach.{function_at, holds_bus_if_any, reach}
 use Rattle.platform.specs.Tree.{id_below}
 use Rattle.layout.specs.Views.{share_of_domain}
 use Rattle.bridge.specs.declared.target.Target.TheVariants.{Bus}

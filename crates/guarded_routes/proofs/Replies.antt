@@ -24,9 +24,9 @@ use Rattle.platform.specs.declared.parts.MapTarget.{MapTarget}
 use Rattle.platform.specs.declared.parts.MapTarget.TheVariants.{Frame, Peer}
 use Rattle.platform.specs.Owners.{bar_of, first_port, holds_bus, is_function}
 use Rattle.platform.specs.Platform.{Platform}
-use Rattle.domain_start.specs.Reach.{reach}
+use Rattle.platform.specs.Reach.{reach}
 use Rattle.platform.specs.Share.{Share}
-use Rattle.domain_start.specs.Tables.{target_of as mapped_to}
+use Rattle.platform.specs.Tables.{target_of as mapped_to}
 use Rattle.layout.specs.Views.{share_of_domain}
 use Rattle.tlp_view.specs.Bytes.{address_at, enables_at, packet_of}
 use Rattle.tlp_view.specs.Completions.{atomic_completion, completion_bytes, read_completion, refusal}
@@ -40,11 +40,11 @@ use Rattle.request_handling.specs.Answers.{address_of, answered_by, forwarded, f
 use Rattle.request_handling.specs.AtFunctions.{access_of, is_access, lies_in, or_discarded, request_at_function, unserved}
 use Rattle.request_handling.specs.declared.handling.Handling.{Handling}
 use Rattle.request_handling.specs.Carries.{add_if, carriage_of, forward, port_id, read_from, refusal_by, refusal_of, refused_by_host, serve, serve_add, serve_read, write_to}
-use Rattle.domain_parts.specs.Ends.{conclude}
+use Rattle.domain_state.specs.Ends.{conclude}
 use Rattle.request_handling.specs.Heads.{descriptor_of, header_unless}
 use Rattle.domain.specs.Machine.{carry, change, refuse}
 use Rattle.request_handling.specs.Emissions.{Emission}
-use Rattle.domain_parts.specs.State.{Alone, Change, emits_nothing, item_at, without}
+use Rattle.domain_state.specs.State.{Alone, Change, emits_nothing, item_at, without}
 use Rattle.request_handling.specs.WellMade.{IsWellMade}
 use Rattle.domain.specs.declared.entry.Entry.TheVariants.{Carry, Deliver, Refuse}
 use Rattle.request_handling.specs.declared.fate.Fate.{Fate}

@@ -35,12 +35,12 @@ use Rattle.domain.specs.declared.entry.Entry.TheVariants.{Carry, Refuse}
 use Rattle.request_handling.specs.declared.fate.Fate.{Fate}
 use Rattle.request_handling.specs.declared.fate.Fate.TheVariants.{Vanish, Refused, ToHost, Direct}
 use Rattle.request_handling.specs.Carries.{carriage_of, port_id, refusal_by, refusal_of}
-use Rattle.domain_parts.specs.Ends.{conclude}
+use Rattle.domain_state.specs.Ends.{conclude}
 use Rattle.request_handling.specs.Fates as fates
 use Rattle.request_handling.specs.Heads.{head_of, header_unless, packet_header}
 use Rattle.domain.specs.Machine.{carry, refuse, replay}
 use Rattle.request_handling.specs.Emissions.{Emission}
-use Rattle.domain_parts.specs.State.{Alone}
+use Rattle.domain_state.specs.State.{Alone}
 use Rattle.domain.proofs.PageIds.{own_page}
 use Rattle.guarded_routes.specs.FirstPorts.{IsGuardedFirst, by_fate, report_at, route_beside, route_for, sent_by}
 use Rattle.guarded_routes.specs.Ends.{Flies, IsFor, IsLegal, IsPeerRequest, IsRequestTo}

@@ -16,7 +16,7 @@ use Rattle.domain.specs.declared.entry.Entry.{Entry}
 use Rattle.request_handling.specs.Heads.{head_of}
 use Rattle.domain.specs.Machine.{change}
 use Rattle.request_handling.specs.Emissions.{Emission}
-use Rattle.domain_parts.specs.State.{Alone, item_at}
+use Rattle.domain_state.specs.State.{Alone, item_at}
 use Rattle.guarded_routes.specs.Guarded.{IsFunctionOf, has_id}
 
 -- the packet of an emission that is in flight

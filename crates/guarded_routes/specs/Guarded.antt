@@ -6,7 +6,7 @@ use Rattle.platform.specs.declared.parts.DownstreamPort.{DownstreamPort}
 use Rattle.layout.specs.Laws.{IsPlatform}
 use Rattle.platform.specs.Owners.{domain_above, first_port, is_function}
 use Rattle.platform.specs.Platform.{Platform}
-use Rattle.domain_start.specs.Reach.{holds_bus_if_any}
+use Rattle.platform.specs.Reach.{holds_bus_if_any}
 use Rattle.platform.specs.Share.{is_guarded_port}
 use Rattle.platform.specs.Tree.{port_leading_to}
 use Rattle.bridge.specs.declared.target.Target.{Target}

@@ -36,7 +36,7 @@ ghost use Rattle.fab_types.specs.declared.host_access.HostAccess.{HostAccess};
 ghost use Rattle.request_handling.specs.Heads.{descriptor_of, head_of, packet_header};
 ghost use Rattle.domain.specs.Machine.{change, replay};
 ghost use Rattle.request_handling.specs.Emissions.{Emission};
-ghost use Rattle.domain_parts.specs.State.{Alone, Change};
+ghost use Rattle.domain_state.specs.State.{Alone, Change};
 ghost use Rattle.request_handling.specs.WellMade.{IsWellMade};
 ghost use Rattle.guarded_routes.specs.Ends.{Flies, IsFor, IsLegal, IsOwnRequest, IsRequestTo};
 ghost use Rattle.guarded_routes.specs.Guarded.{IsFunctionOf, IsGuarded, is_below, top_id};

@@ -8,7 +8,7 @@ use Rattle.std.proofs.lemmas.List.Edits.{length-insert}
 use Rattle.std.proofs.lemmas.List.Elements.{All-cons, All-contains, All-nil, Contains-append_left, Contains-get_or, Contains-push, Contains-push_cases}
 use Rattle.std.proofs.lemmas.List.Sorted.{Contains-permutation, IsPermutation-sym}
 use Rattle.platform.specs.declared.parts.Mapping.{Mapping}
-use Rattle.domain_start.specs.Tables.{MapsOnce}
+use Rattle.platform.specs.Tables.{MapsOnce}
 use Rattle.host_table.specs.Rising.{RisesBy, IsAt, IsGapFor}
 use Rattle.host_table.specs.Groups.{PageGroup, group_number, group_of, IsGroup, StandsIn, HaveOneMore, AreGroups}
 use Rattle.host_table.proofs.Rising.{rises-insert, same_place}

@@ -7,7 +7,7 @@ use Rattle.std.proofs.lemmas.List.{get_or_default}
 use Rattle.platform.specs.declared.parts.Mapping.{Mapping}
 use Rattle.platform.specs.declared.parts.MapTarget.{MapTarget}
 use Rattle.platform.specs.declared.parts.Access.{Access}
-use Rattle.domain_start.specs.Tables.{MapsOnce, fits, allows, target_of}
+use Rattle.platform.specs.Tables.{MapsOnce, fits, allows, target_of}
 
 both_parts : (a b : Bool) → (a && b) ≡ true → (a ≡ true) × (b ≡ true)
 both_parts true b both = (refl, both)

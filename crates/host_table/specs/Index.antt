@@ -1,7 +1,7 @@
 -- What holds of every table: its lines, and the groups of each requester.
 use Rattle.std.specs.Prelude.{◌≡◌, List, All, Any}
 use Rattle.platform.specs.declared.parts.Mapping.{Mapping}
-use Rattle.domain_start.specs.Tables.{MapsOnce}
+use Rattle.platform.specs.Tables.{MapsOnce}
 use Rattle.host_table.specs.Rising.{RisesBy}
 use Rattle.host_table.specs.Groups.{AreGroups}
 use Rattle.host_table.specs.declared.index.RequesterGroups.{RequesterGroups}

@@ -1,7 +1,7 @@
 //! The groups of each requester.
 
 ghost use Rattle.std.specs.Prelude.{◌+◌, ◌<◌, IfOk, OnOk, length, take};
-ghost use Rattle.domain_start.specs.Tables.{MapsOnce};
+ghost use Rattle.platform.specs.Tables.{MapsOnce};
 ghost use Rattle.host_table.specs.Rising.{IsPlaceOf, RisesBy};
 ghost use Rattle.host_table.specs.Index.{IsIndex};
 

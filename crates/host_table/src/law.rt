@@ -3,7 +3,7 @@
 ghost use Rattle.std.specs.Prelude.{◌≡◌, ◌↔◌, ℕ, Some, Any, IsTrue};
 ghost use Rattle.platform.specs.declared.parts.Access.{Access};
 ghost use Rattle.platform.specs.declared.parts.MapTarget.{MapTarget};
-ghost use Rattle.domain_start.specs.Tables.{target_of, fits};
+ghost use Rattle.platform.specs.Tables.{target_of, fits};
 
 use crate::table::HostTable;
 

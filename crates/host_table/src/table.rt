@@ -1,7 +1,7 @@
 //! The table of a domain's host.
 
 ghost use Rattle.std.specs.Prelude.{◌≡◌, IfOk, Some};
-ghost use Rattle.domain_start.specs.Tables.{MapsOnce, target_of, allows};
+ghost use Rattle.platform.specs.Tables.{MapsOnce, target_of, allows};
 ghost use Rattle.host_table.specs.Target.{mapped_to};
 ghost use Rattle.host_table.specs.Groups.{AreGroups};
 

@@ -3,7 +3,7 @@ use Rattle.std.proofs.Common.{◌≡◌, ℕ, ◌+◌, ◌<◌, ◌≤◌, List,
 use Rattle.std.specs.Prelude.{slice_index_or}
 use Rattle.std.proofs.lemmas.List.{drop_all, drop_more}
 use Rattle.import.specs.declared.reason.LeftOut.{LeftOut}
-use Rattle.layout_draft.specs.DraftViews.{Written}
+use Rattle.text_writers.specs.DraftViews.{Written}
 use Rattle.import.specs.Told.{IsToldOf, TellEach}
 
 -- where the parts from this one on are told, all are

@@ -9,7 +9,7 @@ use Rattle.std.proofs.lemmas.List.Folds.{list_all-append}
 use Rattle.fab_types.specs.Id.{bus_of, device_of, function_of}
 use Rattle.fab_types.specs.Texts.{byte_text, id_text}
 use Rattle.lspci.specs.declared.lines.Location.{Location}
-use Rattle.layout_draft.specs.Comments.{IsPrintable, is_printable}
+use Rattle.text_writers.specs.Comments.{IsPrintable, is_printable}
 use Rattle.import.specs.declared.reason.MachineId.{MachineId}
 use Rattle.import.specs.declared.reason.Reason.{Reason}
 use Rattle.import.specs.declared.reason.Reason.TheVariants as reason

@@ -2,7 +2,7 @@
 use Rattle.std.specs.Prelude.{List}
 use Rattle.import.specs.declared.devices.Devices.TheInside.{Inside}
 use Rattle.import.specs.declared.reason.LeftOut.{LeftOut}
-use Rattle.layout_draft.specs.DraftViews.{Written}
+use Rattle.text_writers.specs.DraftViews.{Written}
 
 -- a layout, and what it hasn't of the devices, in the order of their lines
 pub record Imported : Type 0 where

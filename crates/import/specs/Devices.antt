@@ -18,7 +18,7 @@ use Rattle.import.specs.declared.reason.Reason.TheVariants as reason
 use Rattle.import.specs.declared.reason.Why.{Why}
 use Rattle.import.specs.declared.tree.Tree.{Tree}
 use Rattle.import.specs.DeviceViews.{Imported}
-use Rattle.layout_draft.specs.Drafts.{start, start_text, unless_faulty, with_line}
+use Rattle.text_writers.specs.Drafts.{start, start_text, unless_faulty, with_line}
 use Rattle.import.specs.Names.{name_of}
 use Rattle.import.specs.Places.{own, why_not}
 use Rattle.import.specs.Roles.{is_endpoint}

@@ -6,7 +6,7 @@ use Rattle.lspci.specs.declared.acs.Acs.TheVariants.{Absent, Unknown, Standard, 
 use Rattle.lspci.specs.declared.lines.Location.{Location}
 use Rattle.lspci.specs.Lines.{location_text, trimmed}
 use Rattle.text.specs.Text.{pieces}
-use Rattle.layout_draft.specs.Comments.{is_printable}
+use Rattle.text_writers.specs.Comments.{is_printable}
 
 -- the line of this number, counted from 1
 abbrev pub line_at : List ℕ → ℕ → Option (List ℕ)

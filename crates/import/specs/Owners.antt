@@ -1,7 +1,7 @@
 -- A list of who owns which device.
 use Rattle.std.specs.Prelude.{ℕ, ◌&&◌, nat_le, List, [], ◌∷◌, Option, Some, None, option_map, Result, if◌then◌else◌}
 use Rattle.fab_types.specs.declared.faults.script.ScriptFault.{ScriptFault}
-use Rattle.line_reader.specs.Reading as lines
+use Rattle.text.specs.Reading as lines
 use Rattle.lspci.specs.Lines.{location_of}
 use Rattle.text.specs.Text.{◌>>=◌, at_blank, decimal}
 use Rattle.import.specs.declared.owners.Owner.{Owner}

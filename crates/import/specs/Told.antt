@@ -6,10 +6,10 @@ use Rattle.layout_line.specs.declared.lines.LayoutLine.TheVariants as line
 use Rattle.lspci.specs.Acs.{acs_of}
 use Rattle.import.specs.declared.reason.LeftOut.{LeftOut}
 use Rattle.import.specs.Controls.{has_further_controls, loses_egress}
-use Rattle.layout_draft.specs.Comments.{IsPrintable}
+use Rattle.text_writers.specs.Comments.{IsPrintable}
 use Rattle.import.specs.DeviceViews.{Imported}
-use Rattle.layout_draft.specs.DraftViews.{Written}
-use Rattle.layout_draft.specs.Drafts.{noted}
+use Rattle.text_writers.specs.DraftViews.{Written}
+use Rattle.text_writers.specs.Drafts.{noted}
 use Rattle.import.specs.Names.{name_of, remark_of}
 use Rattle.import.specs.Reasons.{AreWordsOf}
 use Rattle.import.specs.Roles.{has_further_window}

@@ -2,7 +2,7 @@
 
 ghost use Rattle.std.specs.Prelude.{◌≡◌, IfOk, string_bytes};
 ghost use Rattle.std.specs.List.{list_all};
-ghost use Rattle.layout_draft.specs.Comments.{IsPrintable, is_printable};
+ghost use Rattle.text_writers.specs.Comments.{IsPrintable, is_printable};
 ghost use Rattle.import.specs.Reasons.{AreWordsOf};
 
 use crate::reason::Why;

@@ -2,7 +2,7 @@
 
 ghost use Rattle.std.specs.Prelude.{◌≡◌, ◌≤◌, IfOk, None, Some, if◌then◌else◌};
 ghost use Rattle.import.specs.Devices.{first_map, leaving_out, no_devices, version_of, with_device, with_line_of, with_map, with_more, with_statement, with_vector};
-ghost use Rattle.layout_draft.specs.Stated.{IsStated};
+ghost use Rattle.text_writers.specs.StatedLines.{IsStated};
 ghost use Rattle.import.specs.Told.{IsTold};
 
 use crate::names::Names;
@@ -14,12 +14,12 @@ use crate::statements::statement_of;
 use crate::telling::{tell_device, tell_left_out};
 use crate::tree::Tree;
 use fab_types::NoMemory;
-use layout_draft::Draft;
 use layout_line::{EgressText, FunctionText, LayoutLine, MapText, RightsText, TargetText};
 use lspci::{Device, Dump};
 use platform::LayoutVersion;
 use std::alloc::Global;
 use std::marker::Model;
+use text_writers::Draft;
 
 /// What a layout is made of.
 #[derive(Clone, Copy)]

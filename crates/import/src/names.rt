@@ -3,7 +3,7 @@
 ghost use Rattle.std.specs.Prelude.{◌≡◌, ◌≤◌, IfOk, IfSome, MatchOption, drop, length, option_map, slice_get, string_bytes};
 ghost use Rattle.lspci.specs.Acs.{acs_of};
 ghost use Rattle.text.specs.Text.{pieces};
-ghost use Rattle.layout_draft.specs.Comments.{IsPrintable};
+ghost use Rattle.text_writers.specs.Comments.{IsPrintable};
 ghost use Rattle.import.specs.Names.{is_name, line_at, name_of, remark_of};
 
 use crate::comments::is_printable;

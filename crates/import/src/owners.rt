@@ -1,14 +1,13 @@
 //! The list of who owns which device.
 
 ghost use Rattle.std.specs.Prelude.{◌≡◌, List, Option};
-ghost use Rattle.line_reader.specs.Reading.{IsReading, list_of};
+ghost use Rattle.text.specs.Reading.{IsReading, list_of};
 ghost use Rattle.import.specs.Owners.{domain_text, owner_text, reading, said};
 
 use fab_types::{DomainId, ScriptCause, ScriptFault};
-use line_reader::{LineReader, read_lines};
 use lspci::{Location, location_of};
 use std::alloc::Global;
-use text::{at_blank, decimal};
+use text::{LineReader, at_blank, decimal, read_lines};
 
 /// The greatest number of a line.
 const LAST_LINE: u32 = 65_536;

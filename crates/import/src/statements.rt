@@ -2,7 +2,7 @@
 
 ghost use Rattle.std.specs.Prelude.{◌≡◌, ◌<◌, ◌^◌, IfOk};
 ghost use Rattle.fab_types.specs.Id.{id_of};
-ghost use Rattle.layout_draft.specs.Stated.{IsStated};
+ghost use Rattle.text_writers.specs.StatedLines.{IsStated};
 ghost use Rattle.import.specs.Statements.{function_line, line_id, only_at, port_bus, port_line, statement_of, switch_line, unreached};
 
 use crate::controls::controls_of;

@@ -2,7 +2,7 @@
 
 ghost use Rattle.std.specs.Prelude.{◌≡◌, IfOk};
 ghost use Rattle.lspci.specs.Acs.{acs_of};
-ghost use Rattle.layout_draft.specs.Comments.{IsPrintable};
+ghost use Rattle.text_writers.specs.Comments.{IsPrintable};
 ghost use Rattle.import.specs.Told.{IsToldOf, TellEach, part_word, with_name, with_remark, with_remark_if, with_remarks};
 ghost use Rattle.import.specs.Names.{remark_of};
 
@@ -12,10 +12,10 @@ use crate::names::{Names, remark_on};
 use crate::reason::LeftOut;
 use crate::role::has_further_window;
 use fab_types::{Bdf, NoMemory};
-use layout_draft::Draft;
 use layout_line::{EgressText, LayoutLine};
 use lspci::ConfigSpace;
 use std::alloc::Global;
+use text_writers::Draft;
 
 /// Tells what has to be told of a port's ACS.
 fn tell_remark(alloc: Global, draft: &mut Draft, space: &ConfigSpace<'_>) -> Result<(), NoMemory>

@@ -12,8 +12,8 @@ use Rattle.fab_types.specs.declared.faults.begin.TickFault.TheVariants as tick
 use Rattle.fab_types.specs.declared.faults.begin.MmioFault.{MmioFault}
 use Rattle.fab_types.specs.declared.faults.begin.MmioFault.TheVariants as mmio
 use Rattle.fab_types.specs.declared.host_access.HostAccess.{HostAccess}
-use Rattle.domain_parts.specs.HostAccesses.{is_in_page, mmio_fault, size_of, tag_for}
-use Rattle.domain_parts.specs.Tags.{completes, is_open, opens_tag}
+use Rattle.domain_state.specs.HostAccesses.{is_in_page, mmio_fault, size_of, tag_for}
+use Rattle.domain_state.specs.Tags.{completes, is_open, opens_tag}
 use Rattle.fab_types.specs.declared.origin.Origin.TheVariants.{Function}
 use Rattle.platform.specs.Owners.{is_own_function}
 use Rattle.std.specs.Option.{is_none}

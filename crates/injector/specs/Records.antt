@@ -1,7 +1,7 @@
 -- Records on their way to an injector.
 use Rattle.std.specs.Prelude.{◌≡◌, ℕ, ◌++◌, List, Option, option_to_list}
 use Rattle.rtrb.specs.Ring.{sent}
-use Rattle.domain_parts.specs.State.{Delivery}
+use Rattle.domain_state.specs.State.{Delivery}
 use Rattle.domain.specs.Domains.{Delivers, DomainView}
 use Rattle.injector.specs.declared.record_ring.RecordRing.{RecordRing}
 

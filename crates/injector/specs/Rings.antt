@@ -6,7 +6,7 @@ use Rattle.fab_types.specs.declared.origin.Origin.{Origin}
 use Rattle.rtrb.specs.declared.AnyItems.{AnyItems}
 use Rattle.rtrb.specs.declared.consumer.Consumer.{Consumer}
 use Rattle.rtrb.specs.declared.producer.Producer.{Producer}
-use Rattle.domain_parts.specs.State.{Delivery}
+use Rattle.domain_state.specs.State.{Delivery}
 use Rattle.injector.specs.declared.begin.Begin.{Begin}
 use Rattle.injector.specs.declared.begin.Numbered.{Numbered}
 

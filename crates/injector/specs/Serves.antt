@@ -7,7 +7,7 @@ use Rattle.fab_types.specs.declared.faults.begin.TickFault.TheVariants as tick
 use Rattle.fab_types.specs.declared.faults.begin.MmioFault.TheVariants as mmio
 use Rattle.frame_log.specs.Descriptor.{Descriptor}
 use Rattle.rtrb.specs.Ring.{received, known_items}
-use Rattle.domain_parts.specs.HostAccesses.{mmio_fault}
+use Rattle.domain_state.specs.HostAccesses.{mmio_fault}
 use Rattle.domain.specs.declared.entry.Entry.{Entry}
 use Rattle.domain.specs.declared.entry.Entry.TheVariants as entry
 use Rattle.domain.specs.Domains.{DomainView, Makes}

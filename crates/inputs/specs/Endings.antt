@@ -11,8 +11,8 @@ use Rattle.command_line.specs.declared.request.WordsFault.{WordsFault}
 use Rattle.command_line.specs.declared.request.WordsFault.TheVariants as words
 use Rattle.import.specs.declared.fault.ImportFault.{ImportFault}
 use Rattle.import.specs.declared.fault.ImportFault.TheVariants as no_import
-use Rattle.journals.specs.declared.lines.LineFault.{LineFault}
-use Rattle.journals.specs.declared.lines.LineFault.TheVariants as line_fault
+use Rattle.journal_text.specs.declared.replaying.LineFault.{LineFault}
+use Rattle.journal_text.specs.declared.replaying.LineFault.TheVariants as line_fault
 use Rattle.inputs.specs.declared.fault.ExitStatus.{ExitStatus}
 use Rattle.inputs.specs.declared.fault.ExitStatus.TheVariants as exit_status
 use Rattle.inputs.specs.declared.fault.Fault.{Fault}

@@ -8,7 +8,7 @@ use fab_types::{
     LayoutCause, LayoutFault, NoMemory, ScriptCause, ScriptFault, StartFault, StopFault,
 };
 use import::ImportFault;
-use journals::LineFault;
+use journal_text::LineFault;
 use lspci::DumpFault;
 use std::alloc::AllocError;
 use std::io;

@@ -8,10 +8,10 @@ use Rattle.platform.specs.Share.{Share}
 use Rattle.text.specs.Text.{is_comment, is_last, pieces}
 use Rattle.text.proofs.LineLemmas.{IsLine, pieces_line}
 use Rattle.text.proofs.Pieces.{some-piece}
-use Rattle.line_reader.specs.Reading as lines
-use Rattle.line_reader.specs.Reading.{adds, and_on, before, read_from}
+use Rattle.text.specs.Reading as lines
+use Rattle.text.specs.Reading.{adds, and_on, before, read_from}
 use Rattle.request_handling.specs.Emissions.{Emission}
-use Rattle.domain_parts.specs.State.{Alone, Change, start_state}
+use Rattle.domain_state.specs.State.{Alone, Change, start_state}
 use Rattle.domain.specs.Machine.{aliens_in, change, replay, replay_from}
 use Rattle.domain.specs.declared.entry.Entry.{Entry}
 use Rattle.domain.specs.declared.entry.Entry.TheVariants as entry

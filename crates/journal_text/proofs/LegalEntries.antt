@@ -12,8 +12,8 @@ use Rattle.platform.specs.Owners.{is_own_function}
 use Rattle.domain.specs.declared.entry.Entry.{Entry}
 use Rattle.domain.specs.declared.entry.Entry.TheVariants as entry
 use Rattle.domain.specs.Machine.{change}
-use Rattle.domain_parts.specs.HostAccesses.{is_in_page, mmio_fault, mmio_unless, size_of}
-use Rattle.domain_parts.specs.State.{Alone, Change}
+use Rattle.domain_state.specs.HostAccesses.{is_in_page, mmio_fault, mmio_unless, size_of}
+use Rattle.domain_state.specs.State.{Alone, Change}
 use Rattle.journal_text.specs.Legible.{EntryFits, IsLegible, IsOperation, OperationFits}
 
 -- an access that isn't refused lies in the page

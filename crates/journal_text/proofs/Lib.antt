@@ -7,3 +7,7 @@ pub mod Lines
 pub mod FlightRead
 pub mod JournalsRead
 pub mod LegalEntries
+pub mod Making
+pub mod Replaying
+pub mod Flying
+pub mod JournalsWritten

@@ -4,7 +4,7 @@ use Rattle.std.specs.Prelude.{◌≡◌, ℕ, ◌+◌, ◌++◌, List, [], ◌�
 use Rattle.std.specs.Option.{option_map_or}
 use Rattle.platform.specs.Share.{Share}
 use Rattle.request_handling.specs.Emissions.{Emission}
-use Rattle.domain_parts.specs.State.{Alone, start_state}
+use Rattle.domain_state.specs.State.{Alone, start_state}
 use Rattle.domain.specs.Machine.{change}
 use Rattle.domain.specs.declared.entry.Entry.{Entry}
 use Rattle.journal_text.specs.Notes.{in_flight_line, note_line}

@@ -4,3 +4,4 @@ pub mod Legible
 pub mod Notes
 pub mod Reading
 pub mod Journals
+pub mod Steps

@@ -5,7 +5,7 @@ use Rattle.std.specs.List.{list_all, slice_split}
 use Rattle.std.specs.Str.{bytes_eq}
 use Rattle.fab_types.specs.declared.faults.script.ScriptFault.{ScriptFault}
 use Rattle.text.specs.Text.{is_byte, wide_decimal}
-use Rattle.line_reader.specs.Reading as lines
+use Rattle.text.specs.Reading as lines
 use Rattle.journal_text.specs.Fields.{entry_of}
 use Rattle.journal_text.specs.declared.read.JournalLine.{JournalLine}
 

@@ -1,7 +1,7 @@
 //! What a line of a journal's text says.
 
 ghost use Rattle.std.specs.Prelude.{◌≡◌};
-ghost use Rattle.line_reader.specs.Answers.{IsRead};
+ghost use Rattle.text.specs.Answers.{IsRead};
 ghost use Rattle.text.specs.Text.{wide_decimal};
 ghost use Rattle.journal_text.specs.Fields.{addressee_of, alien_of, answer_of, access_by, answerer_of, direction_of, entry_of, entry_of_word, origin_of, outbox_of, parties_of, place_of, way_of};
 

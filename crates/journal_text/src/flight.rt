@@ -15,7 +15,7 @@ use text::{is_keyword, wide_decimal};
 /// # Errors
 ///
 /// Those of the writer.
-pub fn write_in_flight<W: Write>(out: &mut W, numbers: &[u64]) -> io::Result<()>
+pub(crate) fn write_in_flight<W: Write>(out: &mut W, numbers: &[u64]) -> io::Result<()>
     ensures { OnOk result (Appends (W.contents out.old) (W.contents out.new) (in_flight_line numbers.now)) }
 {
     if numbers.is_empty() {

@@ -3,7 +3,7 @@
 ghost use Rattle.std.specs.Prelude.{◌≡◌, ℕ, ◌+◌, ◌*◌, ◌≤◌, List, length, Some};
 ghost use Rattle.std.specs.List.{All};
 ghost use Rattle.platform.specs.Share.{Share};
-ghost use Rattle.domain_parts.specs.State.{Alone};
+ghost use Rattle.domain_state.specs.State.{Alone};
 ghost use Rattle.domain.specs.Machine.{replay};
 ghost use Rattle.domain.specs.declared.entry.Entry.{Entry};
 ghost use Rattle.journal_text.specs.Fields.{entry_of};

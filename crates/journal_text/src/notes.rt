@@ -86,7 +86,7 @@ fn write_bytes<W: Write>(out: &mut W, bytes: &[u8]) -> io::Result<()>
 /// # Errors
 ///
 /// Those of the writer.
-pub fn write_packet_note<W: Write>(out: &mut W, number: u64, bytes: &[u8]) -> io::Result<()>
+pub(crate) fn write_packet_note<W: Write>(out: &mut W, number: u64, bytes: &[u8]) -> io::Result<()>
     ensures { OnOk result (Appends (W.contents out.old) (W.contents out.new) (note_line number bytes.now)) }
 {
     write!(out, "# packet {number}: ")?;

@@ -1,16 +1,16 @@
 //! Reading the text of a domain's journal.
 
 ghost use Rattle.std.specs.Prelude.{◌≡◌};
-ghost use Rattle.line_reader.specs.Reading.{IsReading};
+ghost use Rattle.text.specs.Reading.{IsReading};
 ghost use Rattle.journal_text.specs.Reading.{reading, said};
 
 use crate::fields::entry_of;
 use crate::flight::is_in_flight;
 use domain::Entry;
 use fab_types::{DomainId, ScriptCause, ScriptFault};
-use line_reader::{LineReader, read_lines};
 use std::alloc::Global;
 use std::marker::Model;
+use text::{LineReader, read_lines};
 
 /// The greatest number of a line.
 const LAST_LINE: u32 = 16_777_216;

@@ -7,7 +7,7 @@ use Rattle.platform.specs.declared.parts.Mapping.{Mapping}
 use Rattle.layout_line.specs.declared.lines.MapText.{MapText}
 use Rattle.layout.specs.Rules.{is_mapped, is_of_requester}
 use Rattle.layout.specs.Additions.{map_line}
-use Rattle.domain_start.specs.Tables.{MapsOnce}
+use Rattle.platform.specs.Tables.{MapsOnce}
 use Rattle.platform.proofs.Bools.{and-both}
 use Rattle.layout.proofs.Bools.{none-at}
 

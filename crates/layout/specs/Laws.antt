@@ -14,7 +14,7 @@ use Rattle.platform.specs.Platform.{Platform}
 use Rattle.platform.specs.Owners.{is_function}
 use Rattle.platform.specs.Tree.{port_at, port_leading_to, port_above, switch_on, id_below, is_switch, is_third_level, is_taken, domain_of}
 use Rattle.layout.specs.Rules.{is_within, is_of_requester, is_mapping_of, lets_abroad}
-use Rattle.domain_start.specs.Tables.{MapsOnce}
+use Rattle.platform.specs.Tables.{MapsOnce}
 use Rattle.platform.specs.Tree.{is_on_bus}
 
 abbrev pub is_good_budget : BudgetLine → Bool

@@ -8,5 +8,5 @@ mod read;
 mod rules;
 mod views;
 
-pub use domain_start::Start;
 pub use layout::Layout;
+pub use platform::Start;

@@ -11,11 +11,10 @@ ghost use Rattle.layout.specs.Views.{usual_limits, limits_or_usual, credits_of, 
 
 use crate::layout::Layout;
 use crate::map_lines::MapLines;
-use domain_start::{Grant, Start};
 use fab_types::{Bdf, DomainId, NoMemory};
 use platform::{
-    BudgetLine, CreditLimits, CreditLine, DownstreamPort, Mapping, are_guarded, domain_of,
-    is_taken, owner_of, owns_port, port_with_secondary,
+    BudgetLine, CreditLimits, CreditLine, DownstreamPort, Grant, Mapping, Start, are_guarded,
+    domain_of, is_taken, owner_of, owns_port, port_with_secondary,
 };
 use std::alloc::Global;
 

@@ -3,3 +3,4 @@ pub mod Changing
 pub mod FullBoxes
 pub mod Indexed
 pub mod Starting
+pub mod Noting

@@ -1,2 +1,3 @@
 pub mod Outboxes
-pub mod Indexes
+pub mod BoxIndexes
+pub mod OriginIndexes

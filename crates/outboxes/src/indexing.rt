@@ -1,13 +1,13 @@
 //! The place of an origin's box, by an index.
 
 ghost use Rattle.std.specs.Prelude.{◌≡◌, ◌<◌, IfSome, length};
-ghost use Rattle.outboxes.specs.Indexes.{IsIndexOf};
+ghost use Rattle.outboxes.specs.BoxIndexes.{IsIndexOf};
 ghost use Rattle.outboxes.specs.Outboxes.{box_place};
 
 use crate::changes::box_place;
 use crate::origin_box::OriginBox;
+use crate::origin_index::OriginIndex;
 use fab_types::Origin;
-use origin_index::OriginIndex;
 
 /// An index of these boxes.
 pub(crate) fn index_of(boxes: &[OriginBox]) -> OriginIndex

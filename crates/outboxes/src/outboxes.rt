@@ -9,11 +9,11 @@ ghost use Rattle.outboxes.specs.Outboxes.{AreFound, box_place, boxes_of, changed
 use crate::changes::{more_at, put_at, take_at};
 use crate::indexing::{index_of, indexed_place};
 use crate::origin_box::OriginBox;
+use crate::origin_index::OriginIndex;
 use crate::starts::boxes_of;
 use fab_types::{Class, DomainId, NoMemory, Origin};
 use frame_log::Frame;
 use layout::Layout;
-use origin_index::OriginIndex;
 use port_queue::LeavingClasses;
 use std::alloc::{AllocError, Global};
 use std::marker::Model;
@@ -33,7 +33,7 @@ impl Model for Outboxes {
 
     ghost view = { λ o. o.boxes.items };
 
-    ghost use Rattle.outboxes.specs.Indexes.{AreKept};
+    ghost use Rattle.outboxes.specs.BoxIndexes.{AreKept};
 
     ghost invariant = { λ o. AreKept o.index o.boxes.items };
 }

@@ -1,6 +1,6 @@
 //! What the program takes from its host: its words, standard output, and files.
 
-use program::{Fault, FileFault, FileGiver, FileTaker, WriteFault};
+use inputs::{Fault, FileFault, FileGiver, FileTaker, WriteFault};
 use std::io::{BufWriter, ErrorKind, Printer};
 use std::rt::{Env, Files};
 use std::{env, fs, io};

@@ -3,6 +3,7 @@
 #![tactic(auto)]
 
 mod host;
+mod program;
 
 use host::HostFiles;
 use program::{command, stopped};

@@ -1,2 +1,4 @@
 pub mod OwnerLemmas
 pub mod Bools
+pub mod Noted
+pub mod Led

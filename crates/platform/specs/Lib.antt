@@ -4,3 +4,7 @@ pub mod Share
 pub mod Owners
 pub mod Tree
 pub mod Rising
+pub mod Reach
+pub mod Buses
+pub mod Tables
+pub mod Starts

@@ -1,5 +1,5 @@
-//! What a platform is made of: switches, downstream ports, endpoint functions and mappings; where each of them stands, and
-//! who owns what (PCIe 4.0, 7.5.1.3).
+//! What a platform is made of: switches, downstream ports, endpoint functions and mappings; where each of them stands,
+//! who owns what (PCIe 4.0, 7.5.1.3), and what a domain starts from.
 #![tactic(auto)]
 
 mod egress;
@@ -7,6 +7,7 @@ mod guarded;
 mod ids;
 mod owners;
 mod parts;
+mod start;
 mod tree;
 
 pub use egress::{direct_to, goes_directly, holder_beside};
@@ -17,6 +18,7 @@ pub use parts::{
     Access, BudgetLine, CreditLimits, CreditLine, DownstreamPort, EndpointFunction, LayoutVersion,
     MapTarget, Mapping, Rights, Switch,
 };
+pub use start::{Grant, Start};
 pub use tree::{
     domain_of, find_port, has_root, id_below, internal_bus, is_on_bus, is_switch, is_taken,
     is_third_level, port_above, port_at, port_leading_to, switch_on,

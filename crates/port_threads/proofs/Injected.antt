@@ -7,7 +7,7 @@ use Rattle.std.proofs.lemmas.List.Quantifiers.{position-Some}
 use Rattle.fab_types.specs.Origins.{same_origin}
 use Rattle.fab_types.specs.declared.origin.Origin.{Origin}
 use Rattle.injector.specs.declared.injector.Injector.{Injector}
-use Rattle.workers.specs.Origins.{origin_place, origins_in}
+use Rattle.thread_staff.specs.Origins.{origin_place, origins_in}
 
 module _ {X Y : Type 0} (f : X → Y) where
   prefix_len-map : (p : Y → Bool) (xs : List X) → prefix_len (λ x. p (f x)) xs ≡ prefix_len p (map f xs)

@@ -17,16 +17,16 @@ use Rattle.fab_types.proofs.id.PortId.TheSendSync as port_id
 use Rattle.fab_types.proofs.violation.Violation.TheSendSync as violation
 use Rattle.frame_log.proofs.frame.Frame.TheSendSync as frame
 use Rattle.frame_log.specs.contracts.frame.Frame as Frame
-use Rattle.link_side.proofs.side.LinkSide.TheSendSync as side
-use Rattle.locks.proofs.desk.LockedDesk.TheSendSync as desk
+use Rattle.thread_workers.proofs.link_side.LinkSide.TheSendSync as side
+use Rattle.thread_domains.proofs.desk.LockedDesk.TheSendSync as desk
 use Rattle.monitor.proofs.queue_reporter.QueueReporter.TheSendSync as reporter
 use Rattle.platform.proofs.parts.DownstreamPort.TheSendSync as line
 use Rattle.port.proofs.config.Exit.TheSendSync as exit
 use Rattle.port.specs.contracts.config.Exit as Exit
 use Rattle.port.specs.contracts.port.Port as Port
 use Rattle.port.specs.contracts.port.Port.TheInside as PortInside
-use Rattle.port_work.specs.contracts.port_work.PortWork as PortWork
-use Rattle.port_work.specs.contracts.port_work.PortWork.TheInside as WorkInside
+use Rattle.thread_workers.specs.contracts.ports.port_work.PortWork as PortWork
+use Rattle.thread_workers.specs.contracts.ports.port_work.PortWork.TheInside as WorkInside
 use Rattle.switch_output.specs.contracts.vetted.VettedFrame as VettedFrame
 use Rattle.switch_output.specs.contracts.vetted.VettedFrame.TheInside as VettedInside
 

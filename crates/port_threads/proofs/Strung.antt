@@ -1,9 +1,9 @@
 -- What was laid for a table and dealt out is what the workers have.
 use Rattle.std.proofs.Common.{◌≡◌, ℕ, List, map, length, sym, ap, ◌∙◌, subst, Vec, Global}
-use Rattle.wiring.specs.Wired.{Tags, AreWithin, dealt, table_of}
-use Rattle.wiring.specs.declared.laid.Laid.{Laid}
-use Rattle.wiring.specs.declared.wire.Wire.{Wire}
-use Rattle.wiring.proofs.Undone.{length-dealt}
+use Rattle.thread_rings.specs.Wired.{Tags, AreWithin, dealt, table_of}
+use Rattle.thread_rings.specs.declared.laid.Laid.{Laid}
+use Rattle.thread_rings.specs.declared.wire.Wire.{Wire}
+use Rattle.thread_rings.proofs.Undone.{length-dealt}
 use Rattle.port_threads.specs.Fabrics.{AreDealt}
 
 pub laid_dealt : {T : Type 0} (count : ℕ) (wires : List Wire) (laid made : List (Laid T)) (ends : List Tags) → map (λ r. r.wire) laid ≡ wires → made ≡ laid → AreWithin count wires

@@ -6,10 +6,10 @@ use Rattle.std.specs.declared.snapshot.Snapshot.{Snapshot}
 use Rattle.monitor.specs.Order.{of_seat}
 use Rattle.monitor.specs.Reporting.{QueueSeat, ReporterView}
 use Rattle.monitor.specs.declared.queue.Report.{Report}
-use Rattle.wiring.specs.Wired.{AreWithin, dealt, table_of, tags_of}
-use Rattle.wiring.specs.declared.ends.Ends.{Ends}
-use Rattle.wiring.specs.declared.laid.Laid.{Laid}
-use Rattle.wiring.specs.declared.wire.Wire.{Wire}
+use Rattle.thread_rings.specs.Wired.{AreWithin, dealt, table_of, tags_of}
+use Rattle.thread_rings.specs.declared.ends.Ends.{Ends}
+use Rattle.thread_rings.specs.declared.laid.Laid.{Laid}
+use Rattle.thread_rings.specs.declared.wire.Wire.{Wire}
 use Rattle.port_threads.specs.Fabrics.{AreDealt}
 use Rattle.port_threads.specs.Left.{AreReported, reported_by, seat_left}
 

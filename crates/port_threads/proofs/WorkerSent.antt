@@ -1,14 +1,14 @@
 -- A worker may go to its thread.
 use denote.Param.Send.{IsSend, sendable}
-use Rattle.crew.proofs.worker_id.WorkerId.TheSendSync as worker_id
+use Rattle.thread_crew.proofs.worker_id.WorkerId.TheSendSync as worker_id
 use Rattle.credit.proofs.counters.Counters.TheSendSync as counters
 use Rattle.frame_log.proofs.frame.Frame.TheSendSync as frame
-use Rattle.function_work.proofs.function_work.FunctionWork.TheSendSync as function
-use Rattle.root_work.proofs.root_work.RootWork.TheSendSync as root
-use Rattle.wiring.proofs.ends.Ends.TheSendSync as ends
+use Rattle.thread_workers.proofs.functions.function_work.FunctionWork.TheSendSync as function
+use Rattle.thread_workers.proofs.root.root_work.RootWork.TheSendSync as root
+use Rattle.thread_rings.proofs.ends.Ends.TheSendSync as ends
 use Rattle.port_threads.proofs.Sent.{port_work_send, vetted_send}
-use Rattle.workers.specs.contracts.job.Job as Job
-use Rattle.workers.specs.contracts.post.Post as Post
+use Rattle.thread_staff.specs.contracts.job.Job as Job
+use Rattle.thread_staff.specs.contracts.post.Post as Post
 use Rattle.port_threads.specs.contracts.worker.Worker as Worker
 
 job_field_send : IsSend (Job.the_field).row

@@ -1,7 +1,7 @@
 -- The rings of a fabric, before its parts are put together.
 use Rattle.std.specs.Prelude.{◌≡◌, map, length, vec_len}
-use Rattle.plan.specs.Plans.{Tables}
-use Rattle.wiring.specs.Wired.{tags_of}
+use Rattle.thread_plan.specs.Plans.{Tables}
+use Rattle.thread_rings.specs.Wired.{tags_of}
 use Rattle.port_threads.specs.Fabrics.{AreDealt}
 use Rattle.port_threads.specs.declared.rings.Rings.{Rings}
 

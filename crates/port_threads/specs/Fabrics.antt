@@ -5,20 +5,20 @@ use Rattle.std.specs.Arc.{arc_value}
 use Rattle.credit.specs.declared.counters.Counters.{Counters}
 use Rattle.fab_types.specs.declared.origin.Origin.{Origin}
 use Rattle.frame_log.specs.Descriptor.{Descriptor}
-use Rattle.crew.specs.Crews.{started}
-use Rattle.plan.specs.Plans.{Tables, plan_of}
+use Rattle.thread_crew.specs.Crews.{started}
+use Rattle.thread_plan.specs.Plans.{Tables, plan_of}
 use Rattle.platform.specs.Platform.{Platform}
 use Rattle.platform.specs.Share.{is_guarded_port}
 use Rattle.switch_output.specs.Vetted.{Vetted}
-use Rattle.wiring.specs.Wired.{AreWithin, Tags, dealt, table_of}
-use Rattle.wiring.specs.declared.laid.Laid.{Laid}
-use Rattle.wiring.specs.declared.wire.Wire.{Wire}
-use Rattle.workers.specs.Kept.{PostKept, role_of}
-use Rattle.workers.specs.Watched.{MonitorKept}
+use Rattle.thread_rings.specs.Wired.{AreWithin, Tags, dealt, table_of}
+use Rattle.thread_rings.specs.declared.laid.Laid.{Laid}
+use Rattle.thread_rings.specs.declared.wire.Wire.{Wire}
+use Rattle.thread_staff.specs.Kept.{PostKept, role_of}
+use Rattle.thread_staff.specs.Watched.{MonitorKept}
 use Rattle.port_threads.specs.Kept.{Kept, kept_of, monitor_kept}
-use Rattle.workers.specs.Origins.{origins_in, origins_of}
-use Rattle.workers.specs.Roles.{roles_of, starting_numbers}
-use Rattle.workers.specs.Seats.{AreWatched}
+use Rattle.thread_staff.specs.Origins.{origins_in, origins_of}
+use Rattle.thread_staff.specs.Roles.{roles_of, starting_numbers}
+use Rattle.thread_staff.specs.Seats.{AreWatched}
 use Rattle.port_threads.specs.declared.resting.Resting.TheInside as resting
 use Rattle.port_threads.specs.declared.running.Running.TheInside as running
 

@@ -1,7 +1,7 @@
 -- What no turn of a worker changes.
-use Rattle.wiring.specs.Wired.{Tags, tags_of}
-use Rattle.workers.specs.Kept.{PostKept, post_kept}
-use Rattle.workers.specs.Watched.{MonitorKept, watch_kept}
+use Rattle.thread_rings.specs.Wired.{Tags, tags_of}
+use Rattle.thread_staff.specs.Kept.{PostKept, post_kept}
+use Rattle.thread_staff.specs.Watched.{MonitorKept, watch_kept}
 use Rattle.port_threads.specs.declared.monitor_worker.Monitor.{Monitor}
 use Rattle.port_threads.specs.declared.worker.Worker.{Worker}
 

@@ -6,14 +6,14 @@ use Rattle.monitor.specs.Numbering.{reports_of}
 use Rattle.monitor.specs.Order.{of_seat}
 use Rattle.monitor.specs.Reporting.{QueueSeat, ReporterView, seat_of}
 use Rattle.monitor.specs.declared.queue.Report.{Report}
-use Rattle.wiring.specs.Returned.{row_of}
-use Rattle.wiring.specs.Wired.{numbered, table_of}
-use Rattle.wiring.specs.declared.laid.Laid.{Laid}
-use Rattle.wiring.specs.declared.wire.Wire.{Wire}
+use Rattle.thread_rings.specs.Returned.{row_of}
+use Rattle.thread_rings.specs.Wired.{numbered, table_of}
+use Rattle.thread_rings.specs.declared.laid.Laid.{Laid}
+use Rattle.thread_rings.specs.declared.wire.Wire.{Wire}
 use Rattle.port_threads.specs.declared.stopped.Stopped.{Stopped}
 use Rattle.port_threads.specs.declared.told_table.ToldTable.{ToldTable}
-use Rattle.totals.specs.Balance.{AreBalanced}
-use Rattle.totals.specs.Standing.{frames_left}
+use Rattle.thread_totals.specs.Balance.{AreBalanced}
+use Rattle.thread_totals.specs.Standing.{frames_left}
 
 -- ---- rings
 

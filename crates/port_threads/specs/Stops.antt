@@ -3,9 +3,9 @@ use Rattle.std.specs.Prelude.{◌≡◌, ◌↔◌, IsTrue, length, map, true, v
 use Rattle.fab_types.specs.declared.faults.running.StopFault.{StopFault}
 use Rattle.fab_types.specs.declared.faults.running.StopFault.TheVariants.{NoMemory, Unbalanced}
 use Rattle.port_threads.specs.Fabrics.{FabricView, posts_in}
-use Rattle.workers.specs.Marks.{mark_left, mark_of}
+use Rattle.thread_staff.specs.Marks.{mark_left, mark_of}
 use Rattle.port_threads.specs.Left.{AddsUp, AreBack, AreReported, seat_left}
-use Rattle.workers.specs.Seats.{seats_of}
+use Rattle.thread_staff.specs.Seats.{seats_of}
 use Rattle.port_threads.specs.declared.stopped.Stopped.{Stopped}
 
 pub record Leaves (f : FabricView) (s : Stopped) : Type 0 where

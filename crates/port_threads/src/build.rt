@@ -3,10 +3,10 @@
 ghost use Rattle.std.specs.Prelude.{◌≡◌, IfOk, length, map};
 ghost use Rattle.std.specs.Arc.{arc_value};
 ghost use Rattle.domains.specs.Domains.{starting_domains};
-ghost use Rattle.workers.specs.Building.{IsSharedOf};
+ghost use Rattle.thread_staff.specs.Building.{IsSharedOf};
 ghost use Rattle.port_threads.specs.Building.{AreRingsOf};
 ghost use Rattle.port_threads.specs.Fabrics.{IsFabricOf, posts_in};
-ghost use Rattle.workers.specs.Origins.{origins_in};
+ghost use Rattle.thread_staff.specs.Origins.{origins_in};
 
 use crate::joining::{Pieces, joined};
 use crate::monitor_worker::Monitor;
@@ -18,11 +18,11 @@ use domains::domains_of;
 use fab_types::NoMemory;
 use injector::Injector;
 use layout::Layout;
-use locks::Locks;
-use plan::Plan;
 use std::alloc::Global;
 use std::sync::Arc;
-use workers::{Shared, Staff, staff_of, starts_of};
+use thread_domains::Locks;
+use thread_plan::Plan;
+use thread_staff::{Shared, Staff, staff_of, starts_of};
 
 /// The switches of a layout, and these domains of it under locks.
 fn shared_of(alloc: Global, layout: &Layout, domains: Vec<Domain>) -> Result<Shared, NoMemory>

@@ -3,7 +3,7 @@
 ghost use Rattle.std.specs.Prelude.{◌≡◌, [], IfOk, length, map};
 ghost use Rattle.monitor.specs.Reporting.{seat_of};
 ghost use Rattle.port_threads.specs.Left.{AreReported, reported_by, seat_left};
-ghost use Rattle.workers.specs.Seats.{AreSeated};
+ghost use Rattle.thread_staff.specs.Seats.{AreSeated};
 
 use fab_types::NoMemory;
 use monitor::{QueueReporter, Report, Watch};

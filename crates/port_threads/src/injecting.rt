@@ -4,7 +4,7 @@ ghost use Rattle.std.specs.Prelude.{◌≡◌, ℕ, ◌<◌, IfNone, IfSome, Mat
 ghost use Rattle.std.specs.List.{position, remove};
 ghost use Rattle.fab_types.specs.Origins.{same_origin};
 ghost use Rattle.fab_types.specs.declared.origin.Origin.{Origin};
-ghost use Rattle.workers.specs.Origins.{origin_place, origins_in};
+ghost use Rattle.thread_staff.specs.Origins.{origin_place, origins_in};
 
 use crate::running::Running;
 use fab_types::{Origin, same_origin};

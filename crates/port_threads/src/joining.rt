@@ -1,9 +1,9 @@
 //! Workers and the ends of their rings: put together, and taken apart.
 
 ghost use Rattle.std.specs.Prelude.{◌≡◌, IfOk, map, vec_len};
-ghost use Rattle.wiring.specs.Wired.{tags_of};
+ghost use Rattle.thread_rings.specs.Wired.{tags_of};
 ghost use Rattle.port_threads.specs.Kept.{kept_of};
-ghost use Rattle.workers.specs.Kept.{post_kept};
+ghost use Rattle.thread_staff.specs.Kept.{post_kept};
 
 use crate::worker::Worker;
 use credit::Limits;
@@ -11,8 +11,8 @@ use fab_types::NoMemory;
 use frame_log::Frame;
 use std::alloc::Global;
 use switch_output::VettedFrame;
-use wiring::Ends;
-use workers::Post;
+use thread_rings::Ends;
+use thread_staff::Post;
 
 /// Workers in one order, and the ends of each in the same.
 #[derive(Drop)]

@@ -1,9 +1,11 @@
-//! All workers of the fabric of a layout, each in a thread of its own: started and stopped.
+//! All workers of the fabric of a layout, each in a thread of its own: started and stopped; and a gate that keeps them
+//! together.
 #![tactic(auto)]
 
 mod build;
 mod closing;
 mod ending;
+mod even_gate;
 mod injecting;
 mod joining;
 mod monitor_worker;
@@ -17,11 +19,12 @@ mod telling;
 mod told_table;
 mod worker;
 
-pub use crew::{Gate, WorkerId};
 pub use ending::Ending;
+pub use even_gate::EvenGate;
 pub use injector::{Injector, RefusedAccess};
 pub use running::Running;
 pub use stopped::Stopped;
+pub use thread_crew::{Gate, WorkerId};
+pub use thread_staff::{Parts, PortRemains, Remains};
+pub use thread_totals::{Count, Totals};
 pub use told_table::ToldTable;
-pub use totals::{Count, Totals};
-pub use workers::{Parts, PortRemains, Remains};

@@ -3,9 +3,9 @@
 ghost use Rattle.std.specs.Prelude.{◌≡◌};
 ghost use Rattle.port_threads.specs.Kept.{monitor_kept};
 
-use crew::{Work, WorkerId};
 use monitor::{PLACES, Watch};
 use std::sync::Wait;
+use thread_crew::{Work, WorkerId};
 
 /// The monitor, with its end of the queue of violations.
 #[derive(Drop)]
@@ -29,7 +29,7 @@ impl Monitor {
 }
 
 impl Work for Monitor {
-    ghost use Rattle.workers.specs.Watched.{MonitorKept};
+    ghost use Rattle.thread_staff.specs.Watched.{MonitorKept};
     ghost use Rattle.port_threads.specs.Kept.{monitor_kept};
 
     ghost Kept = { MonitorKept };

@@ -5,14 +5,14 @@ use crate::worker::Worker;
 use credit::Limits;
 use frame_log::Frame;
 use injector::Injector;
-use locks::Locks;
-use plan::Plan;
 use std::alloc::Global;
 use std::marker::Model;
 use std::snapshot::Snapshot;
 use std::sync::Arc;
 use switch_output::VettedFrame;
-use wiring::Laid;
+use thread_domains::Locks;
+use thread_plan::Plan;
+use thread_rings::Laid;
 
 /// All workers of a fabric, before they run or after: with the plan of their rings, the domains, and, for contracts alone,
 /// the rings as they were laid. A contract sees a `FabricView`.

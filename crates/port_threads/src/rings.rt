@@ -1,18 +1,18 @@
 //! The rings of a fabric, with their ends dealt out.
 
 ghost use Rattle.std.specs.Prelude.{◌≡◌, IfOk, length, map, vec_len};
-ghost use Rattle.wiring.specs.Wired.{AreWithin, tags_of};
+ghost use Rattle.thread_rings.specs.Wired.{AreWithin, tags_of};
 ghost use Rattle.port_threads.specs.Building.{AreRingsOf};
 ghost use Rattle.port_threads.specs.Fabrics.{AreDealt};
 
 use credit::Limits;
 use fab_types::NoMemory;
 use frame_log::Frame;
-use plan::Plan;
 use std::alloc::Global;
 use std::snapshot::Snapshot;
 use switch_output::VettedFrame;
-use wiring::{Ends, Laid, Wire, deal, lay};
+use thread_plan::Plan;
+use thread_rings::{Ends, Laid, Wire, deal, lay};
 
 /// The rings of one table: the ends of each worker, and the rings as they were laid, for contracts alone.
 #[derive(Drop)]

@@ -3,11 +3,8 @@
 use crate::monitor_worker::Monitor;
 use crate::worker::Worker;
 use credit::Limits;
-use crew::Keeps;
 use frame_log::Frame;
 use injector::Injector;
-use locks::Locks;
-use plan::Plan;
 use std::alloc::Global;
 use std::marker::Model;
 use std::snapshot::Snapshot;
@@ -15,7 +12,10 @@ use std::sync::Arc;
 use std::sync::atomic::AtomicBool;
 use std::thread::PromisedHandle;
 use switch_output::VettedFrame;
-use wiring::Laid;
+use thread_crew::Keeps;
+use thread_domains::Locks;
+use thread_plan::Plan;
+use thread_rings::Laid;
 
 /// The fabric of a layout whose workers run.
 /// Each port, each function, the root complex and the monitor runs in a thread of its own. The value can't be

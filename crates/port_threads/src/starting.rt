@@ -7,13 +7,13 @@ ghost use Rattle.port_threads.specs.Fabrics.{IsFabricOf};
 use crate::build::build;
 use crate::resting::Resting;
 use crate::running::Running;
-use crew::{Gate, end_all, start_one};
 use fab_types::StartFault;
 use layout::Layout;
 use std::alloc::Global;
 use std::sync::atomic::{AtomicBool, Ordering};
 use std::sync::{Arc, Wait};
 use std::thread::Threads;
+use thread_crew::{Gate, end_all, start_one};
 
 /// Starts a thread for each worker and for the monitor. After a fault none runs.
 fn run<G, R>(
@@ -42,7 +42,7 @@ where
         credits,
         pairs,
     } = fabric;
-    let workers = crew::start(rt, alloc, workers, gate, &flag, turns)?;
+    let workers = thread_crew::start(rt, alloc, workers, gate, &flag, turns)?;
     match start_one(rt, monitor, gate, &flag, turns) {
         Ok(monitor) => Ok(Running {
             plan,

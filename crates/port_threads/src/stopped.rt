@@ -1,8 +1,8 @@
 //! What is left of a fabric once it was stopped.
 
 ghost use Rattle.std.specs.Prelude.{◌≡◌, map};
-ghost use Rattle.totals.specs.Counts.{totals_of};
-ghost use Rattle.totals.specs.Standing.{frames_left};
+ghost use Rattle.thread_totals.specs.Counts.{totals_of};
+ghost use Rattle.thread_totals.specs.Standing.{frames_left};
 
 use crate::told_table::ToldTable;
 use credit::Limits;
@@ -12,8 +12,8 @@ use frame_log::Frame;
 use monitor::{QueueReporter, Report};
 use std::snapshot::Snapshot;
 use switch_output::VettedFrame;
-use totals::{Count, Totals};
-use workers::Remains;
+use thread_staff::Remains;
+use thread_totals::{Count, Totals};
 
 /// All that is left of a fabric whose workers have ended.
 #[derive(Drop)]

@@ -3,9 +3,9 @@
 ghost use Rattle.std.specs.Prelude.{◌≡◌, ◌↔◌, IfErr, IfOk, IsTrue, length, map, true, vec_len};
 ghost use Rattle.std.specs.Arc.{arc_value};
 ghost use Rattle.port_threads.specs.Fabrics.{posts_in};
-ghost use Rattle.workers.specs.Marks.{mark_left, mark_of};
+ghost use Rattle.thread_staff.specs.Marks.{mark_left, mark_of};
 ghost use Rattle.port_threads.specs.Left.{AddsUp, AreBack, AreReported, seat_left};
-ghost use Rattle.workers.specs.Seats.{seats_of};
+ghost use Rattle.thread_staff.specs.Seats.{seats_of};
 ghost use Rattle.port_threads.specs.Stops.{IsStopFault, Leaves};
 
 use crate::closing::{Reported, closed};
@@ -15,16 +15,16 @@ use crate::resting::Resting;
 use crate::running::Running;
 use crate::stopped::Stopped;
 use crate::telling::told;
-use crew::{join_all, join_one};
 use domain::Domain;
 use fab_types::{NoMemory, StopFault};
-use locks::Locks;
 use std::alloc::Global;
 use std::sync::atomic::Ordering;
 use std::sync::{Arc, Wait};
 use std::thread::Threads;
-use totals::count_all;
-use workers::{AllRemains, remains_of};
+use thread_crew::{join_all, join_one};
+use thread_domains::Locks;
+use thread_staff::{AllRemains, remains_of};
+use thread_totals::count_all;
 
 /// Waits until all workers and the monitor have ended. Where memory for their list is refused they have ended all the same,
 /// and are let go.

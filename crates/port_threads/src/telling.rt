@@ -1,7 +1,7 @@
 //! The rings of a table are taken back.
 
 ghost use Rattle.std.specs.Prelude.{◌≡◌, IfOk, map};
-ghost use Rattle.wiring.specs.Wired.{tags_of};
+ghost use Rattle.thread_rings.specs.Wired.{tags_of};
 ghost use Rattle.port_threads.specs.Fabrics.{AreDealt};
 ghost use Rattle.port_threads.specs.Left.{AreBack};
 
@@ -9,7 +9,7 @@ use crate::told_table::ToldTable;
 use fab_types::NoMemory;
 use std::alloc::Global;
 use std::snapshot::Snapshot;
-use wiring::{Ends, Laid, Wire, undo};
+use thread_rings::{Ends, Laid, Wire, undo};
 
 /// Puts the two ends of each ring together again. It answers `NoMemory` where memory was refused; then all rings are let
 /// go, with what is in them.

@@ -1,11 +1,11 @@
 //! The rings of a table that came back.
 
 ghost use Rattle.std.specs.Prelude.{◌≡◌, map, replicate, reverse, vec_len};
-ghost use Rattle.wiring.specs.Moved.{flow_of, no_flow};
-ghost use Rattle.wiring.specs.Returned.{all_told};
+ghost use Rattle.thread_rings.specs.Moved.{flow_of, no_flow};
+ghost use Rattle.thread_rings.specs.Returned.{all_told};
 
 use std::snapshot::Snapshot;
-use wiring::{Ends, Told};
+use thread_rings::{Ends, Told};
 
 /// All rings of one table of the plan, the last first.
 /// It has of each what was put in and taken, and what was left.

@@ -4,12 +4,12 @@ ghost use Rattle.std.specs.Prelude.{◌≡◌};
 ghost use Rattle.port_threads.specs.Kept.{kept_of};
 
 use credit::Limits;
-use crew::{Work, WorkerId};
 use frame_log::Frame;
 use std::sync::Wait;
 use switch_output::VettedFrame;
-use wiring::Ends;
-use workers::Post;
+use thread_crew::{Work, WorkerId};
+use thread_rings::Ends;
+use thread_staff::Post;
 
 /// A worker with the ends of its rings: those of its link, of the credits of that, and of the pairs of ports of its switch.
 #[derive(Drop)]

@@ -15,7 +15,7 @@ use Rattle.platform.specs.Owners.{is_own_function}
 use Rattle.platform.specs.Share.{Share}
 use Rattle.domain.specs.Domains.{DomainView}
 use Rattle.fab_types.specs.Origins.{origin_id}
-use Rattle.domain_parts.specs.State.{Delivery}
+use Rattle.domain_state.specs.State.{Delivery}
 use Rattle.monitor.specs.Lines.{violation_line}
 use Rattle.platform.specs.Rising.{IsRising}
 use Rattle.reports.specs.declared.rows.PageName.{PageName}

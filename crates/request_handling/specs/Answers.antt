@@ -11,7 +11,7 @@ use Rattle.fab_types.specs.declared.origin.Origin.TheVariants.{Function}
 use Rattle.fab_types.specs.declared.status.Status.{Status}
 use Rattle.fab_types.specs.declared.status.Status.TheVariants.{UR}
 use Rattle.host_memory.specs.Pages.{part_of}
-use Rattle.domain_start.specs.Reach.{reach}
+use Rattle.platform.specs.Reach.{reach}
 use Rattle.platform.specs.Share.{Share}
 use Rattle.tlp_view.specs.declared.enables.Enables.{Enables}
 use Rattle.tlp_view.specs.Bytes.{packet_of}

@@ -8,7 +8,7 @@ use Rattle.platform.specs.declared.parts.Access.TheVariants.{Read, Write}
 use Rattle.platform.specs.declared.parts.DownstreamPort.{DownstreamPort}
 use Rattle.platform.specs.Share.{Share}
 use Rattle.platform.specs.Owners.{bar_of, first_port, owner_of}
-use Rattle.domain_start.specs.Tables.{target_of}
+use Rattle.platform.specs.Tables.{target_of}
 use Rattle.fab_types.specs.declared.head.Answerer.{Answerer}
 use Rattle.fab_types.specs.declared.head.Answerer.TheVariants as by
 use Rattle.fab_types.specs.declared.head.Parties.{Parties}

@@ -12,7 +12,7 @@ ghost use Rattle.function.specs.Accesses.{IsAccess};
 ghost use Rattle.request_handling.specs.AtFunctions.{access_of, request_at_function};
 ghost use Rattle.request_handling.specs.Carries.{carriage_by, forward, frame_for, is_carried, is_owner, serve, serve_add, serve_read, write_to};
 ghost use Rattle.request_handling.specs.Dispositions.{IsServed, Suits, handling};
-ghost use Rattle.domain_start.specs.Tables.{target_of};
+ghost use Rattle.platform.specs.Tables.{target_of};
 ghost use Rattle.platform.specs.declared.parts.Access.TheVariants as access;
 ghost use Rattle.request_handling.specs.Answers.{address_of};
 ghost use Rattle.platform.specs.Owners.{bar_of};

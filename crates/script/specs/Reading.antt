@@ -1,7 +1,7 @@
 -- A script text is a list of commands with the numbers of their lines, or it has a first faulty line.
 use Rattle.std.specs.Prelude.{ℕ, List, [], ◌∷◌, Option, option_map, Result}
 use Rattle.fab_types.specs.declared.faults.script.ScriptFault.{ScriptFault}
-use Rattle.line_reader.specs.Reading as lines
+use Rattle.text.specs.Reading as lines
 use Rattle.script.specs.declared.lines.Line.{Line}
 use Rattle.script.specs.Commands.{command_of}
 

@@ -2,7 +2,7 @@
 
 ghost use Rattle.std.specs.Prelude.{◌≡◌, ◌≤◌, IfSome};
 ghost use Rattle.text.specs.Text.{hexadecimal};
-ghost use Rattle.line_reader.specs.Answers.{IsRead};
+ghost use Rattle.text.specs.Answers.{IsRead};
 ghost use Rattle.script.specs.Commands.{decimal_within, domain_text, submission_of, submit_text, tick_text, operation_text, access_text, access_of, mmio_text, sweep_text, command_of_word, command_of};
 
 use crate::lines::Command;

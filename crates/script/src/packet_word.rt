@@ -2,7 +2,7 @@
 
 ghost use Rattle.std.specs.Prelude.{Some};
 ghost use Rattle.script.specs.PacketWord.{packet_bytes};
-ghost use Rattle.line_reader.specs.Answers.{IsRead};
+ghost use Rattle.text.specs.Answers.{IsRead};
 
 use fab_types::{PacketBytes, ScriptCause};
 use std::alloc::Global;

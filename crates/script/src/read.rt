@@ -1,15 +1,15 @@
 //! Reading a script text.
 
 ghost use Rattle.std.specs.Prelude.{◌≡◌};
-ghost use Rattle.line_reader.specs.Reading.{IsReading};
+ghost use Rattle.text.specs.Reading.{IsReading};
 ghost use Rattle.script.specs.Reading.{reading, said};
 
 use crate::commands::command_of;
 use crate::lines::Line;
 use fab_types::{ScriptCause, ScriptFault};
-use line_reader::{LineReader, read_lines};
 use std::alloc::Global;
 use std::marker::Model;
+use text::{LineReader, read_lines};
 
 /// The greatest number of a line.
 const LAST_LINE: u32 = 65_536;

@@ -2,11 +2,10 @@
 
 use crate::scenes::started;
 use domain::{Domain, Entry};
-use even_gate::EvenGate;
 use fab_types::{Bdf, DomainId, Origin};
 use layout::Layout;
 use layout_tests::EXAMPLE;
-use port_threads::{Ending, Gate, Running, Stopped, Totals, WorkerId};
+use port_threads::{Ending, EvenGate, Gate, Running, Stopped, Totals, WorkerId};
 use std::alloc::Global;
 use std::sync::{Arc, Wait};
 use std::thread::Threads;

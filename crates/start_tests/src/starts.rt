@@ -2,10 +2,9 @@
 
 use crate::gates::{Counting, Meeting};
 use crate::scenes::{Counts, SMALL, ran};
-use even_gate::EvenGate;
 use layout::Layout;
 use layout_tests::EXAMPLE;
-use port_threads::Ending;
+use port_threads::{Ending, EvenGate};
 use std::alloc::Global;
 use std::sync::atomic::{AtomicU64, Ordering};
 use std::sync::{Arc, Wait};

@@ -6,3 +6,6 @@ pub mod Settling
 pub mod Sleeping
 pub mod Flags
 pub mod Listing
+pub mod Views
+pub mod Changes
+pub mod Woken

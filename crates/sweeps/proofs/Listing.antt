@@ -11,7 +11,7 @@ use Rattle.topology.proofs.Members.{here}
 use Rattle.fab_types.proofs.Taking.{take_all, take_next}
 use Rattle.topology.specs.Topologies.{Tree}
 use Rattle.fabric_core.specs.declared.station.Station.{Station}
-use Rattle.waking.specs.Waking.{changes_outbox}
+use Rattle.sweeps.specs.Waking.{changes_outbox}
 use Rattle.sweeps.specs.declared.site.How.{How}
 use Rattle.sweeps.specs.declared.site.Site.{Site}
 use Rattle.sweeps.specs.declared.stop.Stop.{Stop}

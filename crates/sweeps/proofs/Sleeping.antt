@@ -27,7 +27,7 @@ use Rattle.fabric_core.specs.Invariant.{IsFabric}
 use Rattle.fabric_core.specs.Runs.{Run}
 use Rattle.fabric_core.specs.Stations.{classes, events_at, is_quiet, others_at, taking}
 use Rattle.fabric_core.specs.Still.{IsIdleAt}
-use Rattle.waking.specs.Waking.{changes, changes_outbox, frees, is_outbox_of, is_outbox_of_host, wakes}
+use Rattle.sweeps.specs.Waking.{changes, changes_outbox, frees, is_outbox_of, is_outbox_of_host, wakes}
 use Rattle.fabric_core.specs.World.{World, is_guarded, world_of}
 use Rattle.fabric_core.proofs.effect.QuietStations.{quiet_idle}
 use Rattle.fabric_core.proofs.invariant.Changing.{all_back, all_front}
@@ -35,7 +35,7 @@ use Rattle.fabric_core.proofs.order.InOrder.{fabric_after}
 use Rattle.fabric_core.proofs.progress.Starts.{steps_stay}
 use Rattle.fabric_core.proofs.runs.LeftRuns.{start_fabric}
 use Rattle.fabric_core.proofs.soundness.Orderly.{fabric_step}
-use Rattle.waking.proofs.Woken.{leaves_quiet, wakes_no_other}
+use Rattle.sweeps.proofs.Woken.{leaves_quiet, wakes_no_other}
 use Rattle.sweeps.specs.declared.awake.Awake.{Awake}
 use Rattle.sweeps.specs.declared.moves.Moves.{Moves}
 use Rattle.sweeps.specs.declared.site.How.{How}

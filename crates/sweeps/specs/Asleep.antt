@@ -8,7 +8,7 @@ use Rattle.fabric_core.specs.declared.station.Station.TheVariants as station
 use Rattle.fabric_core.specs.Invariant.{IsFabric}
 use Rattle.fabric_core.specs.Stations.{classes, is_quiet, taking}
 use Rattle.fabric_core.specs.Still.{IsIdleAt}
-use Rattle.waking.specs.Waking.{changes_outbox, is_changed_by_credits, is_changed_by_receiving, is_changed_by_taking, is_freed_by_sending, reach_of}
+use Rattle.sweeps.specs.Waking.{changes_outbox, is_changed_by_credits, is_changed_by_receiving, is_changed_by_taking, is_freed_by_sending, reach_of}
 use Rattle.fabric_core.specs.World.{World, is_guarded}
 use Rattle.sweeps.specs.declared.awake.Awake.{Awake}
 use Rattle.sweeps.specs.declared.moves.Moves.{Moves}

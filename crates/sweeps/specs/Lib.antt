@@ -2,3 +2,4 @@ pub mod Sweeps
 pub mod Asleep
 pub mod Swept
 pub mod Sleepers
+pub mod Waking

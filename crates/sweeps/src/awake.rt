@@ -2,15 +2,15 @@
 
 ghost use Rattle.std.specs.Prelude.{◌≡◌, ◌<◌, ◌≤◌, ◌||◌, ℕ, All, IfOk, IfSome, Some, false, if◌then◌else◌, length, map, not, replicate, slice_get, slice_set, true};
 ghost use Rattle.std.specs.List.{position};
-ghost use Rattle.waking.specs.Waking.{changes_outbox};
+ghost use Rattle.sweeps.specs.Waking.{changes_outbox};
 ghost use Rattle.sweeps.specs.Asleep.{AreWithin, AreWoken, AreWokenBy, IsBegunAt, IsOutboxAt, IsSettledAt, IsUnblocked, Nowhere, are_blocked, has_moved, outbox_begun};
 
 use crate::moves::Moves;
+use crate::reach::changes_outbox;
 use crate::stop::Stop;
 use fab_types::NoMemory;
 use fabric_core::{Event, Station};
 use std::alloc::Global;
-use waking::changes_outbox;
 
 /// Which stations of a sweep are awake, by their places in it.
 #[derive(Drop)]

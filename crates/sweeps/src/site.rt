@@ -3,11 +3,11 @@
 ghost use Rattle.std.specs.Prelude.{◌≡◌, ◌<◌, ◌++◌, ◌∷◌, [], All, IfOk, OnOk, if◌then◌else◌, length, map};
 ghost use Rattle.sweeps.specs.Asleep.{AreListed, site_of, wakes_by};
 
+use crate::reach::{Reach, changes_outbox};
 use fab_types::NoMemory;
 use fabric_core::Station;
 use std::alloc::{AllocError, Global};
 use topology::Topology;
-use waking::{Reach, changes_outbox};
 
 /// A station, and where it takes packets, sends them and puts them.
 #[derive(Clone, Copy, Debug, PartialEq, Eq)]

@@ -5,3 +5,5 @@ pub mod LineLemmas
 pub mod Ids
 pub mod Decoding
 pub mod BytesRead
+pub mod LineFeeds
+pub mod ReadingLemmas

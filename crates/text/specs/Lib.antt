@@ -1,3 +1,5 @@
 pub mod Text
 pub mod Words
 pub mod Bytes
+pub mod Answers
+pub mod Reading

@@ -1,11 +1,11 @@
 //! Workers that count their turns, and gates.
 
-use crew::{Gate, Work, WorkerId};
 use std::alloc::Global;
 use std::sync::atomic::{AtomicU64, Ordering};
 use std::sync::{Arc, Wait};
 use std::thread;
 use std::time::{Clock, Duration};
+use thread_crew::{Gate, Work, WorkerId};
 
 /// Counts its turns, for itself and for all.
 #[derive(Drop)]
@@ -19,7 +19,7 @@ pub struct Counter {
 }
 
 impl Work for Counter {
-    ghost use Rattle.crew.specs.declared.worker_id.WorkerId.{WorkerId};
+    ghost use Rattle.thread_crew.specs.declared.worker_id.WorkerId.{WorkerId};
 
     ghost Kept = { WorkerId };
 

@@ -1,11 +1,11 @@
 //! Workers really run in threads, and make the turns that they are let make.
 
 use crate::counters::{Counter, Meeting, OddTurns};
-use crew::{Gate, WorkerId, end_all, join_all, join_one, start, start_one};
 use std::alloc::Global;
 use std::sync::atomic::{AtomicBool, AtomicU64, Ordering};
 use std::sync::{Arc, Wait};
 use std::thread::Threads;
+use thread_crew::{Gate, WorkerId, end_all, join_all, join_one, start, start_one};
 
 fn counter(id: WorkerId, all: &Arc<AtomicU64, Global>) -> Option<Counter> {
     let all = Arc::try_clone(all).ok()?;

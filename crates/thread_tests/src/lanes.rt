@@ -8,7 +8,7 @@ use std::alloc::Global;
 use std::sync::Wait;
 use std::test::Fail;
 use switch_output::{LaneOut, VettedFrame};
-use wiring::{InEnd, OutEnd, Wire, are_within, deal, lay};
+use thread_rings::{InEnd, OutEnd, Wire, are_within, deal, lay};
 
 const ONE_SWITCH: &str = "pciefab 1\nswitch 01:00.0 root\n";
 

@@ -6,6 +6,12 @@ mod counters;
 #[cfg(test)]
 mod crews;
 #[cfg(test)]
+mod injector_begins;
+#[cfg(test)]
+mod injector_records;
+#[cfg(test)]
+mod injector_scenes;
+#[cfg(test)]
 mod lanes;
 #[cfg(test)]
 mod locked_packets;

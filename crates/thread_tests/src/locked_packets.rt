@@ -3,9 +3,9 @@
 use crate::locked_scenes::{GUARDED, SECOND, locks_of, submitted, write};
 use fab_types::{Bdf, Direction, DomainId, Place, PortId, Way};
 use frame_log::{Frame, FrameFault};
-use locks::Locks;
 use std::alloc::Global;
 use std::sync::Wait;
+use thread_domains::Locks;
 
 /// Where the host takes packets.
 fn at_the_host() -> Place {

@@ -4,9 +4,9 @@ use domain::Domain;
 use fab_types::{Bdf, DomainId};
 use frame_log::{Frame, Log};
 use layout::Layout;
-use locks::Locks;
 use std::alloc::Global;
 use std::sync::{Arc, Wait};
+use thread_domains::Locks;
 
 /// Domain 1 has function 03:00.0, domain 2 has 04:00.0. Each port has all five controls set.
 pub const GUARDED: &str = "pciefab 1

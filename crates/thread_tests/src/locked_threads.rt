@@ -4,11 +4,11 @@ use crate::locked_scenes::{FIRST, GUARDED, SECOND, Side, locks_of, submitted, wr
 use domain::{Domain, Entry};
 use fab_types::{Bdf, PortId};
 use lane::Desk;
-use locks::{LockedDesk, Locks};
 use std::alloc::Global;
 use std::sync::{Arc, Wait};
 use std::thread;
 use std::thread::Threads;
+use thread_domains::{LockedDesk, Locks};
 
 /// How often each thread does the same, in each domain.
 const ROUNDS: u32 = 20;

@@ -2,13 +2,13 @@
 //! 02:00.0, 02:01.0, 02:02.0, 05:00.0 and 05:01.0, the functions 03:00.0, 06:00.0, 07:00.0 and 08:00.0, and the root
 //! complex.
 
-use crew::WorkerId;
 use fab_types::{Bdf, PortId};
 use layout::Layout;
 use layout_tests::EXAMPLE;
-use plan::Plan;
 use std::test::Fail;
-use wiring::Wire;
+use thread_crew::WorkerId;
+use thread_plan::Plan;
+use thread_rings::Wire;
 
 fn plan(rt: &HostRuntime) -> Result<Plan, Fail> {
     let layout = Layout::read(rt.alloc(), EXAMPLE)?;

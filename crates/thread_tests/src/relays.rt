@@ -1,16 +1,16 @@
 //! Two workers in threads pass numbers to each other, and none is lost.
 
 ghost use Rattle.std.specs.Prelude.{◌≡◌, map, IfSome};
-ghost use Rattle.wiring.specs.Wired.{tags_of};
+ghost use Rattle.thread_rings.specs.Wired.{tags_of};
 
 use crate::counters::OddTurns;
-use crew::{Work, WorkerId, join_all, start};
 use std::alloc::Global;
 use std::snapshot::Snapshot;
 use std::sync::atomic::AtomicBool;
 use std::sync::{Arc, Wait};
 use std::thread::Threads;
-use wiring::{Ends, Told, Wire, are_within, deal, lay, undo};
+use thread_crew::{Work, WorkerId, join_all, start};
+use thread_rings::{Ends, Told, Wire, are_within, deal, lay, undo};
 
 const WIRES: [Wire; 2] = [
     Wire {
@@ -41,7 +41,7 @@ struct Count {
 }
 
 impl Work for Relay {
-    ghost use Rattle.wiring.specs.Wired.{Tags, tags_of};
+    ghost use Rattle.thread_rings.specs.Wired.{Tags, tags_of};
 
     ghost Kept = { Tags };
 

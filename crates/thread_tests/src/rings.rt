@@ -1,11 +1,11 @@
 //! A table of wires: items go through the ends that two workers are dealt, and each ring comes back with what was left.
 
 ghost use Rattle.std.specs.Prelude.{◌≡◌, ◌<◌, map, vec_len};
-ghost use Rattle.wiring.specs.Wired.{tags_of};
+ghost use Rattle.thread_rings.specs.Wired.{tags_of};
 
 use std::alloc::Global;
 use std::snapshot::Snapshot;
-use wiring::{Ends, Told, Wire, are_within, deal, lay, undo};
+use thread_rings::{Ends, Told, Wire, are_within, deal, lay, undo};
 
 /// Worker 0 puts by its ends 0 and 1 into the rings 0 and 2, and takes by its ends 0 and 1 from the rings 1 and 2.
 const WIRES: [Wire; 3] = [
@@ -27,7 +27,7 @@ const WIRES: [Wire; 3] = [
 ];
 
 /// Was the item put in?
-#[tactic(auto, using(wiring::proofs::Used::same_tags))]
+#[tactic(auto, using(thread_rings::proofs::Used::same_tags))]
 fn put(workers: &mut Vec<Ends<u32>>, worker: usize, end: usize, item: u32) -> bool
     requires { worker < vec_len workers.old }
     ensures count { vec_len workers.new ≡ vec_len workers.old }
@@ -36,7 +36,7 @@ fn put(workers: &mut Vec<Ends<u32>>, worker: usize, end: usize, item: u32) -> bo
     workers[worker].put(end, item).is_ok()
 }
 
-#[tactic(auto, using(wiring::proofs::Used::same_tags))]
+#[tactic(auto, using(thread_rings::proofs::Used::same_tags))]
 fn pull(workers: &mut Vec<Ends<u32>>, worker: usize, end: usize) -> Option<u32>
     requires { worker < vec_len workers.old }
     ensures count { vec_len workers.new ≡ vec_len workers.old }

@@ -6,12 +6,12 @@ ghost use Rattle.fab_types.specs.declared.class.Class.TheVariants.{Posted};
 ghost use Rattle.lane.specs.Lanes.{class_of};
 
 use credit::{Credits, Limits};
-use end_parts::{Ending, keep_stray};
 use fab_types::{Bdf, Class, Cost, DomainId, Head, Header, Parties};
 use frame_log::{Frame, Log};
 use link::Ingress;
 use std::alloc::Global;
 use std::sync::Wait;
+use thread_workers::{Ending, keep_stray};
 
 /// Credits for a packet of each class.
 fn one_packet() -> Limits

@@ -5,7 +5,7 @@ use Rattle.std.proofs.lemmas.List.{append-nil, get_or-map}
 use Rattle.domain.specs.Domains.{DomainView}
 use Rattle.fab_types.proofs.Taking.{take_all, take_next}
 use Rattle.threads_command.specs.Counted.{AreCountedParts, IsCountedPart}
-use Rattle.totals.specs.declared.totals.Totals.{Totals}
+use Rattle.thread_totals.specs.declared.totals.Totals.{Totals}
 
 module _ (totals : DomainView → Totals) where
   parts_more : (ds : List DomainView) (d : DomainView) (text part : List ℕ) → AreCountedParts totals ds text → IsCountedPart (totals d) d part → AreCountedParts totals (ds ++ d ∷ []) (text ++ part)

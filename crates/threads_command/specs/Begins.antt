@@ -7,7 +7,7 @@ use Rattle.fab_types.specs.declared.origin.Origin.{Origin}
 use Rattle.injector.specs.Injectors.{SendsNothing}
 use Rattle.injector.specs.declared.begin.Ask.{Ask}
 use Rattle.injector.specs.declared.injector.Injector.{Injector}
-use Rattle.workers.specs.Origins.{origin_place}
+use Rattle.thread_staff.specs.Origins.{origin_place}
 use Rattle.script.specs.declared.lines.Command.{Command}
 use Rattle.script.specs.declared.lines.Line.{Line}
 use Rattle.threads_command.specs.Asking.{Sends, ask_of, origin_of}

@@ -3,7 +3,7 @@ use Rattle.std.specs.Prelude.{◌≡◌, ℕ, ◌++◌, List, [], ◌∷◌, cod
 use Rattle.std.specs.Fmt.{decimal}
 use Rattle.domain.specs.Domains.{DomainView}
 use Rattle.reports.specs.Report.{IsHolding, counts_line}
-use Rattle.totals.specs.declared.totals.Totals.{Totals}
+use Rattle.thread_totals.specs.declared.totals.Totals.{Totals}
 
 -- what counts of the domain of this number
 abbrev pub totals_line : ℕ → Totals → List ℕ

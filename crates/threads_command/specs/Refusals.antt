@@ -8,10 +8,10 @@ use Rattle.std.specs.Option.{unwrap_or}
 use Rattle.std.specs.Ordering.{nat_cmp}
 use Rattle.fab_types.specs.Origins.{origin_id}
 use Rattle.fab_types.specs.Texts.{id_text}
-use Rattle.workers.specs.declared.remains.Parts.{Parts}
-use Rattle.workers.specs.declared.remains.Parts.TheVariants as parts
-use Rattle.workers.specs.declared.remains.Remains.{Remains}
-use Rattle.root_work.specs.declared.host_work.HostWork.{HostWork}
+use Rattle.thread_staff.specs.declared.remains.Parts.{Parts}
+use Rattle.thread_staff.specs.declared.remains.Parts.TheVariants as parts
+use Rattle.thread_staff.specs.declared.remains.Remains.{Remains}
+use Rattle.thread_workers.specs.declared.root.host_work.HostWork.{HostWork}
 
 -- IDs, by rising number, each with a count
 abbrev pub Counts : Type 0

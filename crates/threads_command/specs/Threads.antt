@@ -15,7 +15,7 @@ use Rattle.script.specs.declared.lines.Line.{Line}
 use Rattle.threads_command.specs.Begins.{AllBegin, BegunView, none_begun}
 use Rattle.threads_command.specs.Counted.{AreCountedParts}
 use Rattle.threads_command.specs.Refusals.{Counts, all_added, refused_by, refused_lines}
-use Rattle.totals.specs.Counts.{totals_of}
+use Rattle.thread_totals.specs.Counts.{totals_of}
 
 -- The workers of a platform's fabric were started, the begins of these lines were asked of its injectors, and the workers
 -- were stopped: this was left, and where all five controls are set on each port it adds up. So many begins were refused: those

@@ -11,10 +11,9 @@ ghost use Rattle.threads_command.specs.Begins.{AllBegin, Asks, Begins, BeginsOf,
 
 use crate::asking::{Answer, ask, ask_again, origin_of};
 use crate::refusals::Refusals;
-use even_gate::EvenGate;
 use fab_types::{NoMemory, Origin, same_origin};
 use inputs::Fault;
-use port_threads::{Injector, Running};
+use port_threads::{EvenGate, Injector, Running};
 use script::{Command, Line};
 use std::alloc::Global;
 use std::time::Clock;

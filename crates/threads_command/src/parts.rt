@@ -5,7 +5,7 @@ ghost use Rattle.std.specs.Io.KnownBytes.{Appends};
 ghost use Rattle.port_threads.specs.Left.{frames_of};
 ghost use Rattle.reports.specs.Writing.{Wrote};
 ghost use Rattle.threads_command.specs.Counted.{AreCountedParts, IsCountedPart, totals_line};
-ghost use Rattle.totals.specs.Counts.{totals_of};
+ghost use Rattle.thread_totals.specs.Counts.{totals_of};
 
 use domain::Domain;
 use fab_types::DomainId;

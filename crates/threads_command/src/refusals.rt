@@ -7,12 +7,12 @@ ghost use Rattle.threads_command.specs.Refusals.{all_added, count_of, host_refus
 
 use fab_types::{Bdf, NoMemory};
 use port_threads::{Parts, Remains};
-use root_work::HostWork;
 use std::alloc::Global;
 use std::collections::BTreeMap;
 use std::io;
 use std::io::Write;
 use std::marker::Model;
+use thread_workers::HostWork;
 
 /// By the ID of a function or of a domain's host, how many of its begins were refused. A contract sees the list of both, by
 /// rising ID.

@@ -10,9 +10,9 @@ use Rattle.platform.specs.Share.{Share}
 use Rattle.fab_types.specs.declared.host_access.HostAccess.{HostAccess}
 use Rattle.domain.specs.declared.entry.Entry.TheVariants as entry
 use Rattle.domain.specs.Domains.{DomainView}
-use Rattle.domain_parts.specs.HostAccesses.{is_in_page, mmio_fault, mmio_with, size_of, tag_for}
+use Rattle.domain_state.specs.HostAccesses.{is_in_page, mmio_fault, mmio_with, size_of, tag_for}
 use Rattle.domain.specs.Machine.{change}
-use Rattle.domain_parts.specs.State.{Alone}
+use Rattle.domain_state.specs.State.{Alone}
 use Rattle.domains.specs.Domains.{domain_at, made, made_at, made_by, made_of, mmio_refusal, mmio_refusal_by, place_of}
 
 -- ---- what a call's clauses say of its refusal

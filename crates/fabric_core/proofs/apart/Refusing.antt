@@ -15,13 +15,13 @@ use Rattle.fab_types.specs.declared.host_access.HostAccess.{HostAccess}
 use Rattle.domain.specs.declared.entry.Entry.{Entry}
 use Rattle.domain.specs.declared.entry.Entry.TheVariants as entry
 use Rattle.domain.specs.Domains.{DomainView}
-use Rattle.domain_parts.specs.HostAccesses.{mmio_fault, mmio_unless}
+use Rattle.domain_state.specs.HostAccesses.{mmio_fault, mmio_unless}
 use Rattle.domain.specs.Machine.{change}
-use Rattle.domain_parts.specs.State.{Alone}
+use Rattle.domain_state.specs.State.{Alone}
 use Rattle.domain.specs.Submits.{submit_fault, submit_unless}
 use Rattle.domain.specs.Ticks.{tick_fault, tick_unless}
 use Rattle.domain.proofs.PageIds.{own_page}
-use Rattle.agents.specs.Agents.{emitted, emitted_if}
+use Rattle.domains.specs.Agents.{emitted, emitted_if}
 use Rattle.domains.specs.Domains.{domain_at, made_at, made_by, made_of, mmio_refusal_by, place_of, place_of_function, submit_refusal_by, tick_refusal_by}
 use Rattle.fabric_core.specs.declared.event.Event.{Event}
 use Rattle.fabric_core.specs.declared.event.Event.TheVariants.{Arrive, Credit, Enter, Mmio, Pass, Root, Send, Submit, Take, Tick}

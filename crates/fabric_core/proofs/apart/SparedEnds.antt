@@ -9,7 +9,7 @@ use Rattle.fab_types.specs.declared.violation.Violation.{Violation}
 use Rattle.frame_log.specs.Descriptor.{Descriptor}
 use Rattle.domain.specs.declared.entry.Entry.{Entry}
 use Rattle.domain.specs.declared.entry.Entry.TheVariants as entry
-use Rattle.agents.specs.Agents.{AgentsView, emitted, emitted_if, is_function_of}
+use Rattle.domains.specs.Agents.{AgentsView, emitted, emitted_if, is_function_of}
 use Rattle.link.specs.Channels.{Channel, is_full}
 use Rattle.port.specs.Courses.{course_of}
 use Rattle.lane.specs.Lanes.{Class, eligible}

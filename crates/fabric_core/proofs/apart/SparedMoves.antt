@@ -9,7 +9,7 @@ use Rattle.frame_log.specs.Descriptor.{Descriptor}
 use Rattle.credit.specs.declared.counters.Counters.{Counters}
 use Rattle.domain.specs.declared.entry.Entry.{Entry}
 use Rattle.domain.specs.Domains.{DomainView}
-use Rattle.agents.specs.Agents.{emitted, emitted_if, taken_from, waiting_of}
+use Rattle.domains.specs.Agents.{emitted, emitted_if, taken_from, waiting_of}
 use Rattle.link.specs.Channels.{Channel, has_room, is_full, deliver, received_of, same_counters, send, sent_on, spent, update_fc, unspent}
 use Rattle.lane.specs.Lanes.{Class, eligible}
 use Rattle.domains.specs.Domains.{Made, domain_at, made_at}

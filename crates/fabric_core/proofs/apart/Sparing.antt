@@ -7,8 +7,8 @@ use Rattle.frame_log.specs.Descriptor.{Descriptor}
 use Rattle.domain.specs.declared.entry.Entry.{Entry}
 use Rattle.domain.specs.Domains.{DomainView}
 use Rattle.domain.specs.Machine.{change}
-use Rattle.domain_parts.specs.State.{Change}
-use Rattle.agents.specs.Agents.{AgentsView, Outbox, emitted, joined, taken_from, waiting_of}
+use Rattle.domain_state.specs.State.{Change}
+use Rattle.domains.specs.Agents.{AgentsView, Outbox, emitted, joined, taken_from, waiting_of}
 use Rattle.link.specs.Channels.{Channel}
 use Rattle.lane.specs.Lanes.{Class, eligible}
 use Rattle.domains.specs.Domains.{Made, after, domain_at, place_of}

@@ -7,7 +7,7 @@ use Rattle.fab_types.specs.declared.class.Class.TheVariants.{Completion}
 use Rattle.fab_types.specs.declared.origin.Origin.{Origin}
 use Rattle.fab_types.specs.declared.violation.Violation.{Violation}
 use Rattle.frame_log.specs.Descriptor.{Descriptor}
-use Rattle.agents.specs.Agents.{AgentsView, accessed, submitted, taken_from, ticked, waiting_of}
+use Rattle.domains.specs.Agents.{AgentsView, accessed, submitted, taken_from, ticked, waiting_of}
 use Rattle.domain.specs.declared.entry.Entry.TheVariants.{Refuse}
 use Rattle.domains.specs.Aliens.{aliened, answers}
 use Rattle.domains.specs.Domains.{Made, made, place_of_function}

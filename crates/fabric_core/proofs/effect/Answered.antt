@@ -27,13 +27,13 @@ use Rattle.request_handling.specs.AtFunctions.{discarded}
 use Rattle.request_handling.specs.Carries.{answer_refusal, port_id, refusal_by, refusal_of}
 use Rattle.request_handling.proofs.Discarding.{answer_discarded}
 use Rattle.domain.specs.Domains.{DomainView}
-use Rattle.domain_parts.specs.Ends.{conclude}
+use Rattle.domain_state.specs.Ends.{conclude}
 use Rattle.request_handling.specs.Fates.{fate, fate_below, fate_unless, goes_to, packet_fate, stopped}
 use Rattle.request_handling.specs.Heads.{descriptor_of}
 use Rattle.domain.specs.Machine.{change, refuse}
 use Rattle.domain.proofs.PortAnswers.{answer_class}
 use Rattle.request_handling.specs.Emissions.{Emission}
-use Rattle.domain_parts.specs.State.{Alone, Change, item_at}
+use Rattle.domain_state.specs.State.{Alone, Change, item_at}
 use Rattle.lane.specs.Lanes.{class_of}
 use Rattle.domains.specs.Domains.{Made, domain_at, made, made_at, made_by, made_of, place_of}
 use Rattle.fabric_core.specs.Places.{IsFlown, flown_by}

@@ -11,7 +11,7 @@ use Rattle.domain.specs.Domains.{DomainView}
 use Rattle.request_handling.specs.Heads.{descriptor_of}
 use Rattle.domain.specs.Machine.{change}
 use Rattle.request_handling.specs.Emissions.{Emission}
-use Rattle.domain_parts.specs.State.{Change}
+use Rattle.domain_state.specs.State.{Change}
 use Rattle.request_handling.specs.Takers.{is_at_port}
 use Rattle.domain.proofs.PortAnswers.{IsReply, port_replies}
 use Rattle.domains.specs.Aliens.{aliened, aliened_by, flown}

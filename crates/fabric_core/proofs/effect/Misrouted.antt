@@ -8,7 +8,7 @@ use Rattle.fab_types.specs.declared.outcome.Outcome.{Outcome}
 use Rattle.fab_types.specs.declared.outcome.Outcome.TheVariants.{Moved, Idle, Refused, NoMemory}
 use Rattle.fab_types.specs.declared.violation.Violation.{Violation}
 use Rattle.frame_log.specs.Descriptor.{Descriptor}
-use Rattle.agents.specs.Agents.{AgentsView}
+use Rattle.domains.specs.Agents.{AgentsView}
 use Rattle.link.specs.Channels.{Channel, is_full}
 use Rattle.port.specs.Courses.{course_of}
 use Rattle.port.specs.declared.course.Forwarding.{Forwarding}

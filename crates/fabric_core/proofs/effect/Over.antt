@@ -7,7 +7,7 @@ use Rattle.link.specs.Channels.{Channel}
 use Rattle.port.specs.Turns.{PortView}
 use Rattle.topology.specs.Topologies.{Tree}
 use Rattle.interconnect.specs.Views.{InterconnectView, IsSameRest, channels}
-use Rattle.agents.specs.Agents.{AgentsView}
+use Rattle.domains.specs.Agents.{AgentsView}
 use Rattle.fabric_core.specs.World.{World, with_channels, world_over}
 
 abbrev pub of_parts : Tree → Routes → List (List Channel) → List PortView → AgentsView → List Violation → List Descriptor → World

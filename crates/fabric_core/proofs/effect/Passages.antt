@@ -12,7 +12,7 @@ use Rattle.fab_types.specs.declared.outcome.Outcome.TheVariants.{Moved, Idle, Re
 use Rattle.fab_types.specs.declared.violation.Violation.{Violation}
 use Rattle.frame_log.specs.Descriptor.{Descriptor}
 use Rattle.ordering.proofs.Leaving.{taken_leaves}
-use Rattle.agents.specs.Agents.{AgentsView}
+use Rattle.domains.specs.Agents.{AgentsView}
 use Rattle.link.specs.Channels.{Channel}
 use Rattle.lane.specs.Lanes.{class_of, eligible}
 use Rattle.port.specs.Turns.{PortView}

@@ -11,7 +11,7 @@ use Rattle.fab_types.specs.declared.origin.Origin.{Origin}
 use Rattle.fab_types.specs.declared.origin.Origin.TheVariants as origin
 use Rattle.frame_log.specs.Descriptor.{Descriptor}
 use Rattle.bridge.specs.Bridges.{Routes}
-use Rattle.agents.specs.Agents.{waiting_of}
+use Rattle.domains.specs.Agents.{waiting_of}
 use Rattle.link.specs.Channels.{Channel, deliver, received_of, send, sent_on, update_fc}
 use Rattle.link.specs.Quiet.{is_quiet as is_quiet_channel, none_eligible}
 use Rattle.port.specs.Configs.{Config}

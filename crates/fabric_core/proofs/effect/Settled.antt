@@ -15,7 +15,7 @@ use Rattle.fab_types.specs.declared.violation.Violation.{Violation}
 use Rattle.frame_log.specs.Descriptor.{Descriptor}
 use Rattle.frame_log.specs.declared.fault.FrameFault.{FrameFault}
 use Rattle.frame_log.specs.declared.fault.FrameFault.TheVariants as fault
-use Rattle.agents.specs.Agents.{AgentsView}
+use Rattle.domains.specs.Agents.{AgentsView}
 use Rattle.link.specs.Channels.{Channel}
 use Rattle.link.specs.Simplexes.{simplex_restored}
 use Rattle.lane.specs.Lanes.{eligible}

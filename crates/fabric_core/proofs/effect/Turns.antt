@@ -10,7 +10,7 @@ use Rattle.fab_types.specs.declared.outcome.Outcome.TheVariants.{Moved, Idle, Re
 use Rattle.fab_types.specs.declared.violation.Violation.{Violation}
 use Rattle.frame_log.specs.Descriptor.{Descriptor}
 use Rattle.domain.specs.declared.entry.Entry.TheVariants.{Refuse}
-use Rattle.agents.specs.Agents.{AgentsView, Outbox}
+use Rattle.domains.specs.Agents.{AgentsView, Outbox}
 use Rattle.link.specs.Channels.{Channel, is_full}
 use Rattle.port.specs.declared.course.Forwarding.{Forwarding}
 use Rattle.port.specs.declared.course.Forwarding.TheVariants.{To, Stop, NoCase}

@@ -12,10 +12,10 @@ use Rattle.platform.specs.Share.{Share, is_guarded as is_guarded_share, is_guard
 use Rattle.domain.specs.declared.entry.Entry.TheVariants.{Alien}
 use Rattle.domain.specs.Aliens.{alien, received_if, reception_by}
 use Rattle.request_handling.specs.Emissions.{Emission}
-use Rattle.domain_parts.specs.State.{Alone, Change}
+use Rattle.domain_state.specs.State.{Alone, Change}
 use Rattle.request_handling.specs.Takers.{taker_of}
 use Rattle.domain.specs.Domains.{DomainView}
-use Rattle.agents.specs.Agents.{Outbox, emitted_if, home_of, joined, outbox_place}
+use Rattle.domains.specs.Agents.{Outbox, emitted_if, home_of, joined, outbox_place}
 use Rattle.link.specs.Channels.{Channel}
 use Rattle.domains.specs.Aliens.{aliened_at, aliened_by, flown}
 use Rattle.domains.specs.Domains.{Made, made_at}

@@ -9,8 +9,8 @@ use Rattle.domain.specs.declared.entry.Entry.{Entry}
 use Rattle.domain.specs.declared.entry.Entry.TheVariants.{Mmio, Submit, Tick}
 use Rattle.domain.specs.Domains.{DomainView}
 use Rattle.domain.specs.Machine.{change}
-use Rattle.domain_parts.specs.State.{Change}
-use Rattle.agents.specs.Agents.{AgentsView, IsSettled, accessed, emitted, emitted_if, home_of, joined, outbox_place, submitted, ticked}
+use Rattle.domain_state.specs.State.{Change}
+use Rattle.domains.specs.Agents.{AgentsView, IsSettled, accessed, emitted, emitted_if, home_of, joined, outbox_place, submitted, ticked}
 use Rattle.domains.specs.Domains.{Made, made_at, place_of, place_of_function}
 use Rattle.fabric_core.specs.Invariant.{IsConsistent}
 use Rattle.fabric_core.specs.Places.{frames_of, waiting_in}

@@ -11,8 +11,8 @@ use Rattle.domain.specs.declared.entry.Entry.TheVariants.{Carry, Deliver}
 use Rattle.domain.specs.Domains.{DomainView}
 use Rattle.request_handling.specs.Heads.{descriptor_of}
 use Rattle.domain.specs.Machine.{change}
-use Rattle.domain_parts.specs.State.{Change}
-use Rattle.agents.specs.Agents.{AgentsView, carried_by_function, carried_by_host, delivered, emitted_if, is_function_of, is_of_domain, joined, outbox_place}
+use Rattle.domain_state.specs.State.{Change}
+use Rattle.domains.specs.Agents.{AgentsView, carried_by_function, carried_by_host, delivered, emitted_if, is_function_of, is_of_domain, joined, outbox_place}
 use Rattle.link.specs.Channels.{is_full, with_egress}
 use Rattle.lane.specs.Lanes.{Class}
 use Rattle.domains.specs.Domains.{Made, domain_at, made, place_of, place_of_function}

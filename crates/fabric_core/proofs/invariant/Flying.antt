@@ -13,11 +13,11 @@ use Rattle.platform.specs.Owners.{bar_of}
 use Rattle.fab_types.specs.declared.host_access.HostAccess.{HostAccess}
 use Rattle.domain.specs.declared.entry.Entry.TheVariants.{Alien, Carry, Deliver, Mmio, Refuse, Submit, Tick}
 use Rattle.domain.specs.Deliveries.{arrival, arrived}
-use Rattle.domain_parts.specs.Ends.{replied}
-use Rattle.domain_parts.specs.HostAccesses.{mmio_fault, mmio_unless, mmio_with, tag_for}
+use Rattle.domain_state.specs.Ends.{replied}
+use Rattle.domain_state.specs.HostAccesses.{mmio_fault, mmio_unless, mmio_with, tag_for}
 use Rattle.domain.specs.Machine.{change}
 use Rattle.request_handling.specs.Emissions.{Emission}
-use Rattle.domain_parts.specs.State.{Alone, Change, emits_nothing, item_at, without}
+use Rattle.domain_state.specs.State.{Alone, Change, emits_nothing, item_at, without}
 use Rattle.domain.specs.Submits.{submit_fault, submit_unless}
 use Rattle.domain.specs.Ticks.{sent_by, tick_fault, tick_unless, ticked, ticks, ticks_by}
 use Rattle.domain.proofs.Leaving.{alien_flight, carry_flight, deliver_flight, joined, refuse_flight}

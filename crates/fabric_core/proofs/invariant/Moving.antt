@@ -5,7 +5,7 @@ use Rattle.std.specs.Option.{option_and_then}
 use Rattle.fab_types.specs.declared.place.Direction.{Direction}
 use Rattle.fab_types.specs.declared.origin.Origin.{Origin}
 use Rattle.frame_log.specs.Descriptor.{Descriptor}
-use Rattle.agents.specs.Agents.{AgentsView, IsSettled, outbox_place, taken_from, waiting_of}
+use Rattle.domains.specs.Agents.{AgentsView, IsSettled, outbox_place, taken_from, waiting_of}
 use Rattle.link.specs.Channels.{Channel, deliver, has_room, is_full, received_of, same_counters, send, sent_on, spent, unspent, update_fc, with_egress}
 use Rattle.lane.specs.Lanes.{Class, class_of, eligible}
 use Rattle.topology.specs.Links.{sender_of}

@@ -9,7 +9,7 @@ use Rattle.frame_log.specs.Descriptor.{Descriptor}
 use Rattle.domain.specs.Domains.{DomainView}
 use Rattle.request_handling.specs.Heads.{descriptor_of}
 use Rattle.request_handling.specs.Emissions.{Emission}
-use Rattle.domain_parts.specs.State.{item_at}
+use Rattle.domain_state.specs.State.{item_at}
 use Rattle.domain.proofs.Leaving.{joined}
 use Rattle.domain.specs.Consumed.{times_waiting}
 use Rattle.fabric_core.specs.Places.{IsFlown, flown, is_numbered}

@@ -6,7 +6,7 @@ use Rattle.std.proofs.lemmas.List.Elements.{All-head}
 use Rattle.fab_types.specs.declared.place.Direction.{Direction}
 use Rattle.fab_types.specs.declared.violation.Violation.{Violation}
 use Rattle.frame_log.specs.Descriptor.{Descriptor}
-use Rattle.agents.specs.Agents.{AgentsView, IsSettled}
+use Rattle.domains.specs.Agents.{AgentsView, IsSettled}
 use Rattle.interconnect.specs.Moves.{channel_at, with_ingress}
 use Rattle.interconnect.proofs.Keeping.{sender_is_end}
 use Rattle.link.specs.Channels.{Channel}

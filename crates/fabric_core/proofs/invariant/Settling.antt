@@ -17,8 +17,8 @@ use Rattle.domain.specs.declared.entry.Entry.{Entry}
 use Rattle.domain.specs.Domains.{DomainView}
 use Rattle.domain.specs.Machine.{change}
 use Rattle.request_handling.specs.Emissions.{Emission}
-use Rattle.domain_parts.specs.State.{Change, item_at}
-use Rattle.agents.specs.Agents.{AgentsView, IsSettled, Outbox, home_of, joined, outbox_place, with_waiting_at, with_waiting_in}
+use Rattle.domain_state.specs.State.{Change, item_at}
+use Rattle.domains.specs.Agents.{AgentsView, IsSettled, Outbox, home_of, joined, outbox_place, with_waiting_at, with_waiting_in}
 use Rattle.domains.specs.Domains.{Made, after, domain_at, made_at, made_by, made_of, place_of, place_of_function}
 use Rattle.fabric_core.specs.Invariant.{HasPorts}
 use Rattle.fabric_core.specs.Places.{IsFlown, flown_by}

@@ -8,7 +8,7 @@ use Rattle.std.proofs.lemmas.Option.{get_or_from_slice_get, slice_get-get_or, sl
 use Rattle.std.proofs.Math.Seq.{map-set_same}
 use Rattle.fab_types.specs.declared.origin.Origin.{Origin}
 use Rattle.frame_log.specs.Descriptor.{Descriptor}
-use Rattle.agents.specs.Agents.{Outbox, joined, outbox_place, waiting_at, waiting_in as waiting_found, with_waiting_at, with_waiting_in}
+use Rattle.domains.specs.Agents.{Outbox, joined, outbox_place, waiting_at, waiting_in as waiting_found, with_waiting_at, with_waiting_in}
 use Rattle.fab_types.specs.Origins.{same_origin}
 use Rattle.link.specs.Channels.{Channel, with_egress}
 use Rattle.lane.specs.Lanes.{Class, class_of, eligible}

@@ -20,14 +20,14 @@ use Rattle.port.specs.declared.config.Exit.{Exit}
 use Rattle.port.specs.Turns.{PortView}
 use Rattle.domain.specs.Domains.{DomainView}
 use Rattle.request_handling.specs.Emissions.{Emission}
-use Rattle.domain_parts.specs.State.{item_at}
+use Rattle.domain_state.specs.State.{item_at}
 use Rattle.outboxes.specs.Outboxes.{BoxView, boxes_of}
 use Rattle.domains.specs.Domains.{domain_at, fresh, place_of, starting_domains_among, starting_domains}
 use Rattle.topology.specs.Nodes.{ports_on}
 use Rattle.interconnect.specs.Kept as interconnect
 use Rattle.interconnect.specs.Starts.{function_outputs, idle_port, nodes_of, ports_of, root_outputs, start_of, switch_outputs, unused_below}
 use Rattle.interconnect.specs.Views.{InterconnectView, channels_of}
-use Rattle.agents.specs.Agents.{AgentsView, IsSettled, agents_of, empty}
+use Rattle.domains.specs.Agents.{AgentsView, IsSettled, agents_of, empty}
 use Rattle.fabric_core.specs.Invariant.{HasPorts, IsBuilt, IsFree, IsConsistent}
 use Rattle.fabric_core.specs.Places.{ArePlaced, IsFlown, flown, flown_by, frames_from, frames_of, is_numbered, strays_of, waiting_in}
 use Rattle.domain.specs.Consumed.{times_waiting}

@@ -10,7 +10,7 @@ use Rattle.std.proofs.lemmas.List.{get_or-set_other, get_or-set_same, length-set
 use Rattle.fab_types.specs.declared.violation.Violation.{Violation}
 use Rattle.frame_log.specs.Descriptor.{Descriptor}
 use Rattle.domain.specs.declared.entry.Entry.TheVariants.{Refuse}
-use Rattle.agents.specs.Agents.{AgentsView}
+use Rattle.domains.specs.Agents.{AgentsView}
 use Rattle.port.specs.Configs.{Config}
 use Rattle.port.specs.Courses.{IsWithin, course_of}
 use Rattle.port.specs.declared.course.Forwarding.{Forwarding}

@@ -20,7 +20,7 @@ use Rattle.tlp_view.specs.Packet.{Packet, status_in}
 use Rattle.tlp_view.specs.View.{address_type_in}
 use Rattle.domain.specs.Aliens.{alien, at_function, at_function_with, at_host, at_host_with, completion_at_host, is_excluded, received_if, reception_by, reception_unless}
 use Rattle.domain.specs.Receptions.{received}
-use Rattle.domain_parts.specs.State.{Alone, Change}
+use Rattle.domain_state.specs.State.{Alone, Change}
 use Rattle.request_handling.specs.declared.fate.Fate.{Fate}
 use Rattle.request_handling.specs.declared.fate.Fate.TheVariants.{Vanish, Refused, ToHost, Direct}
 use Rattle.request_handling.specs.declared.taker.Taker.{Taker}

@@ -16,9 +16,9 @@ use Rattle.tlp_view.specs.Malformed.{malformed}
 use Rattle.domain.specs.declared.entry.Entry.TheVariants as entry
 use Rattle.domain.specs.Domains.{DomainView}
 use Rattle.domain.specs.Machine.{change, ended as ended_in}
-use Rattle.domain_parts.specs.Ends.{conclude}
-use Rattle.domain_parts.specs.State.{Change, item_at}
-use Rattle.agents.specs.Agents.{emitted_if, is_function_of}
+use Rattle.domain_state.specs.Ends.{conclude}
+use Rattle.domain_state.specs.State.{Change, item_at}
+use Rattle.domains.specs.Agents.{emitted_if, is_function_of}
 use Rattle.domains.specs.Aliens.{aliened_at}
 use Rattle.domains.specs.Domains.{Made, made, place_of, place_of_function}
 use Rattle.lane.specs.Lanes.{Class}

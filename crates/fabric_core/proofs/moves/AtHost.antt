@@ -10,7 +10,7 @@ use Rattle.fab_types.specs.declared.origin.Origin.TheVariants.{Host}
 use Rattle.fab_types.specs.declared.place.Place.TheVariants.{Ingress}
 use Rattle.frame_log.specs.Descriptor.{Descriptor}
 use Rattle.domain.specs.declared.entry.Entry.TheVariants as entry
-use Rattle.agents.specs.Agents.{AgentsView, emitted_if}
+use Rattle.domains.specs.Agents.{AgentsView, emitted_if}
 use Rattle.domains.specs.Aliens.{aliened, owner_of_frame}
 use Rattle.domains.specs.Domains.{Made, made, place_of}
 use Rattle.lane.specs.Lanes.{Class}

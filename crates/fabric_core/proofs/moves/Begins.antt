@@ -6,7 +6,7 @@ use Rattle.fab_types.specs.declared.origin.Origin.{Origin}
 use Rattle.fab_types.specs.declared.origin.Origin.TheVariants.{Function, Host}
 use Rattle.frame_log.specs.Descriptor.{Descriptor}
 use Rattle.domain.specs.declared.entry.Entry.TheVariants as entry
-use Rattle.agents.specs.Agents.{emitted, emitted_if}
+use Rattle.domains.specs.Agents.{emitted, emitted_if}
 use Rattle.domains.specs.Domains.{Made, made, made_at, place_of_function}
 use Rattle.fabric_core.specs.declared.event.Event.{Event}
 use Rattle.fabric_core.specs.declared.event.Event.TheVariants.{Arrive, Credit, Enter, Mmio, Pass, Root, Send, Submit, Take, Tick}

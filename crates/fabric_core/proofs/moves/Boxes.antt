@@ -10,7 +10,7 @@ use Rattle.fab_types.specs.Origins.{same_origin}
 use Rattle.fab_types.proofs.Origins.{one_origin}
 use Rattle.frame_log.specs.Descriptor.{Descriptor}
 use Rattle.platform.specs.declared.parts.Switch.{Switch}
-use Rattle.agents.specs.Agents.{Outbox, joined, outbox_place, waiting_at, waiting_in, waiting_of, with_waiting, with_waiting_at, with_waiting_in}
+use Rattle.domains.specs.Agents.{Outbox, joined, outbox_place, waiting_at, waiting_in, waiting_of, with_waiting, with_waiting_at, with_waiting_in}
 use Rattle.lane.specs.Lanes.{Class, eligible}
 use Rattle.fabric_core.specs.Events.{link_of}
 use Rattle.fabric_core.specs.MovesLeft.{box_moves, moves_of, waiting_moves}

@@ -6,7 +6,7 @@ use Rattle.std.proofs.lemmas.Option.{same_Some}
 use Rattle.fab_types.specs.declared.origin.Origin.{Origin}
 use Rattle.fab_types.specs.declared.place.Direction.{Direction}
 use Rattle.frame_log.specs.Descriptor.{Descriptor}
-use Rattle.agents.specs.Agents.{taken_from, waiting_of}
+use Rattle.domains.specs.Agents.{taken_from, waiting_of}
 use Rattle.lane.specs.Lanes.{Class, eligible}
 use Rattle.link.specs.Channels.{Channel, is_full}
 use Rattle.topology.specs.Links.{sender_of}

@@ -13,7 +13,7 @@ use Rattle.domain.specs.declared.entry.Entry.{Entry}
 use Rattle.domain.specs.declared.entry.Entry.TheVariants.{Alien}
 use Rattle.domain.specs.Domains.{DomainView}
 use Rattle.domain.specs.Machine.{change}
-use Rattle.domain_parts.specs.State.{Change, item_at}
+use Rattle.domain_state.specs.State.{Change, item_at}
 use Rattle.domains.specs.Aliens.{aliened_at, aliened_by, flown_by}
 use Rattle.domains.specs.Domains.{Made, domain_at, made_at, place_of}
 use Rattle.request_handling.specs.Emissions.{Emission}

@@ -9,7 +9,7 @@ use Rattle.platform.specs.declared.parts.Switch.{Switch}
 use Rattle.layout.specs.Views.{credits_of}
 use Rattle.platform.specs.Platform.{Platform}
 use Rattle.platform.specs.Tree.{id_below, internal_bus}
-use Rattle.agents.specs.Agents.{empty}
+use Rattle.domains.specs.Agents.{empty}
 use Rattle.link.specs.Simplexes.{SimplexView, channel}
 use Rattle.outboxes.specs.Outboxes.{BoxView, boxes_of}
 use Rattle.topology.specs.declared.links.Link.{Link}

@@ -5,7 +5,7 @@ use Rattle.std.proofs.lemmas.Option.{same_Some}
 use Rattle.fab_types.specs.declared.place.Direction.{Direction}
 use Rattle.fab_types.specs.declared.origin.Origin.{Origin}
 use Rattle.frame_log.specs.Descriptor.{Descriptor}
-use Rattle.agents.specs.Agents.{joined}
+use Rattle.domains.specs.Agents.{joined}
 use Rattle.domain.specs.Domains.{DomainView}
 use Rattle.lane.specs.Lanes.{Class, eligible}
 use Rattle.topology.specs.Links.{sender_of}

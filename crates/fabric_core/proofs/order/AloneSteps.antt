@@ -12,7 +12,7 @@ use Rattle.domain.specs.Orders.{IsPosted}
 use Rattle.domain.specs.Sent.{IsBySource, Sent, sent}
 use Rattle.request_handling.specs.Heads.{head_of}
 use Rattle.request_handling.specs.Emissions.{Emission}
-use Rattle.domain_parts.specs.State.{item_at}
+use Rattle.domain_state.specs.State.{item_at}
 use Rattle.domain.specs.declared.entry.Entry.{Entry}
 use Rattle.domain.proofs.Consuming.{consumed_once}
 use Rattle.domain.proofs.Sending.{are_sent, sender_of_sent}

@@ -8,7 +8,7 @@ use Rattle.fab_types.specs.declared.place.Place.{Place}
 use Rattle.fab_types.specs.declared.place.Place.TheVariants as place
 use Rattle.fab_types.specs.declared.place.Place.TheVariants.{Egress, Wire, Ingress}
 use Rattle.frame_log.specs.Descriptor.{Descriptor}
-use Rattle.agents.specs.Agents.{Outbox}
+use Rattle.domains.specs.Agents.{Outbox}
 use Rattle.link.specs.Channels.{Channel, with_egress}
 use Rattle.ordering.specs.Ordering.{passes}
 use Rattle.ordering.proofs.Leaving.{taken_leaves}

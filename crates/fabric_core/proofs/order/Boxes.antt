@@ -10,7 +10,7 @@ use Rattle.fab_types.specs.declared.place.Place.TheVariants.{Egress, Wire, Ingre
 use Rattle.frame_log.specs.Descriptor.{Descriptor}
 use Rattle.fab_types.specs.Origins.{same_origin}
 use Rattle.domain.specs.Domains.{DomainView}
-use Rattle.agents.specs.Agents.{IsSettled, Outbox, home_of, joined, outbox_place, waiting_at, waiting_in, waiting_of, with_waiting, with_waiting_at, with_waiting_in}
+use Rattle.domains.specs.Agents.{IsSettled, Outbox, home_of, joined, outbox_place, waiting_at, waiting_in, waiting_of, with_waiting, with_waiting_at, with_waiting_in}
 use Rattle.link.specs.Channels.{Channel}
 use Rattle.ordering.specs.Ordering.{passes}
 use Rattle.ordering.proofs.Leaving.{taken_leaves}

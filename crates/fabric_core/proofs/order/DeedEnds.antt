@@ -13,7 +13,7 @@ use Rattle.fab_types.specs.declared.origin.Origin.TheVariants.{Function, Host}
 use Rattle.fab_types.specs.declared.place.Place.TheVariants.{Outbox}
 use Rattle.platform.specs.Owners.{is_function}
 use Rattle.domain.specs.declared.entry.Entry.TheVariants.{Carry, Deliver}
-use Rattle.agents.specs.Agents.{AgentsView, carried_by_function, delivered, emitted_if, home_of, is_function_of}
+use Rattle.domains.specs.Agents.{AgentsView, carried_by_function, delivered, emitted_if, home_of, is_function_of}
 use Rattle.link.specs.Channels.{is_full}
 use Rattle.lane.specs.Lanes.{Class}
 use Rattle.domains.specs.Domains.{Made, made, place_of, place_of_function}

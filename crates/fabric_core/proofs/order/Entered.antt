@@ -8,7 +8,7 @@ use Rattle.domain.specs.Domains.{DomainView}
 use Rattle.domain.specs.Machine.{change, replay}
 use Rattle.domain.specs.Sent.{Sent, sent, sent_of, source}
 use Rattle.request_handling.specs.Emissions.{Emission}
-use Rattle.domain_parts.specs.State.{Change, item_at}
+use Rattle.domain_state.specs.State.{Change, item_at}
 use Rattle.domain.specs.declared.entry.Entry.{Entry}
 use Rattle.domain.specs.declared.entry.Entry.TheVariants.{Deliver}
 use Rattle.domain.proofs.Consuming.{consumed_needs, consumed_once}

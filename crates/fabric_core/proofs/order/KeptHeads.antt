@@ -22,7 +22,7 @@ use Rattle.platform.specs.declared.parts.DownstreamPort.{DownstreamPort}
 use Rattle.platform.specs.Egress.{direct_to}
 use Rattle.platform.specs.Owners.{first_port, holds_bus}
 use Rattle.platform.specs.Platform.{Platform}
-use Rattle.domain_start.specs.Reach.{holds_bus_if_any}
+use Rattle.platform.specs.Reach.{holds_bus_if_any}
 use Rattle.platform.specs.Share.{is_guarded_port}
 use Rattle.platform.specs.Tree.{id_below}
 use Rattle.tlp_view.specs.declared.kind.Kind.{Kind}

@@ -33,7 +33,7 @@ use Rattle.domain.specs.Sent.{IsBySource, Sent}
 use Rattle.request_handling.specs.Emissions.{Emission}
 use Rattle.request_handling.specs.Fates.{direct_in, fate, goes_to}
 use Rattle.request_handling.specs.declared.fate.Fate.TheVariants.{ToHost}
-use Rattle.agents.specs.Agents.{Outbox as Box, outbox_place, waiting_at, waiting_in as waiting_found}
+use Rattle.domains.specs.Agents.{Outbox as Box, outbox_place, waiting_at, waiting_in as waiting_found}
 use Rattle.topology.specs.Links.{sender_of}
 use Rattle.topology.specs.declared.nodes.LinkEnd.{LinkEnd}
 use Rattle.interconnect.specs.Moves.{channel_at, no_channel}

@@ -11,7 +11,7 @@ use Rattle.fab_types.specs.declared.place.Place.TheVariants.{Ingress, Outbox}
 use Rattle.frame_log.specs.Descriptor.{Descriptor}
 use Rattle.domain.specs.Domains.{DomainView}
 use Rattle.domain.specs.Sent.{Sent, source}
-use Rattle.domain_parts.specs.State.{item_at}
+use Rattle.domain_state.specs.State.{item_at}
 use Rattle.fabric_core.specs.Invariant.{IsFabric}
 use Rattle.fabric_core.specs.Orders.{GoesBy, KeepsToWay, OrderOf}
 use Rattle.fabric_core.specs.Places.{IsFlown, flown, is_numbered}

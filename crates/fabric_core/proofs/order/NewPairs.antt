@@ -11,7 +11,7 @@ use Rattle.domain.specs.Consumed.{consumes}
 use Rattle.domain.specs.Domains.{DomainView}
 use Rattle.domain.specs.Sent.{carrier, sent, source}
 use Rattle.request_handling.specs.Emissions.{Emission}
-use Rattle.domain_parts.specs.State.{item_at}
+use Rattle.domain_state.specs.State.{item_at}
 use Rattle.domain.specs.declared.entry.Entry.{Entry}
 use Rattle.domain.specs.declared.entry.Entry.TheVariants.{Carry, Deliver, Refuse}
 use Rattle.domain.proofs.OneOutbox.{one_outbox}

@@ -13,7 +13,7 @@ use Rattle.domain.specs.Consumed.{is_in_order}
 use Rattle.domain.specs.Domains.{DomainView}
 use Rattle.domain.specs.Sent.{Sent, sent}
 use Rattle.domain.specs.declared.entry.Entry.{Entry}
-use Rattle.agents.specs.Agents.{AgentsView, agents_of}
+use Rattle.domains.specs.Agents.{AgentsView, agents_of}
 use Rattle.interconnect.specs.Starts.{start_of}
 use Rattle.interconnect.specs.Views.{InterconnectView}
 use Rattle.domains.specs.Domains.{fresh, starting_domains_among, starting_domains}

@@ -12,7 +12,7 @@ use Rattle.domain.specs.Machine.{replay}
 use Rattle.domain.specs.Orders.{DownFromHost, IsPosted, KeepOrder, UpFromFunction}
 use Rattle.domain.specs.Sent.{Sent, sent}
 use Rattle.request_handling.specs.Emissions.{Emission}
-use Rattle.domain_parts.specs.State.{item_at}
+use Rattle.domain_state.specs.State.{item_at}
 use Rattle.domain.proofs.OneOutbox.{first_posted}
 use Rattle.domain.proofs.Sending.{are_sent}
 use Rattle.fabric_core.specs.declared.event.Event.{Event}

@@ -20,7 +20,7 @@ use Rattle.domain.specs.Orders.{DownFromHost, IsTo, KeepOrder, UpFromFunction, d
 use Rattle.domain.specs.Sent.{IsBySource, Sent, sent}
 use Rattle.request_handling.specs.Heads.{head_of}
 use Rattle.request_handling.specs.Emissions.{Emission}
-use Rattle.domain_parts.specs.State.{item_at}
+use Rattle.domain_state.specs.State.{item_at}
 use Rattle.domain.specs.declared.entry.Entry.{Entry}
 use Rattle.domain.proofs.Consuming.{consumed_once}
 use Rattle.domain.proofs.ConsumedInOrder.{in_order_after}

@@ -15,7 +15,7 @@ use Rattle.fab_types.specs.declared.place.Place.TheVariants.{Egress, Ingress, Ou
 use Rattle.frame_log.specs.Descriptor.{Descriptor}
 use Rattle.domain.specs.Consumed.{times_waiting}
 use Rattle.request_handling.specs.Emissions.{Emission}
-use Rattle.agents.specs.Agents.{AreFound, Outbox as Box, outbox_place, waiting_at, waiting_in as waiting_found}
+use Rattle.domains.specs.Agents.{AreFound, Outbox as Box, outbox_place, waiting_at, waiting_in as waiting_found}
 use Rattle.link.specs.Channels.{Channel}
 use Rattle.topology.specs.Links.{sender_of}
 use Rattle.topology.specs.declared.nodes.LinkEnd.{LinkEnd}

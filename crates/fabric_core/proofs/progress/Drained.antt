@@ -15,7 +15,7 @@ use Rattle.frame_log.specs.Descriptor.{Descriptor}
 use Rattle.layout.specs.Laws.{IsPlatform}
 use Rattle.platform.specs.Owners.{is_function}
 use Rattle.platform.specs.Platform.{Platform}
-use Rattle.agents.specs.Agents.{AreFound, Outbox, agents_of, empty, waiting_of}
+use Rattle.domains.specs.Agents.{AreFound, Outbox, agents_of, empty, waiting_of}
 use Rattle.domains.specs.Domains.{place_of_function}
 use Rattle.lane.specs.Lanes.{class_of, eligible}
 use Rattle.link.specs.Channels.{Channel, count_in}

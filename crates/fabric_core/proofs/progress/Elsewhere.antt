@@ -9,7 +9,7 @@ use Rattle.fab_types.specs.declared.origin.Origin.{Origin}
 use Rattle.fab_types.specs.declared.origin.Origin.TheVariants as origin
 use Rattle.fab_types.specs.declared.place.Direction.{Direction}
 use Rattle.frame_log.specs.Descriptor.{Descriptor}
-use Rattle.agents.specs.Agents.{outbox_place, waiting_at}
+use Rattle.domains.specs.Agents.{outbox_place, waiting_at}
 use Rattle.lane.specs.Lanes.{eligible}
 use Rattle.link.specs.Channels.{Channel, deliver, send, update_fc}
 use Rattle.domains.specs.Domains.{place_of_function}

@@ -22,8 +22,8 @@ use Rattle.platform.specs.Platform.{Platform}
 use Rattle.platform.specs.Share.{Share}
 use Rattle.platform.specs.Tree.{id_below, port_leading_to}
 use Rattle.domain.specs.Domains.{DomainView}
-use Rattle.agents.proofs.Lists.{position_map}
-use Rattle.agents.specs.Agents.{Outbox, agents_of, empty, outbox_place, waiting_at, waiting_of}
+use Rattle.domains.proofs.Lists.{position_map}
+use Rattle.domains.specs.Agents.{Outbox, agents_of, empty, outbox_place, waiting_at, waiting_of}
 use Rattle.domains.specs.Domains.{fresh, place_of_function, starting_domains, starting_domains_among}
 use Rattle.outboxes.specs.Outboxes.{BoxView, boxes_of, function_box, host_box, host_boxes}
 use Rattle.topology.specs.declared.nodes.LinkEnd.{LinkEnd}

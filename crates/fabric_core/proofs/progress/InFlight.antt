@@ -9,7 +9,7 @@ use Rattle.fab_types.specs.declared.place.Place.TheVariants as place
 use Rattle.frame_log.specs.Descriptor.{Descriptor}
 use Rattle.platform.specs.Platform.{Platform}
 use Rattle.platform.specs.Share.{is_guarded_port}
-use Rattle.agents.specs.Agents.{AreFound, Outbox, outbox_place, waiting_at, waiting_in as waiting_if_any, waiting_of}
+use Rattle.domains.specs.Agents.{AreFound, Outbox, outbox_place, waiting_at, waiting_in as waiting_if_any, waiting_of}
 use Rattle.bridge.specs.Bridges.{Routes}
 use Rattle.domain.specs.Consumed.{times_waiting}
 use Rattle.domains.specs.Aliens.{flown}

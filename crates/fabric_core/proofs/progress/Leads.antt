@@ -24,7 +24,7 @@ use Rattle.acs.specs.declared.vetting.Verdict.{Verdict}
 use Rattle.acs.specs.declared.vetting.Verdict.TheVariants as verdict
 use Rattle.acs.specs.Redirection.{redirected}
 use Rattle.acs.specs.Vetting.{verdict_of}
-use Rattle.agents.proofs.Lists.{position_map}
+use Rattle.domains.proofs.Lists.{position_map}
 use Rattle.bridge.specs.declared.route.Route.{Route}
 use Rattle.bridge.specs.declared.route.Route.TheVariants.{Up, Port, OwnEgress, Nobody}
 use Rattle.bridge.specs.declared.target.Target.{Target}

@@ -20,7 +20,7 @@ use Rattle.domain.specs.Domains.{DomainView}
 use Rattle.domain.specs.Machine.{change}
 use Rattle.domain.specs.Receptions.{received}
 use Rattle.domain.specs.declared.entry.Entry.TheVariants.{Alien}
-use Rattle.domain_parts.specs.State.{Alone, Change}
+use Rattle.domain_state.specs.State.{Alone, Change}
 use Rattle.domains.specs.Aliens.{aliened, aliened_by}
 use Rattle.domains.specs.Domains.{Made, domain_at, made_at, made_by, made_of, place_of}
 use Rattle.request_handling.specs.declared.fate.Fate.{Fate}

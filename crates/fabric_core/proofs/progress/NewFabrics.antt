@@ -5,7 +5,7 @@ use Rattle.fab_types.specs.declared.violation.Violation.{Violation}
 use Rattle.frame_log.specs.Descriptor.{Descriptor}
 use Rattle.layout.specs.Laws.{IsPlatform}
 use Rattle.platform.specs.Platform.{Platform}
-use Rattle.agents.specs.Agents.{AgentsView, agents_of}
+use Rattle.domains.specs.Agents.{AgentsView, agents_of}
 use Rattle.interconnect.specs.Starts.{start_of}
 use Rattle.interconnect.specs.Views.{InterconnectView}
 use Rattle.guarded_routes.specs.Guarded.{IsGuarded}

@@ -12,8 +12,8 @@ use Rattle.fab_types.specs.Origins.{same_origin}
 use Rattle.fab_types.proofs.Origins.{one_origin}
 use Rattle.fab_types.specs.declared.violation.Violation.{Violation}
 use Rattle.frame_log.specs.Descriptor.{Descriptor}
-use Rattle.agents.specs.Agents.{AgentsView, AreFound, Outbox, accessed, carried_at, emitted_if, joined, outbox_place, submitted, taken_from as waiting_taken, ticked, waiting_of, with_waiting, with_waiting_at, with_waiting_in}
-use Rattle.agents.proofs.Lists.{each_place, found_there, position_kept}
+use Rattle.domains.specs.Agents.{AgentsView, AreFound, Outbox, accessed, carried_at, emitted_if, joined, outbox_place, submitted, taken_from as waiting_taken, ticked, waiting_of, with_waiting, with_waiting_at, with_waiting_in}
+use Rattle.domains.proofs.Lists.{each_place, found_there, position_kept}
 use Rattle.domain.specs.declared.entry.Entry.TheVariants as entry
 use Rattle.domains.specs.Aliens.{aliened, owner_of_frame}
 use Rattle.domains.specs.Domains.{Made, made}

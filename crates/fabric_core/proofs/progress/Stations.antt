@@ -23,7 +23,7 @@ use Rattle.layout.specs.Views.{share_of_domain}
 use Rattle.domain.specs.Domains.{DomainView}
 use Rattle.domains.specs.Domains.{fresh, place_of_function, starting_domains, starting_domains_among}
 use Rattle.outboxes.specs.Outboxes.{BoxView, boxes_of, function_box, host_box, host_boxes}
-use Rattle.agents.specs.Agents.{Outbox, agents_of, empty, outbox_place}
+use Rattle.domains.specs.Agents.{Outbox, agents_of, empty, outbox_place}
 use Rattle.topology.specs.declared.links.Link.{Link}
 use Rattle.topology.specs.declared.nodes.LinkEnd.{LinkEnd}
 use Rattle.topology.specs.declared.places.PortPlace.{PortPlace}

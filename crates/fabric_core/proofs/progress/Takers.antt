@@ -8,7 +8,7 @@ use Rattle.fab_types.specs.declared.class.Class.TheVariants.{Posted, NonPosted, 
 use Rattle.fab_types.specs.declared.place.Direction.{Direction}
 use Rattle.fab_types.specs.declared.origin.Origin.{Origin}
 use Rattle.frame_log.specs.Descriptor.{Descriptor}
-use Rattle.agents.specs.Agents.{waiting_of}
+use Rattle.domains.specs.Agents.{waiting_of}
 use Rattle.domain.specs.declared.entry.Entry.TheVariants.{Refuse}
 use Rattle.domains.specs.Domains.{made, place_of_function}
 use Rattle.lane.specs.Lanes.{eligible}

@@ -5,7 +5,7 @@ use Rattle.std.specs.List.{position}
 use Rattle.std.specs.Option.{is_some, option_and_then, option_map}
 use Rattle.std.proofs.lemmas.Bool.{eq-eqb, eqb-true}
 use Rattle.std.proofs.lemmas.List.{append-nil, append_assoc, get_or-set_other, get_or-set_same, length-map, map-set, set-get_or}
-use Rattle.agents.proofs.Lists.{position_map}
+use Rattle.domains.proofs.Lists.{position_map}
 use Rattle.fab_types.specs.declared.class.Class.{Class}
 use Rattle.fab_types.specs.declared.class.Class.TheVariants.{Completion}
 use Rattle.fab_types.specs.declared.outcome.Outcome.{Outcome}
@@ -23,7 +23,7 @@ use Rattle.domain.specs.declared.entry.Entry.TheVariants as entry
 use Rattle.domain.specs.Domains.{DomainView}
 use Rattle.domain.specs.Machine.{change}
 use Rattle.request_handling.specs.Emissions.{Emission}
-use Rattle.domain_parts.specs.State.{Change}
+use Rattle.domain_state.specs.State.{Change}
 use Rattle.link.specs.Channels.{Channel, is_full, deliver, send, update_fc}
 use Rattle.port.specs.declared.course.Forwarding.{Forwarding}
 use Rattle.port.specs.declared.course.Forwarding.TheVariants.{To, Stop, NoCase}
@@ -37,7 +37,7 @@ use Rattle.interconnect.specs.declared.lost.Lost.{Lost}
 use Rattle.interconnect.specs.Lost.{lost_among}
 use Rattle.interconnect.specs.Moves.{channel_at, on_channel}
 use Rattle.interconnect.specs.Passes.{index_of, no_place}
-use Rattle.agents.specs.Agents.{AgentsView, delivered, emitted, emitted_if, is_function_of, waiting_of}
+use Rattle.domains.specs.Agents.{AgentsView, delivered, emitted, emitted_if, is_function_of, waiting_of}
 use Rattle.fabric_core.specs.declared.event.Event.{Event}
 use Rattle.fabric_core.specs.declared.event.Event.TheVariants.{Submit, Tick, Mmio, Enter, Pass, Send, Take, Credit, Root, Arrive}
 use Rattle.fabric_core.specs.Aliens.{alien_at_function, alien_at_host, or_else}

@@ -6,9 +6,9 @@ use Rattle.platform.specs.Share.{Share}
 use Rattle.domain.specs.declared.entry.Entry.{Entry}
 use Rattle.domain.specs.Domains.{DomainView}
 use Rattle.domain.specs.Machine.{replay}
-use Rattle.domain_parts.specs.State.{Alone}
-use Rattle.agents.specs.Agents.{AreReplayed}
-use Rattle.agents.proofs.Lists.{get_map, position_map}
+use Rattle.domain_state.specs.State.{Alone}
+use Rattle.domains.specs.Agents.{AreReplayed}
+use Rattle.domains.proofs.Lists.{get_map, position_map}
 use Rattle.domains.specs.Domains.{domain_at, place_of}
 use Rattle.fabric_core.specs.declared.event.Event.{Event}
 use Rattle.fabric_core.specs.Comparisons.{AreEqual, IsRun, journal_of}

@@ -10,7 +10,7 @@ use Rattle.fab_types.specs.declared.violation.Violation.{Violation}
 use Rattle.frame_log.specs.Descriptor.{Descriptor}
 use Rattle.credit.specs.Limits.{at}
 use Rattle.credit.specs.declared.counters.Counters.{Counters}
-use Rattle.agents.specs.Agents.{Outbox}
+use Rattle.domains.specs.Agents.{Outbox}
 use Rattle.link.specs.Channels.{Channel, count_in, same_counters, update_fc, unspent}
 use Rattle.link.proofs.Credits.{same-at, true-same}
 use Rattle.topology.specs.Links.{sender_of}

@@ -16,7 +16,7 @@ use Rattle.platform.specs.Share.{is_guarded_port}
 use Rattle.domain.specs.declared.entry.Entry.{Entry}
 use Rattle.domain.specs.declared.entry.Entry.TheVariants as entry
 use Rattle.domain.specs.Domains.{DomainView}
-use Rattle.agents.specs.Agents.{emitted_if}
+use Rattle.domains.specs.Agents.{emitted_if}
 use Rattle.domains.specs.Domains.{domain_at, made_at, made_of, place_of, place_of_function}
 use Rattle.fabric_core.specs.declared.event.Event.{Event}
 use Rattle.fabric_core.specs.declared.event.Event.TheVariants.{Arrive, Credit, Enter, Mmio, Pass, Root, Send, Submit, Take, Tick}

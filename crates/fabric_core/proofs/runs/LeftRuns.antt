@@ -8,9 +8,9 @@ use Rattle.fab_types.specs.declared.violation.Violation.{Violation}
 use Rattle.frame_log.specs.Descriptor.{Descriptor}
 use Rattle.layout.specs.Laws.{IsPlatform}
 use Rattle.platform.specs.Platform.{Platform}
-use Rattle.agents.specs.Agents.{IsSettled, Outbox, agents_of, empty}
-use Rattle.agents.proofs.Settling.{settled}
-use Rattle.agents.proofs.Starting as agents
+use Rattle.domains.specs.Agents.{IsSettled, Outbox, agents_of, empty}
+use Rattle.domains.proofs.Settling.{settled}
+use Rattle.domains.proofs.AgentsStarting as agents
 use Rattle.link.specs.Channels.{Channel, count_in}
 use Rattle.link.specs.Simplexes.{channel}
 use Rattle.outboxes.specs.Outboxes.{BoxView, boxes_of}

@@ -4,7 +4,7 @@ use Rattle.std.specs.Prelude.{true, option_map, slice_get}
 use Rattle.std.proofs.Math.Seq.{map-set_same}
 use Rattle.std.proofs.lemmas.List.{map-set}
 use Rattle.std.proofs.lemmas.Option.{get_or_from_slice_get, slice_get-map}
-use Rattle.agents.proofs.Lists.{position_map}
+use Rattle.domains.proofs.Lists.{position_map}
 use Rattle.fab_types.specs.declared.origin.Origin.{Origin}
 use Rattle.frame_log.specs.Descriptor.{Descriptor}
 use Rattle.fab_types.specs.Origins.{same_origin}
@@ -14,8 +14,8 @@ use Rattle.domain.specs.Domains.{DomainView}
 use Rattle.request_handling.specs.Heads.{descriptor_of}
 use Rattle.domain.specs.Machine.{change}
 use Rattle.request_handling.specs.Emissions.{Emission}
-use Rattle.domain_parts.specs.State.{Change}
-use Rattle.agents.specs.Agents.{AgentsView, Outbox, emitted, is_function_of, is_of_domain, joined, outbox_place, taken_from, waiting_at, waiting_in, waiting_of, with_waiting, with_waiting_at, with_waiting_in}
+use Rattle.domain_state.specs.State.{Change}
+use Rattle.domains.specs.Agents.{AgentsView, Outbox, emitted, is_function_of, is_of_domain, joined, outbox_place, taken_from, waiting_at, waiting_in, waiting_of, with_waiting, with_waiting_at, with_waiting_in}
 use Rattle.domains.specs.Domains.{Made, after, domain_at, made_at, made_by, made_of, place_of, place_of_function}
 use Rattle.fabric_core.specs.Isolation.{is_number, number_of, own}
 use Rattle.fabric_core.specs.Soundness.{share_of}

@@ -7,7 +7,7 @@ use Rattle.frame_log.specs.Descriptor.{Descriptor}
 use Rattle.credit.specs.Kinds.{Kind}
 use Rattle.credit.specs.Limits.{at}
 use Rattle.domain.specs.Domains.{DomainView}
-use Rattle.agents.specs.Agents.{AgentsView, Outbox}
+use Rattle.domains.specs.Agents.{AgentsView, Outbox}
 use Rattle.link.specs.Channels.{Channel}
 use Rattle.domains.specs.Domains.{Made}
 use Rattle.fabric_core.specs.Receipts.{Taken}

@@ -13,7 +13,7 @@ use Rattle.fab_types.specs.declared.origin.Origin.TheVariants as origin
 use Rattle.fab_types.specs.declared.violation.Violation.{Violation}
 use Rattle.frame_log.specs.Descriptor.{Descriptor}
 use Rattle.domain.specs.declared.entry.Entry.TheVariants as entry
-use Rattle.agents.specs.Agents.{AgentsView, emitted_if, is_function_of, waiting_of}
+use Rattle.domains.specs.Agents.{AgentsView, emitted_if, is_function_of, waiting_of}
 use Rattle.link.specs.Channels.{Channel, is_full, deliver, send}
 use Rattle.port.specs.Courses.{course_of}
 use Rattle.lane.specs.Lanes.{class_of, eligible}

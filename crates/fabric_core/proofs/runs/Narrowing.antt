@@ -9,7 +9,7 @@ use Rattle.fab_types.specs.declared.class.Class.TheVariants as class
 use Rattle.fab_types.specs.declared.origin.Origin.{Origin}
 use Rattle.frame_log.specs.Descriptor.{Descriptor}
 use Rattle.credit.specs.Kinds.{Kind, cost_of, where_same}
-use Rattle.agents.specs.Agents.{Outbox, joined, outbox_place, waiting_of, with_waiting, with_waiting_at, with_waiting_in}
+use Rattle.domains.specs.Agents.{Outbox, joined, outbox_place, waiting_of, with_waiting, with_waiting_at, with_waiting_in}
 use Rattle.link.specs.Channels.{Channel, count_in, has_room, is_full, deliver, received_of, send, sent_on, spent}
 use Rattle.link.proofs.Credits.{at-spent}
 use Rattle.link.proofs.Totals.{count_in-total, total-append, total-taken}

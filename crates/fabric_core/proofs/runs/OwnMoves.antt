@@ -6,7 +6,7 @@ use Rattle.fab_types.specs.declared.class.Class.{Class}
 use Rattle.fab_types.specs.declared.origin.Origin.{Origin}
 use Rattle.fab_types.specs.declared.violation.Violation.{Violation}
 use Rattle.frame_log.specs.Descriptor.{Descriptor}
-use Rattle.agents.specs.Agents.{AgentsView, Outbox, emitted, emitted_if, waiting_of}
+use Rattle.domains.specs.Agents.{AgentsView, Outbox, emitted, emitted_if, waiting_of}
 use Rattle.link.specs.Channels.{Channel, count_in, is_full, deliver, send}
 use Rattle.lane.specs.Lanes.{eligible}
 use Rattle.port.specs.Turns.{PortView}

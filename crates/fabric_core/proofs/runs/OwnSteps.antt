@@ -5,7 +5,7 @@ use Rattle.fab_types.specs.declared.violation.Violation.{Violation}
 use Rattle.frame_log.specs.Descriptor.{Descriptor}
 use Rattle.bridge.specs.Bridges.{Routes}
 use Rattle.domain.specs.declared.entry.Entry.TheVariants as entry
-use Rattle.agents.specs.Agents.{AgentsView}
+use Rattle.domains.specs.Agents.{AgentsView}
 use Rattle.link.specs.Channels.{Channel}
 use Rattle.port.specs.Turns.{PortView}
 use Rattle.domains.specs.Domains.{made_at, place_of, place_of_function}

@@ -12,7 +12,7 @@ use Rattle.platform.specs.Share.{is_guarded, is_guarded_port}
 use Rattle.domain.specs.declared.entry.Entry.TheVariants.{Alien}
 use Rattle.domain.specs.Domains.{DomainView}
 use Rattle.request_handling.specs.Emissions.{Emission}
-use Rattle.agents.specs.Agents.{AgentsView, emitted_if}
+use Rattle.domains.specs.Agents.{AgentsView, emitted_if}
 use Rattle.interconnect.specs.declared.lost.Lost.{Lost}
 use Rattle.interconnect.specs.Lost.{lost_among}
 use Rattle.lane.specs.Lanes.{Class}

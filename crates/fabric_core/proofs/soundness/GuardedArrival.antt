@@ -15,8 +15,8 @@ use Rattle.platform.specs.Share.{Share}
 use Rattle.domain.specs.declared.entry.Entry.TheVariants.{Carry}
 use Rattle.domain.specs.Domains.{DomainView}
 use Rattle.domain.specs.Machine.{replay}
-use Rattle.domain_parts.specs.State.{start_state}
-use Rattle.agents.specs.Agents.{AgentsView, carried_by_function, emitted_if, is_function_of, is_of_domain}
+use Rattle.domain_state.specs.State.{start_state}
+use Rattle.domains.specs.Agents.{AgentsView, carried_by_function, emitted_if, is_function_of, is_of_domain}
 use Rattle.lane.specs.Lanes.{Class}
 use Rattle.domains.specs.Domains.{domain_at, made, place_of_function}
 use Rattle.topology.specs.Links.{sender_of}

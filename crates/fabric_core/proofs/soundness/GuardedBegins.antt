@@ -13,9 +13,9 @@ use Rattle.domain.specs.Domains.{DomainView}
 use Rattle.request_handling.specs.Heads.{descriptor_of}
 use Rattle.domain.specs.Machine.{change}
 use Rattle.request_handling.specs.Emissions.{Emission}
-use Rattle.domain_parts.specs.State.{Alone, Change}
+use Rattle.domain_state.specs.State.{Alone, Change}
 use Rattle.request_handling.specs.WellMade.{IsWellMade}
-use Rattle.agents.specs.Agents.{accessed, emitted, emitted_if, submitted, ticked}
+use Rattle.domains.specs.Agents.{accessed, emitted, emitted_if, submitted, ticked}
 use Rattle.guarded_routes.specs.Sound.{IsSound}
 use Rattle.guarded_routes.proofs.Begins.{accesses_down, submits, ticks_up}
 use Rattle.domains.specs.Domains.{Made, made_at, place_of, place_of_function}

@@ -14,9 +14,9 @@ use Rattle.domain.specs.Domains.{DomainView}
 use Rattle.request_handling.specs.Heads.{descriptor_of}
 use Rattle.domain.specs.Machine.{change}
 use Rattle.request_handling.specs.Emissions.{Emission}
-use Rattle.domain_parts.specs.State.{Alone, Change}
+use Rattle.domain_state.specs.State.{Alone, Change}
 use Rattle.request_handling.specs.WellMade.{IsWellMade}
-use Rattle.agents.specs.Agents.{Outbox, delivered, emitted_if, joined}
+use Rattle.domains.specs.Agents.{Outbox, delivered, emitted_if, joined}
 use Rattle.link.specs.Channels.{Channel}
 use Rattle.lane.specs.Lanes.{Class, eligible}
 use Rattle.topology.specs.Links.{sender_of}

@@ -9,7 +9,7 @@ use Rattle.fab_types.specs.declared.head.Header.{Header}
 use Rattle.fab_types.specs.declared.head.Header.TheVariants as header
 use Rattle.fab_types.specs.declared.head.Parties.{Parties}
 use Rattle.fab_types.specs.declared.origin.Origin.TheVariants.{Host}
-use Rattle.agents.specs.Agents.{AgentsView}
+use Rattle.domains.specs.Agents.{AgentsView}
 use Rattle.link.specs.Channels.{is_full}
 use Rattle.lane.specs.Lanes.{Class}
 use Rattle.topology.specs.Links.{sender_of}

@@ -12,7 +12,7 @@ use Rattle.platform.specs.Platform.{Platform}
 use Rattle.platform.specs.Share.{Share}
 use Rattle.platform.specs.Tree.{id_below, internal_bus}
 use Rattle.layout.specs.Views.{share_of_domain}
-use Rattle.agents.specs.Agents.{agents_of, empty, outbox_place, waiting_at, waiting_in}
+use Rattle.domains.specs.Agents.{agents_of, empty, outbox_place, waiting_at, waiting_in}
 use Rattle.link.specs.Channels.{Channel}
 use Rattle.link.specs.Simplexes.{SimplexView, channel}
 use Rattle.outboxes.specs.Outboxes.{BoxView, boxes_of}

@@ -7,7 +7,7 @@ use Rattle.fab_types.specs.declared.place.Direction.{Direction}
 use Rattle.fab_types.specs.declared.origin.Origin.{Origin}
 use Rattle.fab_types.specs.declared.violation.Violation.{Violation}
 use Rattle.frame_log.specs.Descriptor.{Descriptor}
-use Rattle.agents.specs.Agents.{AgentsView, taken_from, waiting_of}
+use Rattle.domains.specs.Agents.{AgentsView, taken_from, waiting_of}
 use Rattle.link.specs.Channels.{Channel, is_full}
 use Rattle.lane.specs.Lanes.{Class, eligible}
 use Rattle.topology.specs.Links.{sender_of}

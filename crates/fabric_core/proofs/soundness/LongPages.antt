@@ -21,11 +21,11 @@ use Rattle.platform.specs.Owners.{is_own_function}
 use Rattle.platform.specs.Share.{Share}
 use Rattle.tlp_view.specs.Packet.{Packet}
 use Rattle.tlp_view.specs.Runs.{is_write, runs}
-use Rattle.domain_parts.specs.Ends.{stored}
+use Rattle.domain_state.specs.Ends.{stored}
 use Rattle.domain.specs.Machine.{change}
-use Rattle.domain_parts.specs.RegisterPages.{changed, changed_at}
+use Rattle.domain_state.specs.RegisterPages.{changed, changed_at}
 use Rattle.fabric_core.specs.Soundness.{IsPage}
-use Rattle.domain_parts.specs.State.{first_registers}
+use Rattle.domain_state.specs.State.{first_registers}
 
 -- ---- a page
 

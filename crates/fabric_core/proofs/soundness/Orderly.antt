@@ -12,7 +12,7 @@ use Rattle.layout.specs.Laws.{IsPlatform}
 use Rattle.platform.specs.Platform.{Platform}
 use Rattle.platform.specs.Share.{is_guarded_port}
 use Rattle.domain.proofs.AlienLemmas.{guarded_journal}
-use Rattle.agents.specs.Agents.{AgentsView, agents_of}
+use Rattle.domains.specs.Agents.{AgentsView, agents_of}
 use Rattle.interconnect.specs.Starts.{start_of}
 use Rattle.interconnect.specs.Views.{InterconnectView}
 use Rattle.fabric_core.specs.declared.event.Event.{Event}

@@ -7,7 +7,7 @@ use Rattle.fab_types.specs.declared.class.Class.TheVariants.{Completion}
 use Rattle.fab_types.specs.declared.origin.Origin.{Origin}
 use Rattle.fab_types.specs.declared.violation.Violation.{Violation}
 use Rattle.domain.specs.declared.entry.Entry.TheVariants.{Refuse}
-use Rattle.agents.specs.Agents.{AgentsView, accessed, submitted, ticked, waiting_of}
+use Rattle.domains.specs.Agents.{AgentsView, accessed, submitted, ticked, waiting_of}
 use Rattle.link.specs.Channels.{is_full, deliver, send, update_fc}
 use Rattle.port.specs.Courses.{course_of}
 use Rattle.lane.specs.Lanes.{eligible}

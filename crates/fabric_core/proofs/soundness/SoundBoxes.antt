@@ -9,7 +9,7 @@ use Rattle.frame_log.specs.Descriptor.{Descriptor}
 use Rattle.fab_types.specs.Origins.{same_origin}
 use Rattle.fab_types.proofs.Origins.{one_origin}
 use Rattle.platform.specs.Platform.{Platform}
-use Rattle.agents.specs.Agents.{Outbox, joined, outbox_place, waiting_at, waiting_in, waiting_of, with_waiting, with_waiting_at, with_waiting_in}
+use Rattle.domains.specs.Agents.{Outbox, joined, outbox_place, waiting_at, waiting_in, waiting_of, with_waiting, with_waiting_at, with_waiting_in}
 use Rattle.lane.specs.Lanes.{Class, class_of, eligible}
 use Rattle.guarded_routes.specs.Sound.{IsSound}
 use Rattle.fabric_core.specs.Events.{link_of}

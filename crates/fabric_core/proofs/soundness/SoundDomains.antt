@@ -14,7 +14,7 @@ use Rattle.domain.specs.Domains.{DomainView}
 use Rattle.request_handling.specs.Heads.{descriptor_of}
 use Rattle.domain.specs.Machine.{change}
 use Rattle.request_handling.specs.Emissions.{Emission}
-use Rattle.domain_parts.specs.State.{Change, item_at}
+use Rattle.domain_state.specs.State.{Change, item_at}
 use Rattle.request_handling.specs.WellMade.{IsWellMade}
 use Rattle.domain.proofs.Keeping.{replays_more}
 use Rattle.domain.proofs.Leaving.{joined}

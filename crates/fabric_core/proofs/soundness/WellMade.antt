@@ -31,9 +31,9 @@ use Rattle.platform.specs.declared.parts.DownstreamPort.{DownstreamPort}
 use Rattle.platform.specs.Egress.{direct_to}
 use Rattle.platform.specs.Owners.{bar_of, first_port, is_own_function}
 use Rattle.platform.specs.Platform.{Platform}
-use Rattle.domain_start.specs.Reach.{reach}
+use Rattle.platform.specs.Reach.{reach}
 use Rattle.platform.specs.Share.{Share}
-use Rattle.domain_start.specs.Tables.{target_of}
+use Rattle.platform.specs.Tables.{target_of}
 use Rattle.layout.specs.Views.{share_of_domain}
 use Rattle.tlp_view.specs.Bytes.{packet_of}
 use Rattle.tlp_view.specs.Completions.{read_completion}
@@ -53,14 +53,14 @@ use Rattle.request_handling.specs.AtFunctions.{access_of, discarded, is_access, 
 use Rattle.request_handling.specs.Carries.{add_if, answer_refusal, carriage_by, carriage_of, forward, frame_for, is_carried, port_id, read_from, refusal_by, refusal_of, refused_by_host, serve, serve_add, serve_read, write_to}
 use Rattle.domain.specs.Deliveries.{arrival_at, arrival_of, arrived, is_awaited, recorded, unexpected}
 use Rattle.function.specs.Tags.{use_of}
-use Rattle.domain_parts.specs.Closings.{completed}
+use Rattle.domain_state.specs.Closings.{completed}
 use Rattle.domain.specs.Domains.{DomainView}
-use Rattle.domain_parts.specs.Ends.{conclude, replied, with_access}
+use Rattle.domain_state.specs.Ends.{conclude, replied, with_access}
 use Rattle.request_handling.specs.Fates.{fate, fate_below, fate_unless, goes_to, stopped}
-use Rattle.domain_parts.specs.HostAccesses.{host_emission, is_in_page, mmio_fault, mmio_unless, mmio_with, size_of, tag_for}
+use Rattle.domain_state.specs.HostAccesses.{host_emission, is_in_page, mmio_fault, mmio_unless, mmio_with, size_of, tag_for}
 use Rattle.domain.specs.Machine.{carry, change, deliver, refuse}
 use Rattle.request_handling.specs.Emissions.{Emission}
-use Rattle.domain_parts.specs.State.{Alone, Change, Delivery, emits_nothing, item_at, without}
+use Rattle.domain_state.specs.State.{Alone, Change, Delivery, emits_nothing, item_at, without}
 use Rattle.domain.specs.Submits.{submit_fault, submit_unless}
 use Rattle.domain.specs.Ticks.{sent_by, tick_fault, tick_unless, ticked, ticks}
 use Rattle.request_handling.specs.WellMade.{IsWellMade}

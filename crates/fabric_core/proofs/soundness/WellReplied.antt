@@ -33,7 +33,7 @@ use Rattle.tlp_view.proofs.WellFormed.{packet-kind, view_of}
 use Rattle.fab_types.specs.declared.host_access.Operation.{Operation}
 use Rattle.fab_types.specs.declared.host_access.Operation.TheVariants.{Read, Write}
 use Rattle.request_handling.specs.Answers.{address_of, blank, page_at, reads_nothing, shown}
-use Rattle.domain_parts.specs.HostAccesses.{head_for, host_request, is_in_page, size_of}
+use Rattle.domain_state.specs.HostAccesses.{head_for, host_request, is_in_page, size_of}
 use Rattle.request_handling.specs.WellMade.{IsWellMade}
 use Rattle.fabric_core.specs.Soundness.{IsPage}
 use Rattle.domain.proofs.CompletionsRead.{refusal_well}

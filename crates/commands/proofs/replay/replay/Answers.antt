@@ -1,10 +1,10 @@
 use Rattle.std.proofs.Common.{◌≡◌, ℕ, ap, inl, inr, refl, Err, Result}
 use Rattle.std.specs.Prelude.{string_bytes}
 use Rattle.domain.specs.Domains.{DomainView}
-use Rattle.journals.specs.declared.lines.LineFault.{LineFault}
-use Rattle.journals.specs.declared.lines.LineFault.TheVariants as line_faults
+use Rattle.journal_text.specs.declared.replaying.LineFault.{LineFault}
+use Rattle.journal_text.specs.declared.replaying.LineFault.TheVariants as line_faults
 use Rattle.inputs.specs.declared.fault.Fault.TheVariants as fault
-use Rattle.commands.specs.Refusals.{HasIllegalEntry}
+use Rattle.commands.specs.ReplayRefusals.{HasIllegalEntry}
 use Rattle.commands.proofs.Faults.{line_fault, writer_fault}
 use Rattle.commands.proofs.replay.replay.Goals as goal
 

@@ -1,7 +1,7 @@
 use Rattle.std.proofs.Common.{Option, ◌++◌, ◌∙◌, ap, append-nil, sym}
 use Rattle.std.specs.Option.{option_to_list}
 use Rattle.domain.specs.Domains.{DomainView}
-use Rattle.domains.proofs.Starting.{starting_domains_next, starting_domains_none}
+use Rattle.domains.proofs.DomainsStarting.{starting_domains_next, starting_domains_none}
 use Rattle.domains.proofs.starts.domains_of.Goals as goal
 use Rattle.domains.proofs.starts.domains_of.Goals.{in-Some-2+in_ok-push-in-Some-2, in-None}
 

@@ -2,7 +2,7 @@ use Rattle.std.proofs.Common.{Err, ap, ◌∙◌}
 use Rattle.fab_types.specs.declared.faults.begin.MmioFault.{MmioFault}
 use Rattle.fab_types.specs.declared.faults.begin.MmioFault.TheVariants as mmio
 use Rattle.domains.specs.Domains.{mmio_refusal}
-use Rattle.agents.specs.Agents.{AgentsView}
+use Rattle.domains.specs.Agents.{AgentsView}
 use Rattle.fabric_core.specs.World.{world_over}
 use Rattle.fabric_core.proofs.apart.Legal.{mmio_legal, mmio_memory, some_map, unrefused}
 use Rattle.fabric_core.proofs.begins.mmio.Goals as goal

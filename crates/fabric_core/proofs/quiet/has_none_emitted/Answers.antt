@@ -1,5 +1,5 @@
 use Rattle.std.proofs.Common.{sym, ◌∙◌}
-use Rattle.agents.specs.Agents.{waiting_of}
+use Rattle.domains.specs.Agents.{waiting_of}
 use Rattle.link.proofs.Quiet.{none_waits}
 use Rattle.fabric_core.proofs.quiet.has_none_emitted.Goals as goal
 

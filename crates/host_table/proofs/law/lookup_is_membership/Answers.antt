@@ -1,4 +1,4 @@
-use Rattle.domain_start.specs.Tables.{MapsOnce, fits}
+use Rattle.platform.specs.Tables.{MapsOnce, fits}
 use Rattle.host_table.proofs.Membership.{found_leads, leads_found, one_fits}
 use Rattle.host_table.proofs.law.lookup_is_membership.Goals as goal
 

@@ -1,5 +1,5 @@
 use Rattle.std.proofs.Common.{◌∙◌, List, ℕ, ap, refl, subst}
-use Rattle.layout_draft.specs.DraftViews.{Written}
+use Rattle.text_writers.specs.DraftViews.{Written}
 use Rattle.import.specs.Told.{IsToldOf}
 use Rattle.import.proofs.PartByPart.{tell_end, tell_next, tell_start}
 use Rattle.import.proofs.telling.tell_left_out.Goals as goal

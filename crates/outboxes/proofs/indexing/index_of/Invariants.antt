@@ -1,4 +1,4 @@
-use Rattle.outboxes.specs.Indexes.{IsIndexOf}
+use Rattle.outboxes.specs.BoxIndexes.{IsIndexOf}
 use Rattle.outboxes.proofs.indexing.index_of.Given as goal
 
 abbrev pub invariant-loop-outbox : goal.invariant-loop-outbox

@@ -2,7 +2,7 @@ use Rattle.std.proofs.Common.{◌≡◌, ◌++◌, map, length}
 use Rattle.std.specs.Vec.Iter.{into_iter_items}
 use Rattle.monitor.specs.Reporting.{seat_of}
 use Rattle.port_threads.specs.Left.{reported_by, seat_left}
-use Rattle.workers.specs.Seats.{AreSeated}
+use Rattle.thread_staff.specs.Seats.{AreSeated}
 use Rattle.port_threads.proofs.closing.close_all.Given as goal
 
 abbrev pub invariant-loop-reporter : goal.invariant-loop-reporter

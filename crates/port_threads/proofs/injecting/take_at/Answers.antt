@@ -2,7 +2,7 @@ use Rattle.std.proofs.Common.{◌∙◌, ◌≡◌, List, Bool, true, ap, subst,
 use Rattle.fab_types.specs.Origins.{same_origin}
 use Rattle.fab_types.specs.declared.origin.Origin.{Origin}
 use Rattle.injector.specs.declared.injector.Injector.{Injector}
-use Rattle.workers.specs.Origins.{origins_in}
+use Rattle.thread_staff.specs.Origins.{origins_in}
 use Rattle.port_threads.proofs.Injected.{found_passes, map-remove}
 use Rattle.port_threads.proofs.injecting.take_at.Goals as goal
 

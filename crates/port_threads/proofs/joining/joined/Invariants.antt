@@ -1,7 +1,7 @@
 use Rattle.std.proofs.Common.{◌≡◌, ◌++◌, map, length}
 use Rattle.std.specs.Vec.Iter.{into_iter_items}
-use Rattle.wiring.specs.Wired.{tags_of}
-use Rattle.workers.specs.Kept.{post_kept}
+use Rattle.thread_rings.specs.Wired.{tags_of}
+use Rattle.thread_staff.specs.Kept.{post_kept}
 use Rattle.port_threads.specs.Kept.{kept_of}
 use Rattle.port_threads.proofs.joining.joined.Given as goal
 

@@ -1,6 +1,6 @@
 use Rattle.std.proofs.Common.{◌≡◌, ◌++◌, map}
 use Rattle.std.specs.Vec.Iter.{into_iter_items}
-use Rattle.wiring.specs.Wired.{tags_of}
+use Rattle.thread_rings.specs.Wired.{tags_of}
 use Rattle.thread_tests.proofs.relays.relays_of.Given as goal
 
 abbrev pub invariant-loop-ends : goal.invariant-loop-ends

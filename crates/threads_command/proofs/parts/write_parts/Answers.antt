@@ -3,8 +3,8 @@ use Rattle.port_threads.specs.Left.{frames_of}
 use Rattle.reports.proofs.Writing.{joined, nothing}
 use Rattle.threads_command.specs.Counted.{IsCountedPart}
 use Rattle.threads_command.proofs.CountedParts.{counted_at, parts_next, parts_whole}
-use Rattle.totals.specs.Counts.{totals_of}
-use Rattle.totals.specs.declared.totals.Totals.{Totals}
+use Rattle.thread_totals.specs.Counts.{totals_of}
+use Rattle.thread_totals.specs.declared.totals.Totals.{Totals}
 use Rattle.threads_command.proofs.parts.write_parts.Goals as goal
 
 pub loop-place-init : goal.loop-place-init

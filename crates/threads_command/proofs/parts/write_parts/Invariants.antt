@@ -2,7 +2,7 @@ use Rattle.std.proofs.Common.{take}
 use Rattle.port_threads.specs.Left.{frames_of}
 use Rattle.reports.specs.Writing.{Wrote}
 use Rattle.threads_command.specs.Counted.{AreCountedParts}
-use Rattle.totals.specs.Counts.{totals_of}
+use Rattle.thread_totals.specs.Counts.{totals_of}
 use Rattle.threads_command.proofs.parts.write_parts.Given as goal
 
 -- the domains so far are written

@@ -5,7 +5,7 @@ use Rattle.request_handling.specs.Heads.{descriptor_of}
 use Rattle.domain.specs.Kept.{domain_view}
 use Rattle.domain.specs.Machine.{aliens_in}
 use Rattle.domain.specs.Receptions.{IsReceivable, received}
-use Rattle.domain_parts.specs.State.{Alone}
+use Rattle.domain_state.specs.State.{Alone}
 use Rattle.domain.proofs.Accounting.{accounted, room_held}
 use Rattle.domain.proofs.AlienLemmas.{alien_copied, alien_legal, found, found_fits, makes_alien, room_grows}
 use Rattle.domain.proofs.Keeping.{blocks_fit, replays_more, strays_fit}

@@ -1,6 +1,6 @@
 use Rattle.std.proofs.Common.{◌+◌, ◌*◌, ◌<◌, length, refl, ap, ◌∙◌, Some, arith}
 use Rattle.domain.specs.declared.entry.Entry.TheVariants.{Mmio}
-use Rattle.domain_parts.specs.HostAccesses.{host_emission, host_request}
+use Rattle.domain_state.specs.HostAccesses.{host_emission, host_request}
 use Rattle.domain.specs.Kept.{domain_view}
 use Rattle.domain.specs.Machine.{aliens_in}
 use Rattle.domain.proofs.Keeping.{replays_more, room_stays}

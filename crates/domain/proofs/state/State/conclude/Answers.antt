@@ -1,8 +1,8 @@
 use Rattle.std.proofs.Common.{◌+◌, ◌<◌, ◌^◌, ap, subst, sym, ◌∙◌}
 use Rattle.request_handling.specs.declared.handling.Effect.{Effect}
-use Rattle.domain_parts.specs.declared.counts.Counts.{Counts}
-use Rattle.domain_parts.specs.Ends.{EffectFits, done, replied}
-use Rattle.domain_parts.specs.State.{Alone, without}
+use Rattle.domain_state.specs.declared.counts.Counts.{Counts}
+use Rattle.domain_state.specs.Ends.{EffectFits, done, replied}
+use Rattle.domain_state.specs.State.{Alone, without}
 use Rattle.domain.specs.Domains.{disposed}
 use Rattle.domain.specs.States.{alone_of}
 use Rattle.domain.proofs.ConcludeLemmas.{concludes, fits_after, unblocked, with_flight}

@@ -1,5 +1,5 @@
 use Rattle.std.proofs.Common.{◌≡◌, ap, sym, ◌∙◌, rules}
-use Rattle.domain_parts.specs.State.{Alone, item_at, without}
+use Rattle.domain_state.specs.State.{Alone, item_at, without}
 use Rattle.domain.specs.Deliveries.{arrival_by, arrival_of, arrived}
 use Rattle.domain.specs.States.{alone_of}
 use Rattle.domain.proofs.ConcludeLemmas.{with_flight}

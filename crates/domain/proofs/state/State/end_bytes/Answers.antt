@@ -1,6 +1,6 @@
 use Rattle.std.proofs.Common.{ap, ◌∙◌}
-use Rattle.domain_parts.specs.Ends.{done}
-use Rattle.domain_parts.specs.State.{Alone}
+use Rattle.domain_state.specs.Ends.{done}
+use Rattle.domain_state.specs.State.{Alone}
 use Rattle.domain.specs.States.{alone_of}
 use Rattle.domain.proofs.ConcludeLemmas.{done_replied}
 use Rattle.domain.proofs.state.State.end_bytes.Goals as goal

@@ -1,7 +1,7 @@
 use Rattle.std.proofs.Common.{ap, sym, ◌∙◌}
 use Rattle.request_handling.specs.Emissions.{Emission}
-use Rattle.domain_parts.specs.Ends.{done}
-use Rattle.domain_parts.specs.State.{Alone, item_at}
+use Rattle.domain_state.specs.Ends.{done}
+use Rattle.domain_state.specs.State.{Alone, item_at}
 use Rattle.domain.specs.States.{alone_of}
 use Rattle.domain.proofs.ConcludeLemmas.{one_item}
 use Rattle.domain.proofs.state.State.perform.Goals as goal

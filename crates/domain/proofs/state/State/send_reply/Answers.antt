@@ -2,7 +2,7 @@ use Rattle.std.proofs.Common.{ℕ, Option, ap, ◌∙◌, length, refl}
 use Rattle.std.specs.Prelude.{option_map}
 use Rattle.request_handling.specs.Emissions.{Emission}
 use Rattle.request_handling.specs.Heads.{descriptor_of}
-use Rattle.domain_parts.specs.Ends.{replied}
+use Rattle.domain_state.specs.Ends.{replied}
 use Rattle.domain.specs.States.{alone_of}
 use Rattle.domain.proofs.ConcludeLemmas.{answer_is, if_both}
 use Rattle.domain.proofs.state.State.send_reply.Goals as goal

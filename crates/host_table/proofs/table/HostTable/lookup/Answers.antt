@@ -1,7 +1,7 @@
 use Rattle.std.proofs.Common.{◌∙◌, ap, sym}
 use Rattle.std.proofs.lemmas.Bool.{false≢true}
 use Rattle.platform.specs.declared.parts.Mapping.{Mapping}
-use Rattle.domain_start.specs.Tables.{allows}
+use Rattle.platform.specs.Tables.{allows}
 use Rattle.host_table.proofs.Membership.{allowed_target, no_target, key_of_fit, rights_of_fit, same_line}
 use Rattle.host_table.proofs.table.HostTable.lookup.Goals as goal
 use Rattle.host_table.proofs.table.HostTable.lookup.Goals.{in_default-via-in-Some+else-is_allowed, in_default-via-in_default}

@@ -2,7 +2,7 @@ use Rattle.std.proofs.Common.{◌≡◌, rules, subst, sym}
 use Rattle.std.specs.Prelude.{IfOk, string_bytes}
 use Rattle.std.proofs.lemmas.Result.{IfOk-weaker}
 use Rattle.lspci.specs.Lines.{location_text}
-use Rattle.layout_draft.specs.Comments.{IsPrintable}
+use Rattle.text_writers.specs.Comments.{IsPrintable}
 use Rattle.import.proofs.Printed.{location_printable}
 use Rattle.import.proofs.names.Names.name_of.Goals as goal
 

@@ -1,7 +1,7 @@
 use Rattle.std.proofs.Common.{◌≡◌, List, subst, sym}
 use Rattle.std.proofs.lemmas.List.Kept.{AllPairs-filter}
 use Rattle.platform.specs.declared.parts.Mapping.{Mapping}
-use Rattle.domain_start.specs.Tables.{MapsOnce}
+use Rattle.platform.specs.Tables.{MapsOnce}
 use Rattle.layout.specs.Views.{is_map_of}
 use Rattle.layout.proofs.layout.Layout.start.Goals as goal
 

@@ -1,5 +1,5 @@
 use Rattle.std.proofs.Common.{◌≡◌, ◌++◌, Some, ℕ, List, ap, drop, length, take, subst, sym, ◌∙◌}
-use Rattle.outboxes.specs.Indexes.{AreKept}
+use Rattle.outboxes.specs.BoxIndexes.{AreKept}
 use Rattle.outboxes.specs.Outboxes.{AreFound, BoxView, box_place}
 use Rattle.std.proofs.Math.Seq.{take-append_seam}
 use Rattle.outboxes.proofs.outboxes.Outboxes.more.Goals as goal

@@ -1,5 +1,5 @@
 use Rattle.std.proofs.Common.{List, subst}
-use Rattle.outboxes.specs.Indexes.{IsIndexOf}
+use Rattle.outboxes.specs.BoxIndexes.{IsIndexOf}
 use Rattle.outboxes.specs.Outboxes.{BoxView}
 use Rattle.outboxes.proofs.FullBoxes.{found_start}
 use Rattle.outboxes.proofs.outboxes.Outboxes.new.Goals as goal

@@ -3,7 +3,7 @@ use Rattle.std.specs.List.{position, remove}
 use Rattle.fab_types.specs.Origins.{same_origin}
 use Rattle.injector.specs.declared.injector.Injector.{Injector}
 use Rattle.port_threads.specs.Fabrics.{FabricView}
-use Rattle.workers.specs.Origins.{origin_place, origins_in}
+use Rattle.thread_staff.specs.Origins.{origin_place, origins_in}
 use Rattle.port_threads.proofs.Injected.{placed}
 use Rattle.port_threads.proofs.running.Running.injector.Goals as goal
 

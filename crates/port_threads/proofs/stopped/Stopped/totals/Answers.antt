@@ -2,7 +2,7 @@ use Rattle.std.proofs.Common.{rules}
 use Rattle.std.specs.Prelude.{◌==◌}
 use Rattle.domain.specs.Domains.{DomainView}
 use Rattle.port_threads.specs.Left.{frames_of}
-use Rattle.totals.specs.Counts.{totals_of}
+use Rattle.thread_totals.specs.Counts.{totals_of}
 use Rattle.port_threads.proofs.Found.{found_at}
 use Rattle.port_threads.proofs.stopped.Stopped.totals.Goals as goal
 

@@ -1,5 +1,0 @@
-use Rattle.agents.proofs.Settling.{settled}
-use Rattle.agents.proofs.agents.Agents.domains.Goals as goal
-
-pub returns-clause-settled : goal.returns-clause-settled
-returns-clause-settled c = rw (← c.self.view_is) (settled c.self.inside.domains c.self.inside.outboxes c.self.invariant)

@@ -1,3 +1,0 @@
-pub mod Agents
-pub mod Kept
-pub mod Places

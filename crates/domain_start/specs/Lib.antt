@@ -1,4 +1,0 @@
-pub mod Reach
-pub mod Buses
-pub mod Tables
-pub mod Starts

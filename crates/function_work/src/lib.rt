@@ -1,9 +1,0 @@
-//! What the worker of a function does in its thread.
-#![tactic(auto)]
-
-mod arrive;
-mod function_work;
-mod parts;
-
-pub use function_work::FunctionWork;
-pub use parts::FunctionParts;

@@ -1,4 +1,0 @@
-pub mod Making
-pub mod Replaying
-pub mod Flying
-pub mod Writing

@@ -1,7 +1,0 @@
-use Rattle.std.proofs.Common.{◌≡◌, take}
-use Rattle.journal_text.specs.Journals.{numbers_from}
-use Rattle.journals.proofs.write.in_flight.Given as goal
-
--- the numbers so far that are in flight
-abbrev pub invariant-loop-number : goal.invariant-loop-number
-invariant-loop-number l = numbers_from 0 (take l.number (l.domain).state.flight) ≡ l.numbers.items

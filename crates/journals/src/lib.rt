@@ -1,8 +1,0 @@
-//! A domain's journal, written out as a text and replayed from one.
-#![tactic(auto)]
-
-mod lines;
-mod write;
-
-pub use lines::{LineFault, replay};
-pub use write::write_journal;

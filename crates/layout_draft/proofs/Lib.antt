@@ -1,5 +1,0 @@
-pub mod Grown
-pub mod Added
-pub mod Hex
-pub mod Begins
-pub mod Joined

@@ -1,3 +1,0 @@
-pub mod PlatformLines
-pub mod Texts
-pub mod HasLines

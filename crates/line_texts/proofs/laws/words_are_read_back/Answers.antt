@@ -1,7 +1,0 @@
-use Rattle.std.specs.Prelude.{◌++◌}
-use Rattle.text.proofs.WordLemmas.{word_cut}
-use Rattle.line_texts.specs.Words.{more_words}
-use Rattle.line_texts.proofs.laws.words_are_read_back.Goals as goal
-
-pub returns : goal.returns
-returns c = λ word next more is_word. word_cut word (next ++ more_words more) is_word

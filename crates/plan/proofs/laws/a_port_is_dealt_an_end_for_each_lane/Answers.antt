@@ -1,5 +1,0 @@
-use Rattle.plan.proofs.Dealing.{lanes_in, lanes_out}
-use Rattle.plan.proofs.laws.a_port_is_dealt_an_end_for_each_lane.Goals as goal
-
-pub returns : goal.returns
-returns c = record { outs = lanes_out; ins = lanes_in }

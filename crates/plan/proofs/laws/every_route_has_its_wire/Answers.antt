@@ -1,9 +1,0 @@
-use Rattle.plan.proofs.Laid.{credits_named, links_named, pairs_named}
-use Rattle.plan.proofs.laws.every_route_has_its_wire.Goals as goal
-
-pub returns : goal.returns
-returns c = record {
-  links = links_named;
-  credits = credits_named;
-  pairs = pairs_named;
-}

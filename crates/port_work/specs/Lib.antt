@@ -1,3 +1,0 @@
-pub mod Collecting
-pub mod Losing
-pub mod Works

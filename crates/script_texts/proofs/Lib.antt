@@ -1,4 +1,0 @@
-pub mod CommandsRead
-pub mod ScriptsRead
-pub mod CommandsInRange
-pub mod ScriptsInRange

@@ -1,3 +1,0 @@
-pub mod CommandTexts
-pub mod Ranges
-pub mod ScriptTexts

@@ -1,0 +1,4 @@
+pub mod drafts
+pub mod lines
+pub mod layouts
+pub mod scripts

@@ -1,0 +1,21 @@
+-- How a whole layout is written, apart from how it is read: each platform that keeps the rules has a text that is read as it.
+pub mod Lists
+pub mod After
+pub mod Stripped
+pub mod Prefixes
+pub mod Splits
+pub mod Rules
+pub mod PortsAdded
+pub mod SwitchesAdded
+pub mod TreeAdded
+pub mod FunctionsAdded
+pub mod MapsAdded
+pub mod TablesAdded
+pub mod VectorsAdded
+pub mod WholeAdded
+pub mod Each
+pub mod InRange
+pub mod Cuts
+pub mod OrderKept
+pub mod RowsKept
+pub mod LayoutsKept

@@ -1,0 +1,14 @@
+pub mod StatedLines
+pub mod DraftFields
+pub mod Comments
+pub mod DraftViews
+pub mod Drafts
+pub mod Words
+pub mod LayoutLineTexts
+pub mod LineRanges
+pub mod PlatformLines
+pub mod LayoutTexts
+pub mod HasLines
+pub mod CommandTexts
+pub mod CommandRanges
+pub mod ScriptTexts

@@ -1,0 +1,8 @@
+use Rattle.std.proofs.Common.{take}
+use Rattle.std.specs.List.{flat_map}
+use Rattle.thread_totals.specs.Named.{AreNoted}
+use Rattle.thread_totals.specs.Standing.{in_link}
+use Rattle.thread_totals.proofs.standing.note_links.Given as goal
+
+abbrev pub invariant-loop-ring : goal.invariant-loop-ring
+invariant-loop-ring l = AreNoted l.initial.names.items (flat_map in_link (take l.ring-index l.rings)) l.names.items

@@ -1,0 +1,10 @@
+//! What the worker of a port of a switch does in its thread.
+
+mod collect;
+mod forward;
+mod lose;
+mod parts;
+mod port_work;
+
+pub use parts::PortParts;
+pub use port_work::PortWork;

@@ -1,6 +1,0 @@
-use Rattle.std.proofs.Common.{take}
-use Rattle.totals.specs.Crossing.{AreCrossedOff}
-use Rattle.totals.proofs.crossing.cross_off.Given as goal
-
-abbrev pub invariant-loop-name : goal.invariant-loop-name
-invariant-loop-name l = AreCrossedOff l.domain (take l.name-index l.names) l.initial.flying.items l.flying.items

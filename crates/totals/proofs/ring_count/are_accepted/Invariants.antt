@@ -1,6 +1,0 @@
-use Rattle.std.proofs.Common.{◌≡◌, ◌+◌, take}
-use Rattle.totals.specs.Begins.{accepted_in}
-use Rattle.totals.proofs.ring_count.are_accepted.Given as goal
-
-abbrev pub invariant-loop-ring : goal.invariant-loop-ring
-invariant-loop-ring l = l.left + accepted_in (take l.ring-index l.rings) ≡ l.fn.begins

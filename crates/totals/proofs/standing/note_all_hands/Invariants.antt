@@ -1,8 +1,0 @@
-use Rattle.std.proofs.Common.{take}
-use Rattle.std.specs.List.{flat_map}
-use Rattle.totals.specs.Named.{AreNoted}
-use Rattle.totals.specs.Standing.{in_hands}
-use Rattle.totals.proofs.standing.note_all_hands.Given as goal
-
-abbrev pub invariant-loop-worker : goal.invariant-loop-worker
-invariant-loop-worker l = AreNoted l.initial.names.items (flat_map in_hands (take l.worker-index l.remains)) l.names.items

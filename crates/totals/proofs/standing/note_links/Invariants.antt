@@ -1,8 +1,0 @@
-use Rattle.std.proofs.Common.{take}
-use Rattle.std.specs.List.{flat_map}
-use Rattle.totals.specs.Named.{AreNoted}
-use Rattle.totals.specs.Standing.{in_link}
-use Rattle.totals.proofs.standing.note_links.Given as goal
-
-abbrev pub invariant-loop-ring : goal.invariant-loop-ring
-invariant-loop-ring l = AreNoted l.initial.names.items (flat_map in_link (take l.ring-index l.rings)) l.names.items

@@ -1,7 +1,0 @@
-use Rattle.std.proofs.Common.{◌∙◌, ap}
-use Rattle.totals.specs.Crossing.{all_left}
-use Rattle.totals.proofs.Crossed.{all_wait}
-use Rattle.totals.proofs.totals.waiting.Goals as goal
-
-pub returns : goal.returns
-returns c = c.count_flying.ensures ∙ ap all_left (c.deref.ensures.value ∙ c.in_ok-flying.ensures) ∙ all_wait c.args.domain.now.state.flight

@@ -1,5 +1,0 @@
-use Rattle.waking.proofs.Woken.{wakes_no_other}
-use Rattle.waking.proofs.laws.events_wake_no_other_station.Goals as goal
-
-pub returns : goal.returns
-returns c = wakes_no_other

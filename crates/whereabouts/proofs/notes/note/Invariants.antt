@@ -1,6 +1,0 @@
-use Rattle.std.proofs.Common.{map, take}
-use Rattle.whereabouts.specs.Noted.{Notes}
-use Rattle.whereabouts.proofs.notes.note.Given as goal
-
-abbrev pub invariant-loop-frame : goal.invariant-loop-frame
-invariant-loop-frame l = Notes l.domain l.place (map (λ frame. frame.now) (take l.frame-index l.frames)) l.initial.found.entries l.found.entries
