@@ -20,7 +20,8 @@ use Rattle.topology.specs.declared.nodes.LinkEnd.{LinkEnd}
 use Rattle.interconnect.specs.declared.lost.Lost.{Lost}
 use Rattle.interconnect.specs.Moves.{channel_at, left_at, put_at}
 use Rattle.interconnect.specs.Views.{InterconnectView, IsSameRest, channels, simplex_at}
-use Rattle.received.specs.Receipts.{Carry, Deliver, Nobody, Receipt, Relay}
+use Rattle.received.specs.declared.receipt.Receipt.{Receipt}
+use Rattle.received.specs.declared.receipt.Receipt.TheVariants.{Carry, Deliver, Nobody, Relay}
 use Rattle.fabric_core.specs.Passing.{answered_at}
 
 -- the entry that its home's machine has of a packet at the host, if it has one, and what that makes

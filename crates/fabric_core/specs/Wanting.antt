@@ -13,7 +13,9 @@ use Rattle.interconnect.specs.Passes.{index_of, no_place}
 use Rattle.fabric_core.specs.declared.event.Event.{Event}
 use Rattle.fabric_core.specs.declared.event.Event.TheVariants.{Submit, Tick, Mmio, Enter, Pass, Send, Take, Credit, Root, Arrive}
 use Rattle.fabric_core.specs.Receipts.{Taken, receipt_at, taken, taken_at, to_function, to_host}
-use Rattle.received.specs.Receipts.{Carry, Deliver, Nobody, Receipt, Relay, receipt_at_host}
+use Rattle.received.specs.declared.receipt.Receipt.{Receipt}
+use Rattle.received.specs.declared.receipt.Receipt.TheVariants.{Carry, Deliver, Nobody, Relay}
+use Rattle.received.specs.Receipts.{receipt_at_host}
 use Rattle.switch_output.specs.Vetted.{may_go_on}
 use Rattle.fabric_core.specs.Passing.{Site, site_at}
 use Rattle.fabric_core.specs.Settling.{EntryWants, entry_by_function, entry_by_host}

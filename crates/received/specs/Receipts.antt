@@ -8,8 +8,8 @@ use Rattle.fab_types.specs.declared.head.Parties.TheVariants.{Upward, Downward, 
 use Rattle.frame_log.specs.Descriptor.{Descriptor}
 use Rattle.platform.specs.declared.parts.DownstreamPort.{DownstreamPort}
 use Rattle.platform.specs.Egress.{goes_directly}
-pub use Rattle.received.specs.declared.receipt.Receipt.{Receipt}
-pub use Rattle.received.specs.declared.receipt.Receipt.TheVariants.{Relay, Carry, Deliver, Nobody}
+use Rattle.received.specs.declared.receipt.Receipt.{Receipt}
+use Rattle.received.specs.declared.receipt.Receipt.TheVariants.{Relay, Carry, Deliver, Nobody}
 
 -- a function's request goes to the host, and the host's requests to functions
 abbrev pub request_at_host : Parties → Receipt

@@ -31,7 +31,9 @@ use Rattle.fabric_core.specs.Events.{effect, entered_at, link_of}
 use Rattle.fabric_core.specs.Losing.{Losing, is_at_port_of, losing, losing_by, losing_to, losing_with, lost, passed_unless, without_lost}
 use Rattle.fabric_core.specs.Passing.{Site, answer_waits, answered_at, is_full_at, output_end, passed, passed_by, passed_number, refused_by, site_at, strayed}
 use Rattle.fabric_core.specs.Receipts.{Taken, agents_by_host, arrived, arrived_by, ended, from_host, receipt_at, relayed, rooted, rooted_by, taken, taken_at, to_function, to_host}
-use Rattle.received.specs.Receipts.{Carry, Deliver, Nobody, Receipt, Relay, receipt_at_host}
+use Rattle.received.specs.declared.receipt.Receipt.{Receipt}
+use Rattle.received.specs.declared.receipt.Receipt.TheVariants.{Carry, Deliver, Nobody, Relay}
+use Rattle.received.specs.Receipts.{receipt_at_host}
 use Rattle.fabric_core.specs.World.{World, with_agents, with_both, with_channels}
 use Rattle.fabric_core.proofs.bounded.Directions.{on_channel_bounded, put_bounded, some_is, taken_bounded}
 use Rattle.fabric_core.proofs.bounded.Steps.{deliver_bounded, send_bounded, update_bounded}

@@ -27,7 +27,9 @@ use Rattle.interconnect.specs.Views.{InterconnectView, IsSameRest, channels, sim
 use Rattle.fabric_core.specs.declared.event.Event.{Event}
 use Rattle.fabric_core.specs.declared.event.Event.TheVariants.{Arrive, Root}
 use Rattle.fabric_core.specs.Receipts.{Taken, arrived, arrived_by, agents_by_function, agents_by_host, ended, receipt_in, rooted, rooted_by, taken_at, taken_from, to_function, to_host}
-use Rattle.received.specs.Receipts.{Carry, Deliver, Nobody, Receipt, Relay, is_relayed, receipt_at_host, receipt_by_host, request_at_host}
+use Rattle.received.specs.declared.receipt.Receipt.{Receipt}
+use Rattle.received.specs.declared.receipt.Receipt.TheVariants.{Carry, Deliver, Nobody, Relay}
+use Rattle.received.specs.Receipts.{is_relayed, receipt_at_host, receipt_by_host, request_at_host}
 use Rattle.fabric_core.specs.Events.{StepsTo, effect}
 use Rattle.fabric_core.specs.Settling.{EntryWants, IsBack, Settles, Strays, Takes, entry_by_function, entry_by_host}
 use Rattle.fabric_core.specs.Wanting.{ArriveWants, OfTaken, RootWants, RootWantsBy, WantsMemory}

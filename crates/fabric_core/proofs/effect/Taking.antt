@@ -7,7 +7,8 @@ use Rattle.domains.specs.Domains.{Made}
 use Rattle.platform.specs.declared.parts.DownstreamPort.{DownstreamPort}
 use Rattle.fabric_core.specs.Aliens.{or_else}
 use Rattle.fabric_core.specs.Receipts.{agents_by_function, agents_by_host, own_by_function, own_by_host}
-use Rattle.received.specs.Receipts.{Carry, Deliver, Nobody, Receipt, Relay}
+use Rattle.received.specs.declared.receipt.Receipt.{Receipt}
+use Rattle.received.specs.declared.receipt.Receipt.TheVariants.{Carry, Deliver, Nobody, Relay}
 use Rattle.fabric_core.specs.Settling.{EntryWants, entry_by_function, entry_by_host}
 
 -- no entry of its home, and none of another

@@ -23,7 +23,9 @@ use Rattle.fabric_core.specs.Aliens.{alien_at_function, alien_at_host, or_else}
 use Rattle.domains.specs.Aliens.{owner_of_frame}
 use Rattle.received.specs.Receivers.{receiver_at_host}
 use Rattle.fabric_core.specs.Receipts.{Taken, arrive, arrived, arrived_by, agents_by_host, ended, receipt_at, from_host, relayed, root, rooted, rooted_by, taken, to_function, to_host}
-use Rattle.received.specs.Receipts.{Carry, Deliver, Nobody, Receipt, Relay, receipt_at_host}
+use Rattle.received.specs.declared.receipt.Receipt.{Receipt}
+use Rattle.received.specs.declared.receipt.Receipt.TheVariants.{Carry, Deliver, Nobody, Relay}
+use Rattle.received.specs.Receipts.{receipt_at_host}
 use Rattle.fabric_core.specs.Invariant.{IsConsistent}
 use Rattle.fabric_core.specs.Places.{frames_of, waiting_in}
 use Rattle.fabric_core.specs.World.{World, with_both, with_channels, with_stray}

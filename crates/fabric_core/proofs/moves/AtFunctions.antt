@@ -33,7 +33,9 @@ use Rattle.fabric_core.specs.Events.{link_of}
 use Rattle.fabric_core.specs.Invariant.{IsConsistent}
 use Rattle.fabric_core.specs.MovesLeft.{is_request, moves_left, moves_of}
 use Rattle.fabric_core.specs.Receipts.{Taken, arrive, arrived, arrived_by, ended, receipt_at, taken, taken_at}
-use Rattle.received.specs.Receipts.{Carry, Deliver, Nobody, Receipt, Relay, receipt_by_function}
+use Rattle.received.specs.declared.receipt.Receipt.{Receipt}
+use Rattle.received.specs.declared.receipt.Receipt.TheVariants.{Carry, Deliver, Nobody, Relay}
+use Rattle.received.specs.Receipts.{receipt_by_function}
 use Rattle.fabric_core.specs.World.{World}
 use Rattle.fabric_core.proofs.invariant.Settling.{share_at}
 use Rattle.fabric_core.proofs.moves.Ahead.{IsLaid, quiet_few, request_more}

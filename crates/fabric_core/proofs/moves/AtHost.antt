@@ -23,7 +23,9 @@ use Rattle.received.specs.Receivers.{receiver_at_host}
 use Rattle.fabric_core.specs.Invariant.{IsConsistent}
 use Rattle.fabric_core.specs.MovesLeft.{is_request, moves_left, moves_of}
 use Rattle.fabric_core.specs.Receipts.{Taken, agents_by_host, ended, from_host, relayed, root, rooted, rooted_by, taken, taken_at, to_host}
-use Rattle.received.specs.Receipts.{Carry, Deliver, Nobody, Receipt, Relay, completion_at_host, receipt_at_host, receipt_by_host}
+use Rattle.received.specs.declared.receipt.Receipt.{Receipt}
+use Rattle.received.specs.declared.receipt.Receipt.TheVariants.{Carry, Deliver, Nobody, Relay}
+use Rattle.received.specs.Receipts.{completion_at_host, receipt_at_host, receipt_by_host}
 use Rattle.fabric_core.specs.World.{World, with_channels}
 use Rattle.fabric_core.proofs.invariant.Renewing.{sender_there}
 use Rattle.fabric_core.proofs.moves.Ahead.{IsLaid, down_few, request_up}

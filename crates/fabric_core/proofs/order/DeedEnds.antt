@@ -24,7 +24,8 @@ use Rattle.guarded_routes.specs.Sound.{IsMeantFor, is_reply}
 use Rattle.guarded_routes.proofs.Hosts.{AtHost, at_host, delivers}
 use Rattle.guarded_routes.proofs.Taking.{reply_at, request_at}
 use Rattle.fabric_core.specs.Receipts.{Taken, arrive, arrived, arrived_by, agents_by_host, ended, receipt_at, from_host, own_by_function, own_by_host, relayed, root, rooted, rooted_by, taken, to_function, to_host}
-use Rattle.received.specs.Receipts.{Receipt, receipt_by_function, receipt_by_host, request_at_host}
+use Rattle.received.specs.declared.receipt.Receipt.{Receipt}
+use Rattle.received.specs.Receipts.{receipt_by_function, receipt_by_host, request_at_host}
 use Rattle.fabric_core.specs.Invariant.{IsConsistent}
 use Rattle.fabric_core.specs.Soundness.{IsGuardedFabric}
 use Rattle.fabric_core.specs.Trails.{standing_in}

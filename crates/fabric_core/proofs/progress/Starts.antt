@@ -40,7 +40,9 @@ use Rattle.fabric_core.specs.Events.{StepsTo, effect, entered_at, link_of}
 use Rattle.fabric_core.specs.Losing.{Losing, is_at_port_of, losing, losing_by, losing_to, losing_with, passed_unless, without_lost}
 use Rattle.fabric_core.specs.Passing.{Site, answer_waits, answered_at, is_full_at, kept_by, output_end, passed, passed_by, passed_number, refused_by, site_at, strayed}
 use Rattle.fabric_core.specs.Receipts.{Taken, agents_by_function, agents_by_host, arrived, ended, from_host, own_by_function, own_by_host, receipt_at, relayed, rooted, rooted_by, taken, taken_at, taken_from}
-use Rattle.received.specs.Receipts.{Carry, Deliver, Nobody, Receipt, Relay, receipt_at_host}
+use Rattle.received.specs.declared.receipt.Receipt.{Receipt}
+use Rattle.received.specs.declared.receipt.Receipt.TheVariants.{Carry, Deliver, Nobody, Relay}
+use Rattle.received.specs.Receipts.{receipt_at_host}
 use Rattle.fabric_core.specs.Soundness.{config_of}
 use Rattle.fabric_core.specs.World.{World, with_agents, with_both, with_channels}
 use Rattle.fabric_core.proofs.soundness.SoundLinks.{Either, either_channel}

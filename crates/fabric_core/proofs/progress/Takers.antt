@@ -28,7 +28,9 @@ use Rattle.fabric_core.specs.Events.{entered_at, link_of}
 use Rattle.fabric_core.specs.Losing.{Losing, losing, lost, passed_unless}
 use Rattle.fabric_core.specs.Passing.{Site, answer_waits, output_end, passed, passed_at, passed_by, passed_number, port_number, refused_by, strayed, turned}
 use Rattle.fabric_core.specs.Receipts.{Taken, arrived, from_host, relayed, rooted, rooted_by, taken_at, taken_from, to_function, to_host}
-use Rattle.received.specs.Receipts.{Carry, Deliver, Nobody, Receipt, Relay, receipt_at_host}
+use Rattle.received.specs.declared.receipt.Receipt.{Receipt}
+use Rattle.received.specs.declared.receipt.Receipt.TheVariants.{Carry, Deliver, Nobody, Relay}
+use Rattle.received.specs.Receipts.{receipt_at_host}
 use Rattle.fabric_core.specs.Still.{IsStill}
 use Rattle.fabric_core.specs.World.{World, with_channels}
 use Rattle.fabric_core.proofs.progress.Classes.{MayPass, none_of, not_full}

@@ -43,7 +43,9 @@ use Rattle.fabric_core.specs.declared.event.Event.TheVariants.{Submit, Tick, Mmi
 use Rattle.fabric_core.specs.Aliens.{alien_at_function, alien_at_host, or_else}
 use Rattle.received.specs.Receivers.{receiver_at_host}
 use Rattle.fabric_core.specs.Receipts.{Taken, arrived, arrived_by, agents_by_function, agents_by_host, ended, receipt_at, from_host, own_by_function, own_by_host, relayed, rooted, rooted_by, taken, taken_at, to_function, to_host}
-use Rattle.received.specs.Receipts.{Carry, Deliver, Nobody, Receipt, Relay, receipt_at_host}
+use Rattle.received.specs.declared.receipt.Receipt.{Receipt}
+use Rattle.received.specs.declared.receipt.Receipt.TheVariants.{Carry, Deliver, Nobody, Relay}
+use Rattle.received.specs.Receipts.{receipt_at_host}
 use Rattle.fabric_core.specs.Events.{StepsTo, effect, entered_at, link_of}
 use Rattle.fabric_core.specs.Losing.{Losing, is_at_port_of, losing, losing_by, losing_to, losing_with, passed_unless, without_lost}
 use Rattle.fabric_core.specs.Passing.{Site, answer_waits, passed, passed_by, passed_number, refused_by, site_at}

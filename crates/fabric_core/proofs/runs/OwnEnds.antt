@@ -16,7 +16,9 @@ use Rattle.topology.specs.Links.{sender_of}
 use Rattle.topology.specs.declared.nodes.LinkEnd.{LinkEnd}
 use Rattle.interconnect.specs.Moves.{channel_at, put_at}
 use Rattle.fabric_core.specs.Receipts.{Taken, arrive, arrived, arrived_by, ended, receipt_at, agents_by_host, from_host, own_by_function, own_by_host, relayed, root, rooted, rooted_by, taken, to_function, to_host}
-use Rattle.received.specs.Receipts.{Carry, Deliver, Nobody, Receipt, Relay, receipt_at_host, receipt_by_function}
+use Rattle.received.specs.declared.receipt.Receipt.{Receipt}
+use Rattle.received.specs.declared.receipt.Receipt.TheVariants.{Carry, Deliver, Nobody, Relay}
+use Rattle.received.specs.Receipts.{receipt_at_host, receipt_by_function}
 use Rattle.fabric_core.specs.Isolation.{home_of_taken, is_number}
 use Rattle.fabric_core.specs.Soundness.{IsGuardedFabric}
 use Rattle.fabric_core.specs.World.{World, with_channels}

@@ -21,7 +21,7 @@ use Rattle.domains.specs.Domains.{made_at, made_by, made_of, place_of, place_of_
 use Rattle.fabric_core.specs.Aliens.{alien_at_function, alien_at_host, or_else, to_function, to_host}
 use Rattle.received.specs.Receivers.{receiver_at_host}
 use Rattle.fabric_core.specs.Receipts.{Taken, agents_by_function, agents_by_host, own_by_function, own_by_host, taken_at}
-use Rattle.received.specs.Receipts.{Receipt}
+use Rattle.received.specs.declared.receipt.Receipt.{Receipt}
 use Rattle.fabric_core.specs.Losing.{Losing, is_at_port_of, losing, losing_by, losing_to, losing_with, pass, passed_unless}
 use Rattle.fabric_core.specs.Passing.{turned}
 use Rattle.fabric_core.specs.Invariant.{IsConsistent}

@@ -28,7 +28,8 @@ use Rattle.guarded_routes.proofs.Reaching.{own_of}
 use Rattle.guarded_routes.proofs.Replies.{carried_up}
 use Rattle.guarded_routes.proofs.Taking.{accesses, home_at, meant_at, reply_at, request_at}
 use Rattle.fabric_core.specs.Receipts.{Taken, arrive, arrived, arrived_by, ended, receipt_at, own_by_function, taken, to_function}
-use Rattle.received.specs.Receipts.{Receipt, memory_at_function, receipt_by_function}
+use Rattle.received.specs.declared.receipt.Receipt.{Receipt}
+use Rattle.received.specs.Receipts.{memory_at_function, receipt_by_function}
 use Rattle.fabric_core.specs.Invariant.{IsConsistent}
 use Rattle.fabric_core.specs.Soundness.{IsGuardedFabric}
 use Rattle.fabric_core.specs.World.{World}

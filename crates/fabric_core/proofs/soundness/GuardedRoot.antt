@@ -19,7 +19,8 @@ use Rattle.guarded_routes.specs.Sound.{IsSound, is_reply}
 use Rattle.guarded_routes.proofs.Hosts.{AtHost, at_host}
 use Rattle.guarded_routes.proofs.Replies.{carried_down}
 use Rattle.fabric_core.specs.Receipts.{Taken, agents_by_host, ended, from_host, own_by_host, relayed, root, rooted, rooted_by, taken, to_host}
-use Rattle.received.specs.Receipts.{Receipt, receipt_by_host, request_at_host}
+use Rattle.received.specs.declared.receipt.Receipt.{Receipt}
+use Rattle.received.specs.Receipts.{receipt_by_host, request_at_host}
 use Rattle.fabric_core.specs.Invariant.{IsConsistent}
 use Rattle.fabric_core.specs.Soundness.{IsGuardedFabric}
 use Rattle.fabric_core.specs.World.{World, with_channels}
