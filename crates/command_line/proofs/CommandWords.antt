@@ -1,15 +1,11 @@
 -- What was read of a command line, and the words that it was read of.
-use Rattle.std.proofs.Common.{◌≡◌, true, List, Option, Some, None, refl, sym, ap, ap₂, subst, ◌∙◌, [], ⊎_elim}
-use Rattle.std.specs.Prelude.{Box}
-use Rattle.std.specs.Option.{option_map, option_and_then}
-use Rattle.std.specs.Box.{box_value}
-use Rattle.clap.specs.Words.{App, HasKind, HasMatchesOf, Kinds, Row, Text, fault_of, first_of, first_value, is_simple, is_simple_and_free, kind_of, rows_of, subcommand_name_of, subcommand_of, subcommand_rows, subcommand_rows_of}
+use Rattle.std.proofs.Common.{◌≡◌, true, List, Option, Some, None, refl, ap, subst, ◌∙◌, [], ⊎_elim}
+use Rattle.std.specs.Option.{option_and_then}
+use Rattle.clap.specs.Words.{App, HasKind, HasMatchesOf, Kinds, Text, fault_of, first_of, first_value, is_simple, is_simple_and_free, kind_of, rows_of, subcommand_of}
 use Rattle.clap.specs.declared.error.Error.{Error}
 use Rattle.clap.specs.declared.error.kind.ErrorKind.TheVariants as kind
 use Rattle.clap.proofs.OnLiterals.{clap_on_literals}
 use Rattle.clap.specs.declared.parser.matches.ArgMatches.{ArgMatches}
-use Rattle.clap.specs.declared.parser.matches.ArgMatches.TheViews.{out-ArgMatches, out-SubCommand}
-use Rattle.clap.specs.declared.parser.matches.SubCommand.{SubCommand}
 use Rattle.clap.specs.declared.parser.matches.Found.{Found}
 use Rattle.clap.proofs.WalkLemmas.{first_value-rows}
 use Rattle.command_line.specs.CommandLine.{Asked, asked_in, asked_of, commands, errors_of, journal_commands, run_commands}
@@ -17,23 +13,6 @@ use Rattle.command_line.specs.CommandLine.{Asked, asked_in, asked_of, commands, 
 -- the first value of this name is the first word of its row
 pub first_word : (found : Found) (name : Text) → first_value found name ≡ first_of name (rows_of found)
 first_word found name = first_value-rows found name
-
-pair_of : (p : Option (Text × List Row)) (n : Text) (r : List Row) → Some n ≡ option_map (λ (q : Text × List Row). q.0) p → Some r ≡ option_map (λ (q : Text × List Row). q.1) p → p ≡ Some (n, r)
-pair_of None n r e f = cc
-pair_of (Some q) n r e f =
-    let name : n ≡ q.0 = cc in
-    let rows : r ≡ q.1 = cc in
-    ap Some (ap₂ (λ (a : Text) (b : List Row). (a, b)) (sym name) (sym rows))
-
-name_of : {Z : Type 0} (s : Option (Box SubCommand Z)) → option_map (λ b. (out-SubCommand (box_value b)).name.now) s ≡ option_map (λ (q : Text × List Row). q.0) (subcommand_rows s)
-name_of None = refl
-name_of (Some b) = refl
-
--- what was read asks for what the name and the words of the subcommand ask for that was entered
-pub asked_by_words : (m : ArgMatches) (entered : Text) (found : Found) → Some entered ≡ subcommand_name_of m → Some (rows_of found) ≡ option_map (λ (q : Text × List Row). q.1) (subcommand_rows_of m)
-    → asked_in m ≡ asked_of (entered, rows_of found)
-asked_by_words m entered found e f =
-    ap (option_and_then asked_of) (pair_of (subcommand_rows_of m) entered (rows_of found) (e ∙ name_of (out-ArgMatches m).subcommand) f)
 
 is_simple_commands : is_simple commands ≡ true
 unfolding clap_on_literals commands journal_commands run_commands

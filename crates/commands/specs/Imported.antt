@@ -1,5 +1,5 @@
 -- What the command `import` prints.
-use Rattle.std.specs.Prelude.{◌≡◌, ℕ, ◌<◌, ◌==◌, Bool, ◌||◌, List, [], length, Ok, Option, Some, None, if◌then◌else◌}
+use Rattle.std.specs.Prelude.{◌≡◌, ℕ, ◌==◌, Bool, ◌||◌, List, [], length, Ok, Option, Some, None, if◌then◌else◌}
 use Rattle.layout.specs.Reading.{reading}
 use Rattle.lspci.specs.declared.lines.Location.{Location}
 use Rattle.lspci.specs.Dumps.{DumpText}
@@ -17,10 +17,6 @@ use Rattle.inputs.specs.declared.fault.ExitStatus.TheVariants as status
 abbrev pub AreOwners : (List ℕ → List ℕ → Type 0) → Option (List ℕ) → List Owner → Type 0
 AreOwners holds None owners = owners ≡ []
 AreOwners holds (Some name) owners = (text : List ℕ) × holds name text × (lists.reading text ≡ Ok owners)
-
--- an endpoint has no place in the layout
-abbrev pub IsPartial : Layout → Type 0
-IsPartial made = 0 < endpoints_out made.left_out
 
 -- how the program ends: by itself where no endpoint is missing, or where that is meant so
 abbrev pub status_after : Bool → Layout → ExitStatus

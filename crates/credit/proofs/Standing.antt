@@ -1,7 +1,7 @@
 -- What the counters of a sender say of the totals that they stand for.
 use Rattle.std.proofs.Common.{◌≡◌, ℕ, ◌+◌, ◌-◌, ◌/◌, ◌%◌, ◌<◌, ◌≤◌, ◌↔◌, Bool, IsTrue, refl, sym, ap, ◌∙◌, subst, arith}
 use Rattle.std.proofs.Common.{zero, suc, inl, inr, true, false, ◌&&◌}
-use Rattle.std.proofs.Math.Nat.{mod-add-mod, mod-eq_of_lt}
+use Rattle.std.proofs.Math.Nat.{mod-add-mod}
 use Rattle.std.proofs.lemmas.Bool.{cases_lt}
 use Rattle.credit.specs.Counter.{distance}
 use Rattle.credit.specs.Kinds.{Class, Cost, Kind, size_of, amount_of, cost_of}
@@ -138,13 +138,6 @@ start-in_range limits may k =
     let zero_is = at-zero k in
     record { counter = omega arith; left = omega arith; start = start }
 
-pub start-stands : (limits : Counters) → MayStart limits → StandsFor (λ _. 0) (at limits) (record { credits_consumed = zero_counters; credit_limit = limits; start = limits })
-start-stands limits may = record {
-  sent_counted = λ k. at-zero k ∙ sym (mod-eq_of_lt (size_positive k));
-  limit_counted = λ k. let start = may k in let halves = half k in let small : at limits k < size_of k = omega arith in sym (mod-eq_of_lt small);
-  in_range = λ k. (omega arith, omega arith);
-}
-
 pub update-in_range : (s : Ledger) (limits : Counters) → IsInRange s → IsUpdate s limits → IsInRange (record s { credit_limit = limits })
 update-in_range s limits range update k = record { counter = (range k).counter; left = (update k).1; start = (range k).start }
 
@@ -163,14 +156,6 @@ told-update sent limit told s limits range stands counts grows k =
     ap (λ m. distance (size_of k) m (at limits k)) (stands.sent_counted k)
     ∙ (ap (λ m. distance (size_of k) (sent k % size_of k) m) (counts k) ∙ distance-totals (size_of k) (sent k) (told k) low high) in
     (omega arith, omega arith)
-
-pub told-stands : (sent limit told : Kind → ℕ) (s : Ledger) (limits : Counters) → StandsFor sent limit s → Count told limits
-    → ((k : Kind) → (limit k ≤ told k) × (told k ≤ sent k + at s.start k)) → StandsFor sent told (record s { credit_limit = limits })
-told-stands sent limit told s limits stands counts grows = record {
-  sent_counted = stands.sent_counted;
-  limit_counted = counts;
-  in_range = λ k. let between = stands.in_range k in let further = grows k in (omega arith, further.1);
-}
 
 -- new limits of one class
 abbrev pub IsUpdateOf : Ledger → Counters → Class → Type 0

@@ -3,7 +3,7 @@ use Rattle.std.proofs.Common.{◌≡◌, ℕ, zero, suc, ◌+◌, ◌*◌, ◌<�
 use Rattle.std.proofs.Common.{cond, ◌/◌, ◌&&◌, ◌==◌, not}
 use Rattle.std.specs.Prelude.{option_map, nat_le, nat_lt}
 use Rattle.std.specs.Option.{is_none}
-use Rattle.std.proofs.lemmas.Bool.{leb-false, ltb-false}
+use Rattle.std.proofs.lemmas.Bool.{leb-false}
 use Rattle.fab_types.specs.declared.faults.begin.SubmitFault.{SubmitFault}
 use Rattle.fab_types.specs.declared.faults.begin.SubmitFault.TheVariants.{TooLong, TagBusy, BudgetSpent, NoFunction}
 use Rattle.fab_types.specs.declared.faults.begin.SubmitFault.TheVariants as submit
@@ -155,13 +155,6 @@ submit_budget share s f b e =
     let p4 = passed (opens_tag b && is_open s.open_tags (Function f) (packet_of b).tag) TagBusy _ p3.1 in
     let p5 = passed (nat_le share.budget s.counts.begins) BudgetSpent None p4.1 in
     leb-false share.budget s.counts.begins p5.0
-
--- and no longer than 272 bytes
-pub submit_short : (share : Share) (s : Alone) (f : ℕ) (b : List ℕ) → submit_fault share s f b ≡ None → length b ≤ 272
-submit_short share s f b e =
-    let p1 = passed (not (is_own_function share f)) NoFunction _ e in
-    let p2 = passed (nat_lt 272 (length b)) TooLong _ p1.1 in
-    ltb-false 272 (length b) p2.0
 
 -- a state that a packet left: what the packet owed is spare
 record Spare (share : Share) (t : Alone) (entries aliens spare : ℕ) : Type 0 where

@@ -1,7 +1,6 @@
 -- What an alien packet does is what the machine says of its entry.
-use Rattle.std.proofs.Common.{◌≡◌, ℕ, ◌+◌, ◌*◌, ◌≤◌, ◌==◌, Bool, true, false, cond, ◌||◌, List, [], ◌∷◌, ◌++◌, length, Option, Some, None, refl, sym, ap, ◌∙◌, subst, inl, inr, arith}
-use Rattle.std.specs.Prelude.{◌/◌, nat_lt, is_some, option_map}
-use Rattle.std.proofs.lemmas.Bool.{ltb-true}
+use Rattle.std.proofs.Common.{◌≡◌, ℕ, ◌+◌, ◌*◌, ◌==◌, Bool, true, false, cond, ◌||◌, List, [], ◌∷◌, ◌++◌, length, Option, Some, None, refl, sym, ap, ◌∙◌, subst, inl, inr, arith}
+use Rattle.std.specs.Prelude.{◌/◌, nat_lt, option_map}
 use Rattle.fab_types.specs.Id.{host_of}
 use Rattle.fab_types.specs.declared.faults.malformed.Malformed.{Malformed}
 use Rattle.fab_types.specs.declared.head.AddressType.{AddressType}
@@ -51,7 +50,7 @@ use Rattle.domain.specs.Machine.{aliens_from, aliens_in, change, replay, replay_
 use Rattle.domain.specs.Receptions.{IsReceivable, received}
 use Rattle.domain_state.specs.State.{Alone, Change, start_state}
 use Rattle.domain_state.specs.Tags.{is_open}
-use Rattle.request_handling.specs.Takers.{taker_of, takes}
+use Rattle.request_handling.specs.Takers.{taker_of}
 use Rattle.domain.proofs.Accounting.{aliens_more, goes_on}
 use Rattle.domain.proofs.EndLemmas.{serve_fits}
 use Rattle.domain.proofs.FunctionFits.{Fits, at_function_fits, both-first, either_fits, or_fits, unserved_fits}
@@ -187,32 +186,6 @@ makes_alien v w new place sender b r domain sent same is share journal state of 
     makes_seen v w new (Alien place sender b) sent same
     (makes_end v new (Alien place sender b) (received v.state b r).emission sent share journal (alien_legal v.share v.state new.state place sender b r is state)
     (is_sent ∙ ap (λ (d : ℕ). option_map (descriptor_of d (length v.state.flight)) (received v.state b r).emission) of))
-
--- where nothing is found the entry is illegal
-pub alien_illegal : (v : DomainView) (place : Place) (sender : Parties) (b : List ℕ) (o : Option Reception) → o ≡ None → o ≡ reception_of v.share v.state place sender b
-    → change v.share v.state (Alien place sender b) ≡ None
-alien_illegal v place sender b o none is = ap (received_if v.state b) (sym is ∙ none)
-
--- which it is not for a place of the domain in a layout that isn't guarded
-taken_there : (share : Share) (s : Alone) (b : List ℕ) (sender : Parties) (taker : Option Taker) (excluded : Bool) → excluded ≡ false → is_some taker ≡ true
-    → received_if s b (cond excluded None (reception_by share s b sender taker)) ≡ None → ⊥
-taken_there share s b sender taker true none there e = cc
-taken_there share s b sender None false none there e = cc
-taken_there share s b sender (Some taker) false none there e = cc
-
-in_range : (n : ℕ) (test : Bool) → nat_lt 272 n ≡ test → n ≤ 272 → test ≡ false
-in_range n true e le = absurd (let lt = ltb-true 272 n e in omega (arith, lt, le))
-in_range n false e le = refl
-
-neither : (a b : Bool) → a ≡ false → b ≡ false → (a || b) ≡ false
-neither true b e f = absurd cc
-neither false b e f = f
-
-pub alien_is_legal : (v : DomainView) (place : Place) (sender : Parties) (b : List ℕ) → is_guarded v.share ≡ false → takes v.share place ≡ true → length b ≤ 272
-    → change v.share v.state (Alien place sender b) ≡ None → ⊥
-alien_is_legal v place sender b clear there short e =
-    taken_there v.share v.state b sender (taker_of v.share place) (is_excluded v.share b)
-    (neither (is_guarded v.share) (nat_lt 272 (length b)) clear (in_range (length b) (nat_lt 272 (length b)) refl short)) there e
 
 -- ---- in a guarded layout there is none
 

@@ -1,11 +1,9 @@
 -- A packet that is answered and ends, and Tags that are closed.
 use Rattle.std.proofs.Common.{◌≡◌, ℕ, ◌+◌, ◌≤◌, Bool, true, false, cond, ◌||◌, ◌&&◌, not, ◌==◌, List, [], ◌∷◌, ◌++◌, length, Option, Some, None, refl, sym, ap, ◌∙◌, arith, length-append}
 use Rattle.std.specs.Prelude.{filter, Result, IfOk, Ok, Err}
-use Rattle.std.specs.List.{list_any, position}
+use Rattle.std.specs.List.{list_any}
 use Rattle.std.specs.Option.{IsSome}
 use Rattle.fab_types.specs.declared.origin.Origin.{Origin}
-use Rattle.fab_types.specs.declared.origin.Origin.TheVariants.{Function, Host}
-use Rattle.fab_types.specs.declared.status.Status.{Status}
 use Rattle.tlp_view.specs.Bytes.{packet_of}
 use Rattle.tlp_view.specs.Runs.{runs}
 use Rattle.domain_state.proofs.FlightLemmas.{clear_push, item_push}
@@ -16,12 +14,7 @@ use Rattle.request_handling.specs.declared.disposition.Disposition.{Disposition}
 use Rattle.request_handling.specs.Dispositions.{reply_of}
 use Rattle.domain.specs.Domains.{disposed}
 use Rattle.function.specs.declared.tags.OpenTag.{OpenTag}
-use Rattle.function.specs.declared.tags.TagUse.{TagUse}
-use Rattle.function.specs.declared.tags.TagUse.TheVariants.{Raw}
 use Rattle.function.specs.Tags.{closed}
-use Rattle.domain_state.specs.Closings.{completed}
-use Rattle.domain_state.specs.RegisterPages.{changed_at}
-use Rattle.std.proofs.lemmas.List.{set-get_or}
 use Rattle.domain_state.specs.Ends.{EffectFits, blocked, done, replied, with_access, with_added, with_stored}
 use Rattle.request_handling.specs.Emissions.{Emission}
 use Rattle.domain_state.specs.State.{Alone, Delivery, item_at, without}
@@ -47,17 +40,6 @@ answer_is share inside seen n x e d memory pages reply same there is frames regi
     ∙ ap (λ (r : List (ℕ × List ℕ)). reply_of share inside.frames r (packet_of x.bytes) d) registers
     ∙ ap (λ (s : Alone). reply_of share s.frames s.registers (packet_of x.bytes) d) same
     ∙ ap (λ (y : Emission). reply_of share seen.frames seen.registers (packet_of y.bytes) d) (one_item (item_at seen.flight n) x e (ap (λ (s : Alone). item_at s.flight n) (sym same) ∙ there) is)
-
--- ---- what the closing of a Tag leaves of the register pages
-
-changed_at_same : (pages : List (ℕ × List ℕ)) (o : Option ℕ) → changed_at pages (λ page. page) o ≡ pages
-changed_at_same pages None = refl
-changed_at_same pages (Some i) = set-get_or pages i (0, [])
-
--- all, where no read line opened it
-pub raw_completed : (pages : List (ℕ × List ℕ)) (usage : TagUse) (owner : Origin) (status : Status) (payload : List ℕ) → usage ≡ Raw → completed pages usage owner status payload ≡ pages
-raw_completed pages usage (Function f) status payload e = ap (λ (u : TagUse). completed pages u (Function f) status payload) e ∙ changed_at_same pages (position (λ page. page.0 == f) pages)
-raw_completed pages usage (Host d) status payload e = refl
 
 -- ---- the reply is put into flight before the packet leaves it
 

@@ -1,5 +1,5 @@
 -- How a packet in flight ends is what the machine says of its entry.
-use Rattle.std.proofs.Common.{◌≡◌, ℕ, ◌/◌, Bool, true, false, ◌&&◌, ◌||◌, ◌==◌, cond, List, Option, Some, None, refl, sym, ap, ◌∙◌, subst, inl}
+use Rattle.std.proofs.Common.{◌≡◌, ℕ, ◌/◌, Bool, true, false, cond, List, Option, Some, None, refl, sym, ap, ◌∙◌, subst, inl}
 use Rattle.std.specs.Prelude.{IfSome, MatchOption, nat_lt, option_map}
 use Rattle.fab_types.specs.declared.faults.malformed.Malformed.{Malformed}
 use Rattle.fab_types.specs.declared.head.Parties.{Parties}
@@ -37,13 +37,11 @@ use Rattle.request_handling.specs.Emissions.{Emission}
 use Rattle.request_handling.proofs.Discarding.{answer_discarded}
 use Rattle.domain_state.specs.State.{Alone, Delivery, emits_nothing, item_at, without}
 use Rattle.domain.specs.declared.deliver.Arriving.{Arriving}
-use Rattle.domain_state.specs.Tags.{is_open}
-use Rattle.fab_types.specs.Origins.{origin_id}
 use Rattle.fab_types.specs.declared.head.Answerer.{Answerer}
 use Rattle.fab_types.specs.declared.origin.Origin.{Origin}
 use Rattle.fab_types.specs.declared.status.Status.{Status}
 use Rattle.function.specs.declared.tags.OpenTag.{OpenTag}
-use Rattle.domain.specs.Deliveries.{Arrival, HasArrived, arrival, arrival_at, arrival_by, arrival_for, arrival_of, arrived, is_port, recorded, unexpected}
+use Rattle.domain.specs.Deliveries.{Arrival, HasArrived, arrival, arrival_at, arrival_by, arrival_for, arrival_of, arrived, recorded, unexpected}
 
 abbrev some : {A : Type 0} → A → Option A
 some x = Some x
@@ -175,18 +173,6 @@ carried_ends v n d h =
       own = λ _. refl;
     }
 
--- ---- where it doesn't end so, the entry is illegal
-
-none_ended : (s : Alone) (n : ℕ) (o : Option Emission) (r : Option Handling) → r ≡ None → ended s n o r ≡ None
-none_ended s n None r is = refl
-none_ended s n (Some e) r is = ap (ended s n (Some e)) is
-
-pub not_refused_here : (v : DomainView) (n : ℕ) → refusal_end v.share (item_at v.state.flight n) ≡ None → change v.share v.state (Refuse n) ≡ None
-not_refused_here v n none = none_ended v.state n (item_at v.state.flight n) (refusal_end v.share (item_at v.state.flight n)) none
-
-pub not_carried : (v : DomainView) (n : ℕ) → carriage_end v.share v.state.frames v.state.registers (item_at v.state.flight n) ≡ None → change v.share v.state (Carry n) ≡ None
-not_carried v n none = none_ended v.state n (item_at v.state.flight n) (carriage_end v.share v.state.frames v.state.registers (item_at v.state.flight n)) none
-
 -- ---- a completion that is delivered
 
 pub delivered_so : (share : Share) (s t : Alone) (n : ℕ) (is_recorded : Bool) → HasArrived s n t is_recorded → change share s (Deliver n) ≡ Some (record { state = t; emission = None })
@@ -208,27 +194,6 @@ without_either false s d n = refl
 
 pub without_arrived : (s : Alone) (a : Arrival) (n : ℕ) → without (arrived s a) n ≡ arrived (without s n) a
 without_arrived s a n = without_either a.is_awaited s a.delivery n
-
--- what is awaited has its Tag open
-awaited_first : (a b : Bool) → (a && b) ≡ true → a ≡ true
-awaited_first true b e = refl
-awaited_first false b e = absurd cc
-
-open_at : (tags : List OpenTag) (t : Packet) (by : Answerer) (owner : Origin) (bytes : List ℕ) (status : Option Status) (a : Arriving) → option_map (arrival_at tags t bytes by owner) status ≡ Some (arrival_by a bytes) → a.is_awaited ≡ true
-    → is_open tags a.owner a.tag ≡ true
-open_at tags t by owner bytes None a e awaited = absurd cc
-open_at tags t by owner bytes (Some status) a e awaited =
-    let is : arrival_at tags t bytes by owner status ≡ arrival_by a bytes = arrival_is _ _ e in
-    let owner_is : owner ≡ a.owner = ap (λ (x : Arrival). x.delivery.owner) is in
-    let tag_is : t.tag ≡ a.tag = ap (λ (x : Arrival). x.delivery.tag) is in
-    let first : is_open tags owner t.tag ≡ true = awaited_first (is_open tags owner t.tag) (is_port by || (t.requester == origin_id owner)) (ap (λ (x : Arrival). x.is_awaited) is ∙ awaited) in
-    sym (ap (λ (o : Origin). is_open tags o t.tag) owner_is ∙ ap (is_open tags a.owner) tag_is) ∙ first
-
-pub open_of : (tags : List OpenTag) (bytes : List ℕ) (p : Parties) (a : Arriving) → some (arrival_by a bytes) ≡ arrival_of tags bytes p → a.is_awaited ≡ true → is_open tags a.owner a.tag ≡ true
-open_of tags bytes (Upward f) a e awaited = absurd cc
-open_of tags bytes (Downward f) a e awaited = absurd cc
-open_of tags bytes (Answer by None) a e awaited = absurd cc
-open_of tags bytes (Answer by (Some owner)) a e awaited = open_at tags (packet_of bytes) by owner bytes (status_in (packet_of bytes).body) a (sym e) awaited
 
 -- ---- what is done about a packet in flight
 

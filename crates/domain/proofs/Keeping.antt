@@ -84,12 +84,6 @@ room_stays entries budget js js' x grown own is = is ∙ ap (λ (k : ℕ). 4 * b
 pub ends_seen : (v w : DomainView) (e : Entry) (n : ℕ) (d : Disposition) → v ≡ w → EndsBy w e n d → EndsBy v e n d
 ends_seen v w e n d same h = subst (λ (u : DomainView). EndsBy u e n d) (sym same) h
 
-abbrev some : {A : Type 0} → A → Option A
-some x = Some x
-
-some_is : {A : Type 0} (x y : A) → some x ≡ some y → x ≡ y
-some_is x y e = cc
-
 -- the change that an end makes, by the state that it leaves
 pub ended_so : (v : DomainView) (e : Entry) (n : ℕ) (d : Disposition) (t : Alone) (h : EndsBy v e n d) → ((x : Emission) → item_at v.state.flight n ≡ Some x → t ≡ (conclude v.state n x.bytes (disposed v.share v.state x d)).state)
     → change v.share v.state e ≡ Some (record { state = t; emission = (disposed v.share v.state h.emission d).reply })

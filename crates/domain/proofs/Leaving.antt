@@ -1,8 +1,7 @@
 -- What an end leaves in flight: all but the packet that ends, and the answer to it, if any.
-use Rattle.std.proofs.Common.{◌≡◌, ◌≢◌, ℕ, Bool, true, false, cond, List, [], ◌∷◌, ◌++◌, Option, Some, None, refl, sym, ap, ◌∙◌, subst, slice_set}
+use Rattle.std.proofs.Common.{◌≡◌, ℕ, Bool, true, false, cond, List, [], ◌∷◌, ◌++◌, Option, Some, None, refl, sym, ap, ◌∙◌, subst, slice_set}
 use Rattle.std.specs.Prelude.{option_map}
 use Rattle.fab_types.specs.declared.head.Parties.{Parties}
-use Rattle.fab_types.specs.declared.head.Parties.TheVariants.{Upward}
 use Rattle.fab_types.specs.declared.place.Place.{Place}
 use Rattle.platform.specs.Share.{Share}
 use Rattle.request_handling.specs.declared.handling.Effect.{Effect}
@@ -67,13 +66,6 @@ delivered_flight s n (Some a) c h = ap (λ (x : Change). x.state.flight) (sym (s
 
 pub deliver_flight : (share : Share) (s : Alone) (n : ℕ) (c : Change) → change share s (Deliver n) ≡ Some c → c.state.flight ≡ slice_set s.flight n None
 deliver_flight share s n c h = delivered_flight s n (arrival s.open_tags (item_at s.flight n)) c h
-
--- what a function sent is not delivered
-pub upward_stays : (share : Share) (s : Alone) (n : ℕ) (c : Change) (f : ℕ) (b : List ℕ) → change share s (Deliver n) ≡ Some c → item_at s.flight n ≢ Some (record { parties = Upward f; bytes = b })
-upward_stays share s n c f b h = λ is.
-    let none : arrival s.open_tags (item_at s.flight n) ≡ None = ap (arrival s.open_tags) is in
-    let made : option_map (λ (a : Arrival). emits_nothing (arrived (without s n) a)) None ≡ Some c = ap (option_map (λ (a : Arrival). emits_nothing (arrived (without s n) a))) (sym none) ∙ h in
-    absurd cc
 
 -- ---- an alien packet, whose number stays in flight at its home
 

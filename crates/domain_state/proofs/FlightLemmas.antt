@@ -8,7 +8,7 @@ use Rattle.frame_log.specs.declared.log.Log.{Log}
 use Rattle.frame_log.specs.Words.{Shown, entry_of}
 use Rattle.request_handling.specs.WellMade.{IsWellMade}
 use Rattle.tlp_view.specs.Malformed.{malformed}
-use Rattle.std.proofs.lemmas.List.{append-nil, length-map, map-set, replicate-append-replicate}
+use Rattle.std.proofs.lemmas.List.{append-nil, map-set, replicate-append-replicate}
 use Rattle.domain_state.specs.declared.flight.InFlight.{InFlight}
 use Rattle.request_handling.specs.Emissions.{Emission}
 use Rattle.domain_state.specs.State.{item_at}
@@ -71,10 +71,6 @@ set-behind zero n es = ap (λ (k : ℕ). slice_set es k None) (omega arith)
 set-behind (suc gone) n es =
     let e : suc gone + n ≡ suc (gone + n) = omega arith in
     ap (λ (k : ℕ). slice_set (None ∷ replicate gone None ++ es) k None) e ∙ ap (λ (zs : List (Option Emission)). None ∷ zs) (set-behind gone n es)
-
-pub length-flight : (gone : ℕ) (xs : List (Option InFlight)) → length (flight_over gone xs) ≡ gone + length xs
-length-flight zero xs = length-map xs (option_map emission) ∙ omega arith
-length-flight (suc gone) xs = ap suc (length-flight gone xs) ∙ omega arith
 
 -- where no slot holds a packet, all of their numbers need none
 pub restarted : (gone : ℕ) (xs : List (Option InFlight)) → held_in xs ≡ 0 → flight_over (gone + length xs) [] ≡ flight_over gone xs

@@ -4,7 +4,6 @@ use Rattle.std.specs.Prelude.{if◌then◌else◌}
 use Rattle.fab_types.specs.Controls.{controls_egress}
 use Rattle.fab_types.specs.Id.{bus_of}
 use Rattle.fab_types.specs.declared.controls.AcsControl.{AcsControl}
-use Rattle.fab_types.specs.declared.controls.Control.{Control}
 use Rattle.platform.specs.declared.parts.DownstreamPort.{DownstreamPort}
 use Rattle.platform.specs.declared.parts.EndpointFunction.{EndpointFunction}
 use Rattle.platform.specs.declared.parts.Switch.{Switch}
@@ -16,7 +15,7 @@ use Rattle.drawing.specs.Elements.{AreInside, Markup, Nothing}
 use Rattle.drawing.specs.Figures.{function_figure, function_inside, host_figure, host_inside, switch_figure, switch_inside}
 use Rattle.drawing.specs.Legend.{clear_shape, controls_shapes, domain_shape, domain_shapes, egress_shapes, legend_figure, legend_inside, named_shape, owner_shape}
 use Rattle.drawing.specs.Placing.{IsInTree, cell_on, columns_before, deepest_row, domains_before, height_of, legend_point, owns, point_in, port_cell, switch_width, width_of}
-use Rattle.drawing.specs.Ports.{box_of_port, controls_shape, letter_shape, letters_shape, line_of_link, link_figure, link_inside, port_figure, port_inside, span_shape, texts_of_port, vector_shape}
+use Rattle.drawing.specs.Ports.{box_of_port, controls_shape, letters_shape, line_of_link, link_figure, link_inside, port_figure, port_inside, span_shape, texts_of_port, vector_shape}
 use Rattle.drawing.specs.Shapes.{box_shape, label_shape, line_shape}
 use Rattle.drawing.specs.declared.attribute.Area.{Area}
 use Rattle.drawing.specs.declared.attribute.Colour.{Colour}
@@ -60,10 +59,6 @@ cell_label_lies w h cell right down label has r d =
     label_lies w h (point_in cell right down) label (omega (arith, has.right)) (omega (arith, has.down))
 
 -- ---- a port
-
-letter_lies : (w h : ℕ) (controls : AcsControl) (control : Control) → AreInside w h (letter_shape controls control)
-unfolding span_shape
-letter_lies w h controls control = ((tt, tt), tt)
 
 letters_lie : (w h : ℕ) (controls : AcsControl) → AreInside w h (letters_shape controls)
 unfolding letters_shape span_shape

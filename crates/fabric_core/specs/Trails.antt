@@ -14,10 +14,6 @@ use Rattle.fabric_core.specs.World.{World}
 abbrev pub standing_at : World → Place → List Descriptor
 standing_at w place = standing_in w.tree.links w.channels w.agents.outboxes place
 
--- the packets at places that follow each other
-abbrev pub trail : World → List Place → List Descriptor
-trail w places = flat_map (standing_at w) places
-
 -- ---- the places of a way
 
 -- of the links from a function's own on, up

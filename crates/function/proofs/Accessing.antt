@@ -1,9 +1,7 @@
 -- What is known of a request that reaches a register page.
-use Rattle.std.proofs.Common.{◌≡◌, ℕ, ◌+◌, ◌*◌, ◌%◌, ◌≤◌, cond, length, Option, Some, None, IfSome, ap, ◌∙◌, arith}
+use Rattle.std.proofs.Common.{ℕ, ◌+◌, ◌*◌, ◌%◌, ◌≤◌, length, Option, Some, None, IfSome, arith}
 use Rattle.std.specs.Prelude.{unwrap_or}
-use Rattle.tlp_view.specs.declared.kind.Kind.TheVariants.{MWr}
 use Rattle.tlp_view.specs.Packet.{Packet, dw_count, address_in}
-use Rattle.tlp_view.specs.Kinds.{has_data}
 use Rattle.tlp_view.specs.View.{IsSound}
 use Rattle.function.specs.Accesses.{place_of}
 
@@ -14,10 +12,3 @@ place_within (Some a) n within small = within
 -- a read of at most 64 DW stays in the page
 pub read_inside : (t : Packet) → IsSound t → dw_count t.length ≤ 64 → place_of t + 4 * dw_count t.length ≤ 4096
 read_inside t sound short = place_within (address_in t.body) (4 * dw_count t.length) sound.within (omega (arith, short))
-
--- a write too
-pub write_inside : (t : Packet) → IsSound t → t.kind ≡ MWr → place_of t + length t.payload ≤ 4096
-write_inside t sound is =
-    let long : length t.payload ≡ 4 * dw_count t.length = sound.sized ∙ ap (λ k. cond (has_data k) (4 * dw_count t.length) 0) is in
-    let inside = place_within (address_in t.body) (4 * dw_count t.length) sound.within (omega (arith, long, sound.small)) in
-    omega (arith, long, inside)

@@ -30,7 +30,6 @@ use Rattle.acs.specs.declared.vetting.Verdict.TheVariants as verdict
 use Rattle.acs.specs.Vetting.{is_translated, verdict_of}
 use Rattle.acs.specs.Redirection.{goes_up, redirected, request_goes_up}
 use Rattle.port.specs.declared.config.Exit.{Exit}
-use Rattle.port.specs.declared.course.Forwarding.{Forwarding}
 use Rattle.port.specs.declared.course.Forwarding.TheVariants.{To, Stop}
 use Rattle.port.specs.Configs.{downstream_config, exit_of, exits_of, lane_to, leads_to}
 use Rattle.port.specs.Courses.{course_of, routed, stopped, tested}
@@ -110,9 +109,6 @@ plain_of line requester address address_type set e =
     }
 
 -- ---- courses
-
-abbrev course_at_port : Platform → DownstreamPort → Head → Forwarding
-course_at_port platform line head = course_of (of_platform platform) (downstream_config platform line) head
 
 -- what passes the tests and is routed up goes up
 pub course_up : (platform : Platform) (line : DownstreamPort) (head : Head) (h : Header) (x : Target) → head.header ≡ h → verdict_of line h ≡ verdict.Pass → target_of h ≡ Some x → redirected line (route_of platform.switches platform.ports line.id h) h ≡ Ok to.Up

@@ -1,5 +1,5 @@
 -- An index with one line more, and what it finds.
-use Rattle.std.proofs.Common.{◌≡◌, ℕ, List, [], ◌∷◌, ◌++◌, get_or, set, sym, ◌∙◌, ap, subst, Result, Ok, Err, OnOk, inl, inr, arith}
+use Rattle.std.proofs.Common.{◌≡◌, ℕ, List, [], ◌∷◌, ◌++◌, get_or, set, sym, ◌∙◌, ap, subst, Result, Ok, Err, OnOk, inl, inr}
 use Rattle.std.specs.Prelude.{Any}
 use Rattle.std.specs.List.{insert}
 use Rattle.std.proofs.lemmas.List.Elements.{All-contains, All-push, All-weaker}
@@ -21,13 +21,6 @@ Knows index line = Any (λ entry. entry.requester ≡ line.requester) index
 
 abbrev FitsIn : List Mapping → RequesterGroups → Type 0
 FitsIn maps entry = AreGroups maps entry.requester entry.groups.items
-
-pub index_of_none : IsIndex [] []
-index_of_none = record {
-  rising = λ i j d less within. absurd (omega arith);
-  groups = λ k d within. absurd (omega arith);
-  whole = λ k d within. absurd (omega arith);
-}
 
 module _ (maps : List Mapping) (index : List RequesterGroups) (is : IsIndex maps index) (requester place : ℕ) where
   -- a requester that is not there has no groups

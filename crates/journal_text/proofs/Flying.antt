@@ -1,12 +1,11 @@
 -- The numbers that are in flight, one after another.
-use Rattle.std.proofs.Common.{◌≡◌, Bor, ℕ, zero, suc, ◌+◌, ◌<◌, ◌≤◌, List, [], ◌∷◌, ◌++◌, length, take, Option, Some, None, refl, sym, ap, ◌∙◌, arith, add-one}
+use Rattle.std.proofs.Common.{◌≡◌, Bor, ℕ, zero, suc, ◌+◌, ◌<◌, List, [], ◌∷◌, ◌++◌, length, take, Option, Some, None, refl, ap, ◌∙◌, arith, add-one}
 use Rattle.std.specs.Prelude.{is_some, option_map, true, false}
 use Rattle.std.specs.Option.{option_copied}
 use Rattle.std.proofs.lemmas.List.{append-nil}
 use Rattle.domain_state.specs.State.{item_at}
 use Rattle.request_handling.specs.Emissions.{Emission}
 use Rattle.journal_text.specs.Journals.{numbers_from}
-use Rattle.fab_types.proofs.Taking.{take_all}
 
 abbrev Flight : Type 0
 Flight = List (Option Emission)
@@ -62,6 +61,3 @@ lent_is_some None None e = refl
 lent_is_some None (Some x) e = absurd cc
 lent_is_some (Some b) None e = absurd cc
 lent_is_some (Some b) (Some x) e = refl
-
-pub all_numbers : (n : ℕ) (flight : Flight) (ns : List ℕ) → length flight ≤ n → numbers_from 0 (take n flight) ≡ ns → ns ≡ numbers_from 0 flight
-all_numbers n flight ns le before = sym before ∙ ap (numbers_from 0) (take_all flight n le)

@@ -35,9 +35,6 @@ same_domain ports one frame domain (mapped.Peer peer) maps other own = absurd cc
 abbrev is_other : List DownstreamPort → ℕ → ℕ → Mapping → Bool
 is_other ports domain frame line = is_mapping_of frame line.target && not (domain_of ports line.requester == domain)
 
-clash : (a b : Bool) → a ≡ true → a ≡ false → false ≡ true
-clash a b e f = sym f ∙ e
-
 not_other : (ports : List DownstreamPort) (one line : Mapping) (frame domain : ℕ) (m e rest : Bool) → m ≡ is_mapping_of frame line.target → e ≡ (domain_of ports line.requester == domain) → is_mapping_of frame one.target ≡ true
     → domain_of ports one.requester ≡ domain → share_no_frame ports one line ≡ true → rest ≡ false → (m && not e) || rest ≡ false
 not_other ports one line frame domain false e rest m i first of own later = later

@@ -378,10 +378,6 @@ keeps-egress p egress h none = record {
   vectors = vectors-given p egress h.vectors (none-first _ _ _ (none-rest _ _ _ none));
 }
 
--- the same of whatever lists came out
-pub kept : (p q : Platform) → p ≡ q → IsPlatform q → IsPlatform p
-kept p q e h = rw e h
-
 -- and if memory for the line was refused, nothing changed
 pub kept-either : {X : Type 0} (holds : Platform → Type 0) (b : Bool) (old new items : List X) (f : List X → Platform) → items ≡ cond b new old → holds (f old) → holds (f new) → holds (f items)
 kept-either holds true old new items f e was is = rw e is

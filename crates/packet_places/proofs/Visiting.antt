@@ -50,14 +50,7 @@ module _ (domain : ℕ) where
       ap (λ (b : Bool). (not (frame.domain == domain) || b) && list_all (found frames) of) (list_any-IsPermutation (is_numbered domain frame.number) frames waiting p)
       ∙ ap (λ (b : Bool). found waiting frame && b) (same_found frames waiting p of)
 
-or_false : (a : Bool) → (a || false) ≡ a
-or_false true = refl
-or_false false = refl
-
 module _ (standing : Place → List Descriptor) (domain : ℕ) (all : List Place) where
-  pub noted_start : AreNoted standing domain all (take 0 all) []
-  noted_start = record { below = refl; there = λ other. refl; named = λ n. refl }
-
   always_below : (place : ℕ) (frames : List Descriptor) → place < length all → list_all (λ frame. not (frame.domain == domain) || nat_lt place (length all)) frames ≡ true
   always_below place [] less = refl
   always_below place (frame ∷ frames) less = both _ _ (ap (λ (b : Bool). not (frame.domain == domain) || b) (lt-ltb place (length all) less) ∙ or_true (not (frame.domain == domain))) (always_below place frames less)

@@ -27,16 +27,6 @@ module _ {X : Type 0} (l : PerClass (List X)) (n : PerClass ℕ) (c : Class) (x 
   pub firsts-other : (d : Class) → same_class d c ≡ false → firsts_of l n d ≡ firsts_of (with_class l c xs) (with_class n c k) d
   firsts-other d other = sym (other_same take d other)
 
-  others-own : others_of (with_class l c xs) (with_class n c k) c ≡ others_of l n c
-  others-own = own drop ∙ sym (ap (drop (at_class n c)) is ∙ ap (λ j. drop j (x ∷ xs)) count)
-
-  others_by : (d : Class) (b : Bool) → same_class d c ≡ b → others_of (with_class l c xs) (with_class n c k) d ≡ others_of l n d
-  others_by d true same = let P : Class → Type 0 = λ e. others_of (with_class l c xs) (with_class n c k) e ≡ others_of l n e in subst P (same_class-true d c same) others-own
-  others_by d false other = other_same drop d other
-
-  pub others-same : (d : Class) → others_of (with_class l c xs) (with_class n c k) d ≡ others_of l n d
-  others-same d = others_by d (same_class d c) refl
-
   within_by : ((d : Class) → at_class n d ≤ length (at_class l d)) → (d : Class) (b : Bool) → same_class d c ≡ b → at_class (with_class n c k) d ≤ length (at_class (with_class l c xs) d)
   within_by h d true same =
       let P : Class → Type 0 = λ e. at_class (with_class n c k) e ≤ length (at_class (with_class l c xs) e) in

@@ -13,10 +13,6 @@ module _ {A : Type 0} where
   each-push P [] x h p = (p, tt)
   each-push P (y ∷ ys) x h p = (h.0, each-push P ys x h.1 p)
 
-  pub each-append : (P : A → Type 0) (xs ys : List A) → Each P xs → Each P ys → Each P (xs ++ ys)
-  each-append P [] ys h k = k
-  each-append P (x ∷ xs) ys h k = (h.0, each-append P xs ys h.1 k)
-
   pub each_all : (P : A → Type 0) → ((x : A) → P x) → (xs : List A) → Each P xs
   each_all P f [] = tt
   each_all P f (x ∷ xs) = (f x, each_all P f xs)

@@ -1,12 +1,11 @@
 -- Flags that are set and cleared: who is awake.
-use Rattle.std.proofs.Common.{◌≡◌, ◌⊎◌, inl, inr, ℕ, zero, suc, ◌+◌, ◌<◌, ◌≤◌, Bool, true, false, cond, List, [], ◌∷◌, ◌++◌, length, map, set, take, replicate, Some, refl, sym, ap, ◌∙◌, subst, arith}
-use Rattle.std.specs.Prelude.{Contains, ◌||◌, not, slice_get, slice_index_or}
+use Rattle.std.proofs.Common.{◌≡◌, ◌⊎◌, inl, inr, ℕ, zero, suc, ◌≤◌, Bool, true, false, List, [], ◌∷◌, length, map, set, take, replicate, Some, refl, sym, ap, ◌∙◌, subst, arith}
+use Rattle.std.specs.Prelude.{◌||◌, not, slice_get}
 use Rattle.std.proofs.lemmas.Bool.{false≢true}
 use Rattle.std.proofs.lemmas.List.{get_or-replicate, length-map, length-replicate, length-set}
-use Rattle.std.proofs.lemmas.List.Elements.{Contains-append_cases}
 use Rattle.std.proofs.lemmas.Option.{get_or_from_slice_get, same_Some, slice_get_within}
-use Rattle.topology.proofs.Members.{cases_contained, nothing_contained}
-use Rattle.fab_types.proofs.Taking.{take_all, take_next}
+use Rattle.topology.proofs.Members.{nothing_contained}
+use Rattle.fab_types.proofs.Taking.{take_all}
 use Rattle.sweeps.specs.declared.moves.Moves.{Moves}
 use Rattle.sweeps.specs.declared.stop.Stop.{Stop}
 use Rattle.sweeps.specs.Asleep.{AreWoken, IsSettledAt, IsUnblocked, IsUnwoken, Nowhere, has_moved}
@@ -29,50 +28,8 @@ module _ (IsSpared : ℕ → Type 0) where
   pub woken_start : (moved : Bool) (old : List Bool) → AreWoken IsSpared moved [] old old
   woken_start moved old = record { all = refl; still = λ place is. (is, λ m within. absurd (nothing_contained place within)) }
 
-  -- one place more, which is woken or spared
-  module _ (places : List ℕ) (p : ℕ) (old mid : List Bool) (woken : AreWoken IsSpared true places old mid) where
-    spared : (q : ℕ) → slice_get mid q ≡ Some false → (p ≡ q → IsSpared q) → Contains places q ⊎ Contains (p ∷ []) q → IsSpared q
-    spared q was last (inl within) = (woken.still q was).1 refl within
-    spared q was last (inr own) = here (cases_contained p q [] own)
-      where
-        here : (p ≡ q) ⊎ Contains [] q → IsSpared q
-        here (inl same) = last same
-        here (inr within) = absurd (nothing_contained q within)
-
-    pub woken_more : AreWoken IsSpared true (places ++ p ∷ []) old (set mid p true)
-    woken_more = record { all = length-set mid p true ∙ woken.all; still = λ q is. by q (placed mid p q true false is) }
-      where
-        by : (q : ℕ) → ((q ≡ p) × (true ≡ false)) ⊎ ((q ≡ p → ⊥) × (slice_get mid q ≡ Some false)) → (slice_get old q ≡ Some false) × (true ≡ true → Contains (places ++ p ∷ []) q → IsSpared q)
-        by q (inl own) = absurd (false≢true (sym own.1))
-        by q (inr was) = ((woken.still q was.1).0, λ m within. spared q was.1 (λ same. absurd (was.0 (sym same))) (Contains-append_cases places (p ∷ []) q within))
-
-    pub spared_more : IsSpared p → AreWoken IsSpared true (places ++ p ∷ []) old mid
-    spared_more is = record {
-      all = woken.all;
-      still = λ q was. ((woken.still q was).0, λ m within. spared q was (λ same. subst IsSpared same is) (Contains-append_cases places (p ∷ []) q within));
-    }
-
-  pub woken_next : (places : List ℕ) (i p : ℕ) (old mid : List Bool) → i < length places → p ≡ slice_index_or places i p → AreWoken IsSpared true (take i places) old mid → AreWoken IsSpared true (take (i + 1) places) old (set mid p true)
-  woken_next places i p old mid less is woken = subst (λ (ps : List ℕ). AreWoken IsSpared true ps old (set mid p true)) (sym (take_next places i p less is)) (woken_more (take i places) p old mid woken)
-
   pub woken_whole : (places : List ℕ) (i : ℕ) (old new : List Bool) → length places ≤ i → AreWoken IsSpared true (take i places) old new → AreWoken IsSpared true places old new
   woken_whole places i old new most woken = subst (λ (ps : List ℕ). AreWoken IsSpared true ps old new) (take_all places i most) woken
-
-  pub none_woken : (moved : Bool) (places : List ℕ) (old : List Bool) → moved ≡ false → AreWoken IsSpared moved places old old
-  none_woken moved places old none = record { all = refl; still = λ place is. (is, λ m within. absurd (false≢true (sym none ∙ m))) }
-
-  pub if_woken : (moved : Bool) (places : List ℕ) (old new : List Bool) → moved ≡ true → AreWoken IsSpared true places old new → AreWoken IsSpared moved places old new
-  if_woken moved places old new some woken = subst (λ (b : Bool). AreWoken IsSpared b places old new) (sym some) woken
-
--- of a row of places those that are blocked
-pub blocked_next : (blocked : List Bool) (places : List ℕ) (i p : ℕ) (old mid new : List Bool) (is_blocked : Bool) → i < length places → p ≡ slice_index_or places i p → slice_get blocked p ≡ Some is_blocked → new ≡ cond is_blocked (set mid p true) mid
-    → AreWoken (IsUnblocked blocked) true (take i places) old mid → AreWoken (IsUnblocked blocked) true (take (i + 1) places) old new
-blocked_next blocked places i p old mid new is_blocked less is marked made woken =
-    subst (λ (ps : List ℕ). AreWoken (IsUnblocked blocked) true ps old new) (sym (take_next places i p less is)) (subst (AreWoken (IsUnblocked blocked) true (take i places ++ p ∷ []) old) (sym made) (by is_blocked marked))
-  where
-    by : (b : Bool) → slice_get blocked p ≡ Some b → AreWoken (IsUnblocked blocked) true (take i places ++ p ∷ []) old (cond b (set mid p true) mid)
-    by true at = woken_more (IsUnblocked blocked) (take i places) p old mid woken
-    by false at = spared_more (IsUnblocked blocked) (take i places) p old mid woken at
 
 -- ---- settled
 

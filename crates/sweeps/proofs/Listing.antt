@@ -1,13 +1,10 @@
 -- The places of the stations that may be woken, and the stops of a sweep.
-use Rattle.std.proofs.Common.{◌≡◌, ◌⊎◌, inl, inr, ℕ, zero, suc, ◌+◌, ◌<◌, ◌≤◌, Bool, true, false, cond, List, [], ◌∷◌, ◌++◌, length, map, get_or, take, Option, Some, None, refl, sym, ap, ◌∙◌, subst, arith}
+use Rattle.std.proofs.Common.{◌≡◌, ◌⊎◌, inl, inr, ℕ, zero, suc, ◌+◌, ◌<◌, ◌≤◌, Bool, true, List, [], ◌∷◌, ◌++◌, length, map, get_or, take, Option, Some, None, refl, sym, ap, ◌∙◌, subst, arith}
 use Rattle.std.specs.Prelude.{All, Contains, IfSome, slice_get, slice_index_or, option_map}
 use Rattle.std.specs.List.{position}
-use Rattle.std.proofs.lemmas.Bool.{false≢true}
 use Rattle.std.proofs.lemmas.List.Quantifiers.{position-Some}
 use Rattle.std.proofs.lemmas.List.{length-map}
-use Rattle.std.proofs.lemmas.List.Elements.{All-append, All-cons, All-nil, Contains-append_left, Contains-append_right}
-use Rattle.std.proofs.lemmas.Option.{same_Some, slice_get-get_or, slice_get-map, slice_get_read, slice_get_within}
-use Rattle.topology.proofs.Members.{here}
+use Rattle.std.proofs.lemmas.Option.{same_Some, slice_get-get_or, slice_get-map, slice_get_read}
 use Rattle.fab_types.proofs.Taking.{take_all, take_next}
 use Rattle.topology.specs.Topologies.{Tree}
 use Rattle.fabric_core.specs.declared.station.Station.{Station}
@@ -15,7 +12,7 @@ use Rattle.sweeps.specs.Waking.{changes_outbox}
 use Rattle.sweeps.specs.declared.site.How.{How}
 use Rattle.sweeps.specs.declared.site.Site.{Site}
 use Rattle.sweeps.specs.declared.stop.Stop.{Stop}
-use Rattle.sweeps.specs.Asleep.{AreListed, AreStops, AreWithin, HasSite, IsOutboxAt, IsStop, Wakes, site_of, site_station, station_of, wakes_by}
+use Rattle.sweeps.specs.Asleep.{AreStops, AreWithin, HasSite, IsOutboxAt, IsStop, Wakes, site_of, site_station, station_of, wakes_by}
 
 -- ---- who is woken
 
@@ -24,50 +21,6 @@ module _ (how : How) (site : Site) (sites : List Site) where
   pub record ListsSoFar (count : ℕ) (places : List ℕ) : Type 0 where
     pub listed : (other : ℕ) (s : Site) → other < count → slice_get sites other ≡ Some s → wakes_by how site s ≡ true → Contains places other
     pub within : All (λ place. place < length sites) places
-
-  pub lists_start : ListsSoFar 0 []
-  lists_start = record { listed = λ other s less. absurd (omega (arith, less)); within = All-nil (λ (place : ℕ). place < length sites) }
-
-  pub lists_next : (count : ℕ) (old new : List ℕ) (s : Site) (woken : Bool) → count < length sites → s ≡ slice_index_or sites count s → woken ≡ wakes_by how site s → new ≡ cond woken (old ++ count ∷ []) old → ListsSoFar count old → ListsSoFar (count + 1) new
-  lists_next count old new s woken less is same grown so_far = subst (ListsSoFar (count + 1)) (sym grown) (by woken same)
-    where
-      there : slice_get sites count ≡ Some s
-      there = slice_get_read sites (length sites) count s refl less is
-
-      earlier : (other : ℕ) → other < count + 1 → (other < count) ⊎ (other ≡ count)
-      earlier other few = cases_lt other count few
-        where
-          cases_lt : (a b : ℕ) → a < b + 1 → (a < b) ⊎ (a ≡ b)
-          cases_lt zero zero h = inr refl
-          cases_lt zero (suc b) h = inl (omega arith)
-          cases_lt (suc a) zero h = absurd (omega arith)
-          cases_lt (suc a) (suc b) h = again (cases_lt a b (omega arith))
-            where
-              again : (a < b) ⊎ (a ≡ b) → (suc a < suc b) ⊎ (suc a ≡ suc b)
-              again (inl k) = inl (omega arith)
-              again (inr k) = inr (ap suc k)
-
-      -- the site at this place
-      own : (other : ℕ) (t : Site) → other ≡ count → slice_get sites other ≡ Some t → t ≡ s
-      own other t same at = same_Some t s (sym at ∙ (ap (slice_get sites) same ∙ there))
-
-      by : (b : Bool) → b ≡ wakes_by how site s → ListsSoFar (count + 1) (cond b (old ++ count ∷ []) old)
-      by true wakes = record {
-        listed = λ other t few at wakes_it. go other t (earlier other few) at wakes_it;
-        within = All-append (λ (place : ℕ). place < length sites) old (count ∷ []) so_far.within (All-cons (λ (place : ℕ). place < length sites) count [] less (All-nil (λ (place : ℕ). place < length sites)));
-      }
-        where
-          go : (other : ℕ) (t : Site) → (other < count) ⊎ (other ≡ count) → slice_get sites other ≡ Some t → wakes_by how site t ≡ true → Contains (old ++ count ∷ []) other
-          go other t (inl before) at wakes_it = Contains-append_left old (count ∷ []) other (so_far.listed other t before at wakes_it)
-          go other t (inr last) at wakes_it = Contains-append_right old (count ∷ []) other (subst (Contains (count ∷ [])) (sym last) (here count []))
-      by false wakes = record { listed = λ other t few at wakes_it. go other t (earlier other few) at wakes_it; within = so_far.within }
-        where
-          go : (other : ℕ) (t : Site) → (other < count) ⊎ (other ≡ count) → slice_get sites other ≡ Some t → wakes_by how site t ≡ true → Contains old other
-          go other t (inl before) at wakes_it = so_far.listed other t before at wakes_it
-          go other t (inr last) at wakes_it = absurd (false≢true (wakes ∙ (ap (wakes_by how site) (sym (own other t last at)) ∙ wakes_it)))
-
-  pub lists_whole : (count : ℕ) (places : List ℕ) → length sites ≤ count → ListsSoFar count places → AreListed how site sites places
-  lists_whole count places most so_far other s at wakes = let less = slice_get_within sites other s at in so_far.listed other s (omega (arith, less, most)) at wakes
 
 -- ---- the stops
 

@@ -269,9 +269,6 @@ falls_asleep s w v moves visit still =
     let idle = all_unmoved w v (events_at s) all.outcomes (station_never s) all.run (sym all.moves ∙ still) all.memory in
     subst (λ (x : World). IsIdleAt x s) (sym idle.1) idle.0
 
-visit_controls : (s : Station) (w v : World) (moves : Moves) → IsVisit s w moves v → is_guarded v ≡ is_guarded w
-visit_controls s w v moves visit = let all = visited s w v moves visit in run_controls w v (events_at s) all.outcomes all.run
-
 -- ---- all stations
 
 -- where stations may sleep they may still after any events

@@ -1,5 +1,5 @@
 -- Text in lower-case hexadecimal decodes, and pair by pair.
-use Rattle.std.proofs.Common.{◌≡◌, ℕ, ◌+◌, ◌*◌, ◌%◌, ◌<◌, ◌≤◌, Bool, true, false, List, [], ◌∷◌, ◌++◌, length, take, drop, slice_index, Some, None, Result, Ok, Err, refl, sym, ap, ap₂, ◌∙◌, arith}
+use Rattle.std.proofs.Common.{◌≡◌, ℕ, ◌+◌, ◌*◌, ◌%◌, ◌<◌, ◌≤◌, Bool, true, false, List, [], ◌∷◌, ◌++◌, length, take, drop, slice_index, Some, None, Ok, refl, sym, ap, ap₂, ◌∙◌, arith}
 use Rattle.std.specs.Prelude.{◌&&◌, if◌then◌else◌}
 use Rattle.std.specs.List.{list_all}
 use Rattle.std.specs.Result.{result_ok}
@@ -9,7 +9,6 @@ use Rattle.std.proofs.lemmas.List.{append-nil, drop_all, take_all, take_more}
 use Rattle.std.proofs.lemmas.List.Elements.{All-weaker}
 use Rattle.std.proofs.lemmas.List.Folds.{list_all-append}
 use Rattle.std.proofs.lemmas.List.Sums.{AllPass-from_list_all}
-use Rattle.hex.specs.declared.error.FromHexError.{FromHexError}
 use Rattle.hex.specs.Hex.{decode_of, decode_pairs, hex_digit_value, is_hex_digit, pair_value}
 use Rattle.hex.proofs.HexLemmas.{decode_of-digits, decode_of-even}
 use Rattle.hex.proofs.Pairs.{cons_byte, decode_pairs-ok_pair, drop-pair, prepend, prepend-cons_byte}
@@ -37,10 +36,6 @@ and_assoc : (a b c : Bool) → (a && (b && c)) ≡ ((a && b) && c)
 and_assoc true b c = refl
 and_assoc false b c = refl
 
-before_none : (r : Result (List ℕ) FromHexError) → r ≡ prepend [] r
-before_none (Ok rest) = refl
-before_none (Err e) = refl
-
 -- two digits with these values
 pair_of : (a b high low i : ℕ) → hex_digit_value a ≡ Some high → hex_digit_value b ≡ Some low → pair_value a b i ≡ Ok (high * 16 + low)
 pair_of a b high low i ha hb = rw (ha, hb) refl
@@ -50,9 +45,6 @@ module _ (word : List ℕ) where
   pub record AreRead (pairs : ℕ) (are_digits : Bool) (bytes : List ℕ) : Type 0 where
     pub digits : are_digits ≡ list_all is_lower_digit (take (2 * pairs) word)
     pub decoded : are_digits ≡ true → decode_pairs 0 word ≡ prepend bytes (decode_pairs (2 * pairs) (drop (2 * pairs) word))
-
-  pub read_start : AreRead 0 true []
-  read_start = record { digits = refl; decoded = λ _. before_none (decode_pairs 0 word) }
 
   module _ (i : ℕ) (fits : 2 * i + 1 < length word) where
     two_more : take (2 * (i + 1)) word ≡ (take (2 * i) word ++ slice_index word (2 * i) ∷ []) ++ slice_index word (2 * i + 1) ∷ []
@@ -103,7 +95,3 @@ module _ (word : List ℕ) where
     -- all pairs were read
     pub read_whole : length word % 2 ≡ 0 → good ≡ true → Some bytes ≡ (if list_all is_lower_digit word then result_ok (decode_of word) else None)
     read_whole even is = rw (all_digits, is, decode_of-even word even, all_decoded is) refl
-
-    -- or one is no digit
-    pub read_other : good ≡ false → None ≡ (if list_all is_lower_digit word then result_ok (decode_of word) else None)
-    read_other is = rw (all_digits, is) refl

@@ -1,12 +1,11 @@
 -- Cuts of a text, and the numbers that digits spell.
-use Rattle.std.proofs.Common.{◌≡◌, ℕ, ◌+◌, ◌-◌, ◌*◌, ◌^◌, ◌<◌, ◌≤◌, ◌&&◌, ◌||◌, Bool, true, false, cond, nat_le, List, length, get_or, take, drop, Option, Some, None, refl, ap, arith, add-one, lit<}
+use Rattle.std.proofs.Common.{◌≡◌, ℕ, ◌+◌, ◌-◌, ◌^◌, ◌<◌, ◌≤◌, ◌&&◌, ◌||◌, Bool, true, false, cond, nat_le, List, length, take, drop, Option, Some, None, refl, ap, arith, lit<}
 use Rattle.std.specs.Prelude.{option_map, IfSome}
 use Rattle.std.specs.List.{position}
 use Rattle.std.proofs.lemmas.List.{take_rest}
-use Rattle.std.proofs.Math.Seq.{drop-cons}
-use Rattle.std.proofs.Math.Nat.{pow-suc, pow-le-pow_right}
+use Rattle.std.proofs.Math.Nat.{pow-le-pow_right}
 use Rattle.text.specs.Bytes.{is_lower_digit}
-use Rattle.text.specs.Text.{cut, cut_at, is_byte, digits, hex_digit}
+use Rattle.text.specs.Text.{cut, cut_at, is_byte, hex_digit}
 
 pub cut-some : (byte at : ℕ) (text : List ℕ) → Some at ≡ position (is_byte byte) text → Some (take at text, take (length text - (at + 1)) (drop (at + 1) text)) ≡ cut byte text
 unfolding cut
@@ -25,30 +24,11 @@ neither false false m n h = refl
 pub no_digit : (c : ℕ) → is_lower_digit c ≡ false → hex_digit c ≡ None
 no_digit c h = neither (nat_le 48 c && nat_le c 57) (nat_le 97 c && nat_le c 102) (c - 48) (c - 87) h
 
--- one more digit is read
-pub digits-step : (digit : ℕ → Option ℕ) (base high d i : ℕ) (text : List ℕ) → i < length text → Some d ≡ digit (get_or text i 0)
-    → digits digit base high (drop i text) ≡ digits digit base (high * base + d) (drop (i + 1) text)
-digits-step digit base high d i text below is =
-    rw (add-one, drop-cons text i 0 below, ← is) refl
-
--- a byte that is no digit
-pub digits-stop : (digit : ℕ → Option ℕ) (base high i : ℕ) (text : List ℕ) → i < length text → None ≡ digit (get_or text i 0)
-    → digits digit base high (drop i text) ≡ None
-digits-stop digit base high i text below is =
-    rw (drop-cons text i 0 below, ← is) refl
-
--- digits so far stay below the base's power
-pub digits-small : (base high d i : ℕ) → high < base ^ i → high * base + d < base ^ i * base → high * base + d < base ^ (i + 1)
-digits-small base high d i small next = rw (add-one, pow-suc base i) next
-
 pub below_ten : (high i : ℕ) → high < 10 ^ i → i ≤ 19 → high < 10 ^ 19
 below_ten high i small few = omega (arith, pow-le-pow_right {n = 10} (lit< tt) few)
 
 pub below_sixteen : (high i : ℕ) → high < 16 ^ i → i ≤ 15 → high < 1152921504606846976
 below_sixteen high i small few = omega (arith, pow-le-pow_right {n = 16} (lit< tt) few)
-
-pub grown_ten : (value n m : ℕ) → n ≤ m → value < 10 ^ n → value < 10 ^ m
-grown_ten value n m le small = omega (arith, pow-le-pow_right {n = 10} (lit< tt) le)
 
 pub small-grown : (value : Option ℕ) (n m : ℕ) → n ≤ m → IfSome value (λ v. v < 16 ^ n) → IfSome value (λ v. v < 16 ^ m)
 small-grown None n m le small = small

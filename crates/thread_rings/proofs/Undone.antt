@@ -15,9 +15,6 @@ head_same x y xs ys e = ap (λ l. get_or l 0 x) e
 tail_same : {A : Type 0} (x y : A) (xs ys : List A) → x ∷ xs ≡ y ∷ ys → xs ≡ ys
 tail_same x y xs ys e = ap (λ l. drop 1 l) e
 
-never_empty : {A : Type 0} (x : A) (xs : List A) → x ∷ xs ≢ []
-never_empty x xs e = let n = ap length e in absurd (omega arith)
-
 -- of two lists that are the same with an item behind them, the lists are the same and the items
 pub snoc_same : {A : Type 0} (xs ys : List A) (x y : A) → xs ++ x ∷ [] ≡ ys ++ y ∷ [] → (xs ≡ ys) × (x ≡ y)
 snoc_same [] [] x y e = (refl, head_same x y [] [] e)
@@ -73,16 +70,8 @@ some_out i [] t lt e = absurd (omega arith)
 some_out zero (w ∷ ws) t lt e = let n = ap length e in let m = length-append w.outs (t ∷ []) in absurd (omega arith)
 some_out (suc i) (w ∷ ws) t lt e = some_out i ws t (omega arith) e
 
-some_in : (i : ℕ) (ws : List Tags) (t : Tag) → i < length ws → (get_or (in_given ws i t) i no_tags).ins ≢ []
-some_in i [] t lt e = absurd (omega arith)
-some_in zero (w ∷ ws) t lt e = let n = ap length e in let m = length-append w.ins (t ∷ []) in absurd (omega arith)
-some_in (suc i) (w ∷ ws) t lt e = some_in i ws t (omega arith) e
-
 pub has_out : (i : ℕ) (us ws : List Tags) (t : Tag) → i < length ws → us ≡ out_given ws i t → (get_or us i no_tags).outs ≢ []
 has_out i us ws t lt e none = some_out i ws t lt (ap (λ (l : List Tags). (get_or l i no_tags).outs) (sym e) ∙ none)
-
-pub has_in : (i : ℕ) (us ws : List Tags) (t : Tag) → i < length ws → us ≡ in_given ws i t → (get_or us i no_tags).ins ≢ []
-has_in i us ws t lt e none = some_in i ws t lt (ap (λ (l : List Tags). (get_or l i no_tags).ins) (sym e) ∙ none)
 
 pub half_taken : (w0 w1 before : List Tags) (from to : ℕ) (t tag : Tag) → to < length before → length w1 ≡ length before → w0 ≡ in_given w1 to t → w0 ≡ in_given (out_given before from tag) to tag
     → (w1 ≡ out_given before from tag) × (t ≡ tag)

@@ -14,11 +14,6 @@ use Rattle.thread_totals.specs.declared.packet_name.PacketName.{PacketName}
 abbrev one_if : Bool → ℕ
 one_if b = cond b 1 0
 
-within : (flying : List Bool) (n : ℕ) → get_or flying n false ≡ true → n < length flying
-within [] n is = absurd (false≢true is)
-within (b ∷ flying) zero is = omega arith
-within (b ∷ flying) (suc n) is = let lt = within flying n is in omega (arith, lt)
-
 -- one packet more, whose number was not to be crossed off
 module _ (domain : ℕ) (names : List PacketName) (i : ℕ) (name : PacketName) (lt : i < length names) (at : name ≡ get_or names i name) where
   more : (test : PacketName → Bool) (b : Bool) → test name ≡ b → count_by test (take (i + 1) names) ≡ count_by test (take i names) + one_if b

@@ -152,27 +152,6 @@ byte_0-apart byte kind h e =
     let parts = and_parts _ _ (rw e at (all_taken_apart byte h)) in
     (eqb-true _ _ parts.0, parts.1)
 
--- a kind has one body
-pub memory_no_message : (kind : Kind) → is_memory kind ≡ true → is_message kind ≡ false
-memory_no_message MRd h = refl
-memory_no_message MRdLk h = absurd (false≢true h)
-memory_no_message MWr h = refl
-memory_no_message IORd h = absurd (false≢true h)
-memory_no_message IOWr h = absurd (false≢true h)
-memory_no_message CfgRd0 h = absurd (false≢true h)
-memory_no_message CfgWr0 h = absurd (false≢true h)
-memory_no_message CfgRd1 h = absurd (false≢true h)
-memory_no_message CfgWr1 h = absurd (false≢true h)
-memory_no_message Msg h = absurd (false≢true h)
-memory_no_message MsgD h = absurd (false≢true h)
-memory_no_message Cpl h = absurd (false≢true h)
-memory_no_message CplD h = absurd (false≢true h)
-memory_no_message CplLk h = absurd (false≢true h)
-memory_no_message CplDLk h = absurd (false≢true h)
-memory_no_message FetchAdd h = absurd (false≢true h)
-memory_no_message Swap h = absurd (false≢true h)
-memory_no_message CAS h = absurd (false≢true h)
-
 pub memory_no_completion : (kind : Kind) → is_memory kind ≡ true → is_completion kind ≡ false
 memory_no_completion MRd h = refl
 memory_no_completion MRdLk h = absurd (false≢true h)
@@ -372,46 +351,6 @@ fetch_add_no_completion CplDLk h = absurd (false≢true h)
 fetch_add_no_completion FetchAdd h = refl
 fetch_add_no_completion Swap h = absurd (false≢true h)
 fetch_add_no_completion CAS h = absurd (false≢true h)
-
-pub fetch_add_addressed : (kind : Kind) → is_fetch_add kind ≡ true → has_address kind ≡ true
-fetch_add_addressed MRd h = absurd (false≢true h)
-fetch_add_addressed MRdLk h = absurd (false≢true h)
-fetch_add_addressed MWr h = absurd (false≢true h)
-fetch_add_addressed IORd h = absurd (false≢true h)
-fetch_add_addressed IOWr h = absurd (false≢true h)
-fetch_add_addressed CfgRd0 h = absurd (false≢true h)
-fetch_add_addressed CfgWr0 h = absurd (false≢true h)
-fetch_add_addressed CfgRd1 h = absurd (false≢true h)
-fetch_add_addressed CfgWr1 h = absurd (false≢true h)
-fetch_add_addressed Msg h = absurd (false≢true h)
-fetch_add_addressed MsgD h = absurd (false≢true h)
-fetch_add_addressed Cpl h = absurd (false≢true h)
-fetch_add_addressed CplD h = absurd (false≢true h)
-fetch_add_addressed CplLk h = absurd (false≢true h)
-fetch_add_addressed CplDLk h = absurd (false≢true h)
-fetch_add_addressed FetchAdd h = refl
-fetch_add_addressed Swap h = absurd (false≢true h)
-fetch_add_addressed CAS h = absurd (false≢true h)
-
-pub completion_not_addressed : (kind : Kind) → is_completion kind ≡ true → has_address kind ≡ false
-completion_not_addressed MRd h = absurd (false≢true h)
-completion_not_addressed MRdLk h = absurd (false≢true h)
-completion_not_addressed MWr h = absurd (false≢true h)
-completion_not_addressed IORd h = absurd (false≢true h)
-completion_not_addressed IOWr h = absurd (false≢true h)
-completion_not_addressed CfgRd0 h = absurd (false≢true h)
-completion_not_addressed CfgWr0 h = absurd (false≢true h)
-completion_not_addressed CfgRd1 h = absurd (false≢true h)
-completion_not_addressed CfgWr1 h = absurd (false≢true h)
-completion_not_addressed Msg h = absurd (false≢true h)
-completion_not_addressed MsgD h = absurd (false≢true h)
-completion_not_addressed Cpl h = refl
-completion_not_addressed CplD h = refl
-completion_not_addressed CplLk h = refl
-completion_not_addressed CplDLk h = refl
-completion_not_addressed FetchAdd h = absurd (false≢true h)
-completion_not_addressed Swap h = absurd (false≢true h)
-completion_not_addressed CAS h = absurd (false≢true h)
 
 pub memory_addressed : (kind : Kind) → is_memory kind ≡ true → has_address kind ≡ true
 memory_addressed MRd h = refl

@@ -3,11 +3,10 @@ use Rattle.std.proofs.Common.{◌≡◌, ℕ, ◌+◌, ◌≤◌, Bool, true, fa
 use Rattle.std.proofs.lemmas.Bool.{or_parts, and_cases, both_ways, not-false, eqb-true, ltb-false}
 use Rattle.fab_types.specs.declared.faults.malformed.Malformed.TheVariants.{Short, Kind as NoKind}
 use Rattle.tlp_view.specs.declared.kind.Kind.{Kind}
-use Rattle.tlp_view.specs.Packet.{Packet, dw_count}
-use Rattle.tlp_view.specs.Kinds.{kind_at, has_length}
+use Rattle.tlp_view.specs.Kinds.{kind_at}
 use Rattle.tlp_view.specs.Bytes.{fmt_at, type_at, header_len, HasHeader, packet_of_kind, packet_of}
 use Rattle.tlp_view.specs.Malformed.{is_short, data_len, has_bad_size, malformed_of_kind, malformed_of, malformed}
-use Rattle.tlp_view.specs.View.{IsView, length_of}
+use Rattle.tlp_view.specs.View.{IsView}
 
 -- no fault is the last of a chain of tests
 pub passes : {A : Type 0} (b : Bool) (x : A) (y : Option A) → cond b (Some x) y ≡ None → (b ≡ false) × (y ≡ None)
@@ -81,11 +80,3 @@ unfolding malformed
 view_of bytes fine =
     let parts = passes (is_short bytes) Short (malformed_of (kind_at (fmt_at bytes) (type_at bytes)) bytes) fine in
     from_kind bytes (kind_at (fmt_at bytes) (type_at bytes)) parts.0 refl parts.1
-
-count_from : (b : Bool) (m n : ℕ) → cond b (Some m) None ≡ Some n → m ≡ n
-count_from true m n e = cc
-count_from false m n e = cc
-
--- what a request's length tells of its Length field
-pub dw_count-length : (t : Packet) (n : ℕ) → length_of t ≡ Some n → dw_count t.length ≡ n
-dw_count-length t n e = count_from (has_length t.kind) (dw_count t.length) n e

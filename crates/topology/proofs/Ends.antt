@@ -22,9 +22,6 @@ no_switch = record { id = 0; above = None }
 abbrev pub no_function : EndpointFunction
 no_function = record { id = 0; bar = 0 }
 
-abbrev lists : Platform → List ℕ
-lists platform = map (outputs_of_switch platform.ports) platform.switches ++ map one_output platform.functions
-
 one_more : (n : ℕ) → 1 + n ≡ suc n
 one_more n = omega arith
 

@@ -45,15 +45,6 @@ end_there channels outputs end same is =
 pub same_lanes : (channels : List (List Channel)) (end : LinkEnd) (c : Channel) → map (length {A = Channel}) (with_channel channels end c) ≡ map (length {A = Channel}) channels
 same_lanes channels end c = map-set_same many channels end.node (set (get_or channels end.node []) end.output c) [] (length-set (get_or channels end.node []) end.output c)
 
-pub there_still : (channels : List (List Channel)) (end other : LinkEnd) (c : Channel) → IsThere channels end → IsThere (with_channel channels other c) end
-there_still channels end other c there =
-    let same = same_lanes channels other c in
-    let node : end.node < length (with_channel channels other c) = (let long = length-set channels other.node (set (get_or channels other.node []) other.output c) in omega (arith, there.node)) in
-    let old = get_or-map many channels end.node [] 0 there.node in
-    let new = get_or-map many (with_channel channels other c) end.node [] 0 node in
-    let between = ap (λ (ns : List ℕ). get_or ns end.node 0) same in
-    record { node = node; output = omega (arith, there.output, old, new, between) }
-
 pub on_link : (channels : List (List Channel)) (end : LinkEnd) (c : Channel) (lost gained : List Descriptor) → IsThere channels end → Changed (frames_on (channel_at channels end)) (frames_on c) lost gained
     → Changed (flat_map frames_from channels) (flat_map frames_from (with_channel channels end c)) lost gained
 on_link channels end c lost gained there changed =

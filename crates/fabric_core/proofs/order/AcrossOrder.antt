@@ -181,9 +181,6 @@ module _ (w : World) (g : IsGuardedFabric w) (domain function peer : ℕ) (line 
     listed_there : In (Ingress direction) places
     listed_there = ⊎_elim (λ at. at) (λ none_here. absurd (false≢true (sym (stood f f' (Ingress direction) y l (IsNo q) none_here) ∙ is_q))) (t.second_on (Ingress direction))
 
-    is_direct : IsDirect g.platform function peer y
-    is_direct = stood f f' (Ingress direction) y l (λ (x : Descriptor). q x ≡ true → IsDirect g.platform function peer x) (are.second_direct (Ingress direction)) is_q
-
     at_top : direction ≡ up top_id → ⊥
     at_top e = not_at_top (subst (λ (d : Direction). In (Ingress d) places) e listed_there)
 

@@ -12,11 +12,6 @@ behind_one true q a b goes e = refl
 behind_one false true a b goes e = absurd cc
 behind_one false false a b goes e = goes e
 
-with_one : (p q a : Bool) → q ≡ false → a ≡ true → p || (not q && a) ≡ true
-with_one true q a other e = refl
-with_one false true a other e = absurd cc
-with_one false false a other e = e
-
 without_one : (p q a : Bool) → p ≡ false → p || (not q && a) ≡ true → (q ≡ false) × (a ≡ true)
 without_one true q a other e = absurd cc
 without_one false true a other e = absurd cc

@@ -1,5 +1,5 @@
 -- In a guarded fabric a packet that a domain makes stands behind each posted one whose way begins at the same outbox.
-use Rattle.std.proofs.Common.{◌≡◌, ℕ, ◌<◌, ◌≤◌, true, false, List, ◌++◌, length, Option, Some, refl, sym, ap, ◌∙◌, subst, arith}
+use Rattle.std.proofs.Common.{◌≡◌, ℕ, ◌<◌, ◌≤◌, true, false, List, ◌++◌, length, Some, refl, sym, ap, ◌∙◌, subst, arith}
 use Rattle.std.specs.Prelude.{All, slice_get}
 use Rattle.std.proofs.lemmas.List.Elements.{All-weaker}
 use Rattle.std.proofs.lemmas.Option.{same_Some}
@@ -26,13 +26,7 @@ use Rattle.fabric_core.proofs.order.OrderedSteps.{flown_here}
 use Rattle.fabric_core.proofs.order.AtPlaces.{Joining, Leaving, Standings}
 use Rattle.fabric_core.proofs.order.Tracks.{not_across, not_down, not_up}
 
-source_is : (a b : Origin) → ◌≡◌ {A = Option Origin} (Some a) (Some b) → a ≡ b
-source_is a b e = same_Some a b e
-
 module _ (w : World) (fabric : IsFabric w) (guarded : is_guarded w ≡ true) (place : ℕ) (d : DomainView) (at : slice_get w.agents.domains place ≡ Some d) where
-  abbrev number : ℕ
-  number = d.share.domain
-
   -- no packet has the number that is next
   pub none_next : (m : ℕ) → length d.state.flight ≤ m → (r : Place) → All (IsNo (is_numbered d.share.domain m)) (standing_at w r)
   none_next m long r =
@@ -83,7 +77,3 @@ module _ (w : World) (fabric : IsFabric w) (guarded : is_guarded w ≡ true) (pl
   starts f' packet o n _ z (GoesBy.Down function links from to own way) source f none j is =
       let same : o ≡ origin.Host d.share.domain = same_Some o (origin.Host d.share.domain) (sym source ∙ from) in
       starts_there (is_numbered d.share.domain n) f f' (Outbox (origin.Host d.share.domain)) z (subst (λ (x : Origin). Joining f f' (Outbox x) z) same j) is none (places_down links) (not_down (origin.Host d.share.domain) links)
-
-  pub starts_way : (w' : World) (packet : Sent) (o : Origin) (n : ℕ) (places : List Place) (z : Descriptor) → length d.state.flight ≤ n → GoesBy (fabric.guarded guarded).platform d.share.domain packet places → packet.source ≡ Some o
-      → Joining (standing_at w) (standing_at w') (Outbox o) z → is_numbered d.share.domain n z ≡ true → KeepsToWay w' d places n
-  starts_way w' packet o n places z n_new goes source j is = starts (standing_at w') packet o n places z goes source (standing_at w) (none_next n n_new) j is

@@ -152,15 +152,6 @@ pub record Stays (old new : World) : Type 0 where
 pub same_stays : (w : World) → Stays w w
 same_stays w = record { tree = refl; routes = refl; configs = refl; starts = λ end. refl; boxes = same_boxes w.agents.outboxes }
 
-pub then_stays : (w v u : World) → Stays w v → Stays v u → Stays w u
-then_stays w v u first second = record {
-  tree = second.tree ∙ first.tree;
-  routes = second.routes ∙ first.routes;
-  configs = second.configs ∙ first.configs;
-  starts = λ end. second.starts end ∙ first.starts end;
-  boxes = record { origins = second.boxes.origins ∙ first.boxes.origins; found = λ found. second.boxes.found (first.boxes.found found) };
-}
-
 -- one of two, or none
 unless : (P : World → Type 0) (b : Bool) (w : World) → P w → IfSome (cond b None (Some w)) P
 unless P true w h = tt

@@ -12,11 +12,11 @@ use Rattle.tlp_view.specs.declared.attributes.Attributes.{Attributes}
 use Rattle.tlp_view.specs.declared.completion.CompletionHead.{CompletionHead}
 use Rattle.tlp_view.specs.declared.enables.Enables.{Enables}
 use Rattle.tlp_view.specs.declared.kind.Kind.{Kind}
-use Rattle.tlp_view.specs.declared.kind.Kind.TheVariants.{MRd, MWr, Cpl, CplD}
+use Rattle.tlp_view.specs.declared.kind.Kind.TheVariants.{Cpl, CplD}
 use Rattle.tlp_view.specs.declared.request.RequestHead.{RequestHead}
 use Rattle.tlp_view.specs.Bytes.{address_at, bits, enables_at, fmt_at, is_set, has_4dw_header_at, length_at, packet_of, packet_of_kind, type_at}
 use Rattle.tlp_view.specs.Completions.{atomic_completion, byte_count, completion, completion_bytes, data_body, first_place, last_end, lower_address, read_completion}
-use Rattle.tlp_view.specs.Kinds.{has_address, has_form, is_memory, kind_at}
+use Rattle.tlp_view.specs.Kinds.{has_address, is_memory, kind_at}
 use Rattle.tlp_view.specs.Malformed.{crosses, has_bad_common, has_bad_enables, has_bad_field, has_bad_size, is_short, malformed, malformed_of_kind}
 use Rattle.tlp_view.specs.Packet.{Body, Completion, Packet, address_in, dw_count, enables_in}
 use Rattle.tlp_view.specs.Requests.{RequestFits, all_enabled, is_high, moved, moved_body, packet_bytes}
@@ -188,11 +188,6 @@ module _ (b0 b1 b2 b3 b4 b5 b6 : ℕ) (rest : List ℕ) where
       swapped_by found.0 x y (passes (is_short (with_byte x)) Short _ well).0 found.1.kind_is found.2 enables
 
 -- ---- a request at another address
-
-form_memory : (kind : Kind) (wide : Bool) → is_memory kind ≡ true → has_form kind wide ≡ true
-form_memory MRd wide e = refl
-form_memory MWr wide e = refl
-form_memory _ wide e = absurd cc
 
 address_again : (kind : Kind) (attributes : Attributes) (at : AddressType) (length requester tag : ℕ) (enables : Enables) (address : ℕ) (payload : List ℕ) (wide : Bool) → is_high address ≡ wide → address < 2 ^ 64
     → address_at (packet_bytes (spelled kind wide attributes at length requester tag enables address payload)) ≡ address

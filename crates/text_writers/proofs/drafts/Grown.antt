@@ -29,10 +29,6 @@ grown-piece b [] x some ends = absurd cc
 grown-piece b (line ∷ []) x some ends = absurd cc
 grown-piece b (line ∷ next ∷ rest) x some ends = refl
 
-last-same : (b : ℕ) (line : List ℕ) (rest : List (List ℕ)) → is_last rest ≡ false → last_of (before_line b (line ∷ rest)) ≡ [] → last_of (line ∷ rest) ≡ []
-last-same b line [] some ends = absurd cc
-last-same b line (next ∷ rest) some ends = ends
-
 last-before : (b : ℕ) (lines : List (List ℕ)) → is_last lines ≡ false → last_of (before_line b lines) ≡ [] → last_of lines ≡ []
 last-before b [] some ends = refl
 last-before b (line ∷ []) some ends = absurd cc

@@ -60,9 +60,6 @@ module _ {X : Type 0} where
       go true more h = absurd cc
       go false more h = more h
 
-  pub find-here : (p : X → Bool) (y : X) (zs : List X) → p y ≡ true → find p (y ∷ zs) ≡ Some y
-  find-here p y zs h = rw h refl
-
   pub find-front : (p : X → Bool) (xs ys : List X) (x : X) → find p xs ≡ Some x → find p (xs ++ ys) ≡ Some x
   find-front p [] ys x h = absurd cc
   find-front p (z ∷ xs) ys x h = go (p z) (find-front p xs ys x) h

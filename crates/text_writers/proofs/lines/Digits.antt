@@ -72,10 +72,6 @@ pub decimal_digits_read : (n : ℕ) → n < 10 ^ 9 → digits decimal_digit 10 0
 unfolding fmt.digits
 decimal_digits_read n small = onto_read decimal_digit 10 ten 64 n [] (omega (arith, small))
 
-pub hex_digits_read : (n : ℕ) → n < 2 ^ 52 → digits hex_digit 16 0 (fmt.digits 16 false n) ≡ Some n
-unfolding fmt.digits
-hex_digits_read n small = onto_read hex_digit 16 sixteen 64 n [] (omega (arith, small))
-
 before_read : (count n : ℕ) (behind : List ℕ) → n < 16 ^ count → digits hex_digit 16 0 (hex_before count n behind) ≡ digits hex_digit 16 n behind
 before_read zero n behind small =
     let none : 0 ≡ n = omega (arith, small) in
