@@ -5,7 +5,7 @@ use Rattle.text.proofs.bytes.decoded.Goals as goal
 pub loop-place-preserved : goal.loop-place-preserved
 loop-place-preserved c = record {
   read = rw (c.is_lower_digit.ensures, c.is_lower_digit-in-loop-place.ensures, c.push_reserved.ensures.items) (read_next c.args.text.now c.loop-place.place c.loop-place.are_digits c.loop-place.bytes.items c.digit_value.result c.digit_value-in-loop-place.result (omega (arith, c.loop-place-test.true))
-      c.digit_value.ensures.value c.digit_value-in-loop-place.ensures.value c.loop-place.invariant.read);
+      c.digit_value.ensures.decoded c.digit_value-in-loop-place.ensures.decoded c.loop-place.invariant.read);
   count = search rules;
   room = search rules;
 }
