@@ -116,7 +116,7 @@ GENERATOR
 . "$here/bench/work.sh"
 mkdir -p "$work/crates/fabrics/src" "$work/texts"
 # All but the program itself.
-grep -v '^pciefab:' "$here/crates.txt" > "$work/crates.txt"
+grep '^[a-z]' "$here/crates.txt" | grep -v '^pciefab:' > "$work/crates.txt"
 cut -d: -f1 "$work/crates.txt" | while read -r crate; do
     cp -r "$here/crates/$crate" "$work/crates/$crate"
     rm -rf "$work/crates/$crate/must-fail"
