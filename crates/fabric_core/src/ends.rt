@@ -8,14 +8,16 @@ ghost use Rattle.topology.specs.Topologies.{IsEnd};
 ghost use Rattle.fabric_core.specs.declared.event.Event.TheVariants.{Arrive, Root};
 ghost use Rattle.fabric_core.specs.Receipts.{agents_by_function, agents_by_host, receipt_in, from_host, own_by_function, own_by_host};
 ghost use Rattle.received.specs.Receipts.{receipt_at_host};
+ghost use Rattle.received.specs.Receivers.{receiver_at_host};
 ghost use Rattle.fabric_core.specs.Events.{StepsTo};
 ghost use Rattle.fabric_core.specs.Settling.{IsBack, IsTaken, IsTakenIn, EntryWants, Relays, Settles, Strays, Takes, entry_by_function, entry_by_host};
+ghost use Rattle.domains.specs.Aliens.{owner_of_frame};
 ghost use Rattle.domains.specs.Domains.{Emits};
 ghost use Rattle.fabric_core.specs.World.{world_over};
 
 use crate::wires::TOP_SWITCH;
 use domains::Agents;
-use fab_types::{Bdf, Class, Direction, Outcome, Place, Way};
+use fab_types::{Bdf, Class, Direction, DomainId, Outcome, Place, Way};
 use frame_log::{Frame, FrameFault};
 use interconnect::Interconnect;
 use received::{Receipt, is_relayed, receipt_at_function, receipt_at_host, receiver_at_host};
@@ -98,6 +100,13 @@ fn relay(interconnect: &mut Interconnect, end: LinkEnd, class: Class) -> Outcome
     }
 }
 
+/// The domain that a packet at the host is for, or else its home.
+fn receiver_of(interconnect: &Interconnect, agents: &Agents, frame: &Frame) -> DomainId
+    ensures { result ≡ receiver_at_host (interconnect.now.routes).ports (owner_of_frame agents.now.domains) frame.now }
+{
+    receiver_at_host(interconnect.bridge(), agents, frame)
+}
+
 fn end_at_host<R: Wait>(
     rt: &R,
     interconnect: &Interconnect,
@@ -108,7 +117,7 @@ fn end_at_host<R: Wait>(
 {
     match end_at_home(rt, agents, frame) {
         Err(FrameFault::Stray(frame)) => {
-            let receiver = receiver_at_host(interconnect.bridge(), &*agents, &frame);
+            let receiver = receiver_of(interconnect, agents, &frame);
             agents.alien_at_host(rt, receiver, Place::Ingress(top_link(Way::Up)), frame)
         }
         ended => ended,
