@@ -8,6 +8,6 @@ pub mod FlightRead
 pub mod JournalsRead
 pub mod LegalEntries
 pub mod Making
-pub mod Replaying
+pub mod LineEntries
 pub mod Flying
 pub mod JournalsWritten

@@ -2,7 +2,7 @@ use Rattle.std.proofs.Common.{◌≡◌, None, refl, subst}
 use Rattle.std.proofs.lemmas.Option.{slice_get_read}
 use Rattle.platform.specs.Share.{Share}
 use Rattle.domain.specs.Machine.{change}
-use Rattle.journal_text.proofs.Replaying.{first_entries, lines_stop}
+use Rattle.journal_text.proofs.LineEntries.{first_entries, lines_stop}
 use Rattle.journal_text.proofs.replaying.replay.Goals as goal
 
 pub returns-in-Err-Illegal-clause-illegal : goal.returns-in-Err-Illegal-clause-illegal
