@@ -8,7 +8,7 @@ ghost use Rattle.reports.specs.Report.{packet_text};
 
 use crate::remarks::{Remarks, write_with_id};
 use attacks::{Harm, OwnRead, Witness};
-use fab_types::{Bdf, DomainId};
+use fab_types::{Bdf, Control, DomainId};
 use std::alloc::Global;
 use std::io;
 use std::io::{ErrorKind, Write};
