@@ -27,8 +27,8 @@ use Rattle.port.specs.contracts.port.Port as Port
 use Rattle.port.specs.contracts.port.Port.TheInside as PortInside
 use Rattle.thread_workers.specs.contracts.ports.port_work.PortWork as PortWork
 use Rattle.thread_workers.specs.contracts.ports.port_work.PortWork.TheInside as WorkInside
-use Rattle.switch_output.specs.contracts.vetted.VettedFrame as VettedFrame
-use Rattle.switch_output.specs.contracts.vetted.VettedFrame.TheInside as VettedInside
+use Rattle.switch_output.specs.contracts.vetted_frame.VettedFrame as VettedFrame
+use Rattle.switch_output.specs.contracts.vetted_frame.VettedFrame.TheInside as VettedInside
 
 -- A value for contracts alone owns nothing.
 snapshot_send : (Y : RattleType) → IsSend (Snapshot.the_row Y)
