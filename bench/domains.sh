@@ -33,7 +33,7 @@ use frame_log::{Frame, Log};
 use layout::{Layout, Start};
 use std::alloc::{AllocError, Global};
 use std::io::Write;
-use std::sync::{Arc, Wait};
+use std::sync::Arc;
 use std::time::{CpuClock, Duration};
 use std::{env, fs, io};
 
@@ -62,63 +62,63 @@ struct Actor {
     program: Option<HostAccess>,
 }
 
-fn carry<R: Wait>(rt: &R, domain: &mut Domain, frame: Frame) -> bool {
-    match domain.carry(rt, frame) {
+fn carry(domain: &mut Domain, frame: Frame) -> bool {
+    match domain.carry(frame) {
         Ok(Some(answer)) => domain.deliver(answer).is_ok(),
         Ok(None) => true,
         Err(_) => false,
     }
 }
 
-fn submit<R: Wait>(rt: &R, domain: &mut Domain, actor: &Actor) -> bool {
-    match domain.submit(rt, actor.function, &actor.packet) {
-        Ok(frame) => carry(rt, domain, frame),
+fn submit(domain: &mut Domain, actor: &Actor) -> bool {
+    match domain.submit(actor.function, &actor.packet) {
+        Ok(frame) => carry(domain, frame),
         Err(_) => false,
     }
 }
 
-fn submit_stopped<R: Wait>(rt: &R, domain: &mut Domain, actor: &Actor) -> bool {
-    match domain.submit(rt, actor.function, &actor.packet) {
+fn submit_stopped(domain: &mut Domain, actor: &Actor) -> bool {
+    match domain.submit(actor.function, &actor.packet) {
         // The domain itself knows the port.
         Ok(frame) => domain
-            .refuse(rt, frame, PortId::new(actor.function))
+            .refuse(frame, PortId::new(actor.function))
             .is_ok(),
         Err(_) => false,
     }
 }
 
-fn access<R: Wait>(rt: &R, domain: &mut Domain, access: &HostAccess) -> bool {
-    match domain.mmio(rt, access) {
-        Ok(frame) => carry(rt, domain, frame),
+fn access(domain: &mut Domain, access: &HostAccess) -> bool {
+    match domain.mmio(access) {
+        Ok(frame) => carry(domain, frame),
         Err(_) => false,
     }
 }
 
-fn tick<R: Wait>(rt: &R, domain: &mut Domain, function: Bdf) -> bool {
-    match domain.tick(rt, function) {
-        Ok(Some(frame)) => carry(rt, domain, frame),
+fn tick(domain: &mut Domain, function: Bdf) -> bool {
+    match domain.tick(function) {
+        Ok(Some(frame)) => carry(domain, frame),
         Ok(None) => true,
         Err(_) => false,
     }
 }
 
 /// The begin of this number, and what follows from it.
-fn begin<R: Wait>(rt: &R, domain: &mut Domain, actor: &Actor, number: u32) -> bool {
+fn begin(domain: &mut Domain, actor: &Actor, number: u32) -> bool {
     match actor.scene {
-        Scene::Submit => submit(rt, domain, actor),
-        Scene::Stopped => submit_stopped(rt, domain, actor),
-        Scene::Access => access(rt, domain, &actor.access),
-        Scene::Tick if number % 17 == 0 => access(rt, domain, &actor.access),
-        Scene::Tick => tick(rt, domain, actor.function),
-        Scene::WaitingTick if number == 0 => access(rt, domain, &actor.access),
-        Scene::WaitingTick => domain.tick(rt, actor.function).is_ok(),
+        Scene::Submit => submit(domain, actor),
+        Scene::Stopped => submit_stopped(domain, actor),
+        Scene::Access => access(domain, &actor.access),
+        Scene::Tick if number % 17 == 0 => access(domain, &actor.access),
+        Scene::Tick => tick(domain, actor.function),
+        Scene::WaitingTick if number == 0 => access(domain, &actor.access),
+        Scene::WaitingTick => domain.tick(actor.function).is_ok(),
     }
 }
 
 /// How many begins are made.
-fn play<R: Wait>(rt: &R, domain: &mut Domain, actor: &Actor) -> u32 {
+fn play(domain: &mut Domain, actor: &Actor) -> u32 {
     for number in 0..16_384 {
-        if !begin(rt, domain, actor, number) {
+        if !begin(domain, actor, number) {
             return number;
         }
     }
@@ -272,24 +272,24 @@ fn actor_of(
     }))
 }
 
-fn time_play<R: Wait + CpuClock>(
+fn time_play<R: CpuClock>(
     rt: &R,
     domain: &mut Domain,
     actor: &Actor,
 ) -> io::Result<(u32, Duration)> {
     let before = rt.process_cpu_time()?;
-    let begins = play(rt, domain, actor);
+    let begins = play(domain, actor);
     let after = rt.process_cpu_time()?;
     Ok((begins, after.saturating_sub(before)))
 }
 
-fn time_replay<R: Wait + CpuClock>(
+fn time_replay<R: CpuClock>(
     rt: &R,
     alloc: Global,
     domain: &Domain,
 ) -> io::Result<(usize, Duration)> {
     let before = rt.process_cpu_time()?;
-    let again = Domain::replay(rt, alloc, domain.start(), domain.journal());
+    let again = Domain::replay(alloc, domain.start(), domain.journal());
     let after = rt.process_cpu_time()?;
     let entries = match again {
         Ok(again) => again.journal().len(),
@@ -299,7 +299,7 @@ fn time_replay<R: Wait + CpuClock>(
 }
 
 /// Prints the begins and their nanoseconds, and the replayed entries and theirs.
-fn round<R: Wait + CpuClock, O: Write>(
+fn round<R: CpuClock, O: Write>(
     rt: &R,
     alloc: Global,
     start: &Start,
@@ -310,7 +310,7 @@ fn round<R: Wait + CpuClock, O: Write>(
         return Ok(());
     };
     if let Some(program) = &actor.program {
-        let _ = access(rt, &mut domain, program);
+        let _ = access(&mut domain, program);
     }
     let (begins, play) = time_play(rt, &mut domain, actor)?;
     let (entries, replay) = time_replay(rt, alloc, &domain)?;
@@ -322,7 +322,7 @@ fn round<R: Wait + CpuClock, O: Write>(
     )
 }
 
-fn rounds<R: Wait + CpuClock, O: Write>(
+fn rounds<R: CpuClock, O: Write>(
     rt: &R,
     alloc: Global,
     start: &Start,

@@ -133,7 +133,6 @@ use layout::Layout;
 use script::{Command, Line, Script};
 use std::alloc::Global;
 use std::io::Write;
-use std::sync::Wait;
 use std::time::{CpuClock, Duration};
 use std::{env, fs, io};
 use sweeps::{Sweeper, stations};
@@ -161,34 +160,34 @@ struct Counter {
 }
 
 impl Counter {
-    fn begin<R: Wait>(&mut self, rt: &R, event: &Event) {
-        let _outcome = self.sweeper.step(rt, event);
+    fn begin(&mut self, event: &Event) {
+        let _outcome = self.sweeper.step(event);
         self.all = self.all.wrapping_add(1);
     }
 
-    fn sweep_up_to<R: Wait>(&mut self, rt: &R, most: u32) -> Result<(), NoMemory> {
+    fn sweep_up_to(&mut self, most: u32) -> Result<(), NoMemory> {
         for _ in 0..most {
             self.all = self.all.wrapping_add(self.events);
-            if !self.sweeper.sweep(rt)? {
+            if !self.sweeper.sweep()? {
                 return Ok(());
             }
         }
         Ok(())
     }
 
-    fn make<R: Wait>(&mut self, rt: &R, command: Command) -> Result<(), NoMemory> {
+    fn make(&mut self, command: Command) -> Result<(), NoMemory> {
         match command {
-            Command::Submit(function, bytes) => self.begin(rt, &Event::Submit(function, bytes)),
-            Command::Tick(function) => self.begin(rt, &Event::Tick(function)),
-            Command::Mmio(domain, access) => self.begin(rt, &Event::Mmio(domain, access)),
-            Command::Sweep(most) => self.sweep_up_to(rt, most)?,
+            Command::Submit(function, bytes) => self.begin(&Event::Submit(function, bytes)),
+            Command::Tick(function) => self.begin(&Event::Tick(function)),
+            Command::Mmio(domain, access) => self.begin(&Event::Mmio(domain, access)),
+            Command::Sweep(most) => self.sweep_up_to(most)?,
         }
         Ok(())
     }
 
-    fn run<R: Wait>(&mut self, rt: &R, lines: Vec<Line>) -> Result<(), NoMemory> {
+    fn run(&mut self, lines: Vec<Line>) -> Result<(), NoMemory> {
         for line in lines {
-            self.make(rt, line.command)?;
+            self.make(line.command)?;
         }
         Ok(())
     }
@@ -216,15 +215,15 @@ fn counter_of(alloc: Global, layout: &str) -> Option<Counter> {
 }
 
 /// How long the lines take, unless memory is refused.
-fn time<R: Wait + CpuClock>(rt: &R, counter: &mut Counter, lines: Vec<Line>) -> Option<Duration> {
+fn time<R: CpuClock>(rt: &R, counter: &mut Counter, lines: Vec<Line>) -> Option<Duration> {
     let before = rt.process_cpu_time().ok()?;
-    counter.run(rt, lines).ok()?;
+    counter.run(lines).ok()?;
     let after = rt.process_cpu_time().ok()?;
     Some(after.saturating_sub(before))
 }
 
 /// The nanoseconds that the script takes over the layout, and how many events it makes.
-fn counted<R: Wait + CpuClock>(
+fn counted<R: CpuClock>(
     rt: &R,
     alloc: Global,
     layout: &str,

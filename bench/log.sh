@@ -126,16 +126,16 @@ impl Pattern {
 }
 
 /// A packet of this number, emitted into a log, which the token is kept with.
-fn emit_one<R: Wait>(rt: &R, log: &Arc<Log>, domain: DomainId, number: u64) -> Option<Emitted> {
+fn emit_one(log: &Arc<Log>, domain: DomainId, number: u64) -> Option<Emitted> {
     let packet = Pattern::new(domain, number);
-    let (_, token) = log.emit(rt, domain, number, head(), packet.as_slice()).ok()?;
+    let (_, token) = log.emit(domain, number, head(), packet.as_slice()).ok()?;
     let log = log.clone().ok()?;
     Some(Emitted { log, token })
 }
 
 fn emit_all<R: Wait>(rt: &R, log: &Arc<Log>, domain: DomainId, line: &SegQueue<Emitted>) -> Option<()> {
     for number in 0..ENTRIES {
-        line.push(rt, emit_one(rt, log, domain, number)?).ok()?;
+        line.push(rt, emit_one(log, domain, number)?).ok()?;
     }
     Some(())
 }
@@ -189,15 +189,14 @@ use crate::head::head;
 use fab_types::DomainId;
 use frame_log::Log;
 use std::alloc::Global;
-use std::sync::Wait;
 use std::thread::{Threads, map_indices};
 
-fn emit_all<R: Wait>(rt: &R, log: &Log, domain: Option<DomainId>, size: usize, count: u64) -> Option<u64> {
+fn emit_all(log: &Log, domain: Option<DomainId>, size: usize, count: u64) -> Option<u64> {
     let domain = domain?;
     let bytes = [0x40; 272];
     let mut sum = 0u64;
     for number in 0..count {
-        let (_, token) = log.emit(rt, domain, number, head(), &bytes[..size.min(272)]).ok()?;
+        let (_, token) = log.emit(domain, number, head(), &bytes[..size.min(272)]).ok()?;
         let first = log.lend(&token).bytes.as_slice().first().copied();
         sum = sum.wrapping_add(u64::from(first.unwrap_or(0)));
     }
@@ -210,10 +209,10 @@ fn domain_of(place: usize) -> Option<DomainId> {
 }
 
 /// The sum of the first bytes of all packets, as so many threads emit so many of this size in all, with their log.
-pub fn sum<R: Threads + Wait + Sync>(rt: &R, alloc: Global, size: usize, threads: usize, count: u64) -> Option<(u64, Log)> {
+pub fn sum<R: Threads + Sync>(rt: &R, alloc: Global, size: usize, threads: usize, count: u64) -> Option<(u64, Log)> {
     let log = Log::new(alloc).ok()?;
     let each = count / (threads.max(1) as u64);
-    let sums = map_indices(rt, alloc, threads, &|place| emit_all(rt, &log, domain_of(place), size, each)).ok()?;
+    let sums = map_indices(rt, alloc, threads, &|place| emit_all(&log, domain_of(place), size, each)).ok()?;
     let mut sum = 0u64;
     for of_one in sums {
         sum = sum.wrapping_add(of_one?);

@@ -85,7 +85,7 @@ impl Tenants {
     }
 
     /// A port that takes packets at this place has no way for one.
-    pub fn lose(&mut self, place: Place, frame: &Frame) {
+    pub fn misroute(&mut self, place: Place, frame: &Frame) {
         let entry = self.alien(place, frame);
         self.domains[usize::from(frame.home)].journal.add(entry);
     }

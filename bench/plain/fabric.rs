@@ -113,7 +113,7 @@ impl Fabric {
         for channel in &mut self.channels {
             CLASSES.iter().for_each(|class| count.add(channel.send(*class)));
             count.add(channel.receive());
-            count.add(channel.tell());
+            count.add(channel.send_update_fc());
         }
         CLASSES.iter().for_each(|class| count.add(self.root(*class)));
         for function in 0..self.arrivals.len() {
@@ -155,9 +155,9 @@ impl Fabric {
                 let down = exit.and_then(|own| switch.exits[own].down);
                 return self.stop(port, down, input, class, status, test);
             }
-            Course::Lose => {
+            Course::Misroute => {
                 let frame = self.channels[input].take(class);
-                frame.into_iter().for_each(|frame| self.tenants.lose(place, &frame));
+                frame.into_iter().for_each(|frame| self.tenants.misroute(place, &frame));
             }
         }
         true

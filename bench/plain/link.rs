@@ -81,7 +81,7 @@ pub struct Channel {
     ingress: Queue,
     /// What the sender may still send, by class.
     left: [Credits; 3],
-    /// What the receiver freed and the sender wasn't told yet.
+    /// What the receiver freed and wasn't advertised to the sender yet.
     freed: [Credits; 3],
     has_freed: bool,
 }
@@ -120,8 +120,8 @@ impl Channel {
         true
     }
 
-    /// Tells the sender what was freed.
-    pub fn tell(&mut self) -> bool {
+    /// Sends an UpdateFC: the sender gets what was freed.
+    pub fn send_update_fc(&mut self) -> bool {
         if !self.has_freed {
             return false;
         }

@@ -50,7 +50,7 @@ pub enum Course {
     /// It ends here; if it is non-posted it is answered so.
     Stop(Status, Option<Test>),
     /// It ends here, and nobody hears of it.
-    Lose,
+    Misroute,
 }
 
 impl Switch {
@@ -86,12 +86,12 @@ impl Switch {
     pub fn downward(&self, frame: &Frame) -> Course {
         match self.holder(frame) {
             Some(exit) => self.by_exit(exit),
-            None => Course::Lose,
+            None => Course::Misroute,
         }
     }
 
     fn by_exit(&self, exit: usize) -> Course {
-        self.exits[exit].down.map_or(Course::Lose, Course::Forward)
+        self.exits[exit].down.map_or(Course::Misroute, Course::Forward)
     }
 
     /// Of a packet that came up to the exit with this number.
@@ -138,7 +138,7 @@ impl Switch {
         let Exit { controls, vector, .. } = self.exits[own];
         let controls_egress = controls & CONTROLS_EGRESS != 0;
         if controls_egress && vector >> self.exits[exit].device & 1 == 0 {
-            return self.exits[exit].down.map_or(Course::Lose, Course::Direct);
+            return self.exits[exit].down.map_or(Course::Misroute, Course::Direct);
         }
         if controls & REDIRECTS_REQUESTS != 0 {
             return Course::Forward(self.up);

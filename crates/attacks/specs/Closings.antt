@@ -38,7 +38,7 @@ closing attack own sweeps = record {
   harm = TagClosed (record { function = own.requester; page = own.page; sweeps = sweeps });
   port = attack.port;
   control = attack.control;
-  deed = attack.deed;
+  access = attack.access;
   is_translated = attack.is_translated;
   requester = attack.requester;
   page = attack.page;

@@ -8,8 +8,8 @@ use Rattle.tlp_view.specs.Requests.{packet_bytes, read_request, write_request}
 use Rattle.attacks.specs.declared.attack.Attack.{Attack}
 use Rattle.attacks.specs.declared.attack.Harm.{Harm}
 use Rattle.attacks.specs.declared.attack.Harm.TheVariants.{FrameWritten, FrameRead, RegistersWritten, RegistersRead, TagClosed, Completion, Counts, AnswersFrame, AnswersRegisters}
-use Rattle.attacks.specs.declared.attack.Deed.{Deed}
-use Rattle.attacks.specs.declared.attack.Deed.TheVariants.{Read, Write}
+use Rattle.attacks.specs.declared.attack.Access.{Access}
+use Rattle.attacks.specs.declared.attack.Access.TheVariants.{Read, Write}
 use Rattle.attacks.specs.declared.own_read.OwnRead.{OwnRead}
 
 -- what a write writes
@@ -45,12 +45,12 @@ head_at requester address address_type = record {
 abbrev pub head_of : Attack → RequestHead
 head_of attack = head_at attack.requester (address_of attack.page attack.harm) (if attack.is_translated then Translated else Untranslated)
 
-abbrev pub request_of : Deed → RequestHead → Packet
+abbrev pub request_of : Access → RequestHead → Packet
 request_of Read head = read_request head 1
 request_of Write head = write_request head payload
 
 abbrev pub packet_of : Attack → Packet
-packet_of attack = request_of attack.deed (head_of attack)
+packet_of attack = request_of attack.access (head_of attack)
 
 -- the read of the harmed domain's own that is closed, if that is the harm
 abbrev pub own_read : Harm → Option OwnRead

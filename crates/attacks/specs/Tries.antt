@@ -15,8 +15,8 @@ use Rattle.platform.specs.Owners.{first_port, is_own_function}
 use Rattle.platform.specs.Platform.{Platform}
 use Rattle.platform.specs.Share.{Share}
 use Rattle.attacks.specs.declared.attack.Attack.{Attack}
-use Rattle.attacks.specs.declared.attack.Deed.{Deed}
-use Rattle.attacks.specs.declared.attack.Deed.TheVariants.{Read, Write}
+use Rattle.attacks.specs.declared.attack.Access.{Access}
+use Rattle.attacks.specs.declared.attack.Access.TheVariants.{Read, Write}
 use Rattle.attacks.specs.declared.attack.Harm.{Harm}
 use Rattle.attacks.specs.declared.attack.Harm.TheVariants as harm
 use Rattle.attacks.specs.declared.attack.Way.{Way}
@@ -26,27 +26,27 @@ use Rattle.attacks.specs.Paths.{is_blocked, is_validated, is_validated_below, tu
 
 -- ---- what a request does in each way of harm, if anything, and the harm
 
-abbrev pub on_frame : Way → ℕ → Option (Deed × Harm)
+abbrev pub on_frame : Way → ℕ → Option (Access × Harm)
 on_frame way.FrameWritten frame = Some (Write, harm.FrameWritten frame)
 on_frame way.FrameRead frame = Some (Read, harm.FrameRead frame)
 on_frame way.AnswersReads frame = Some (Read, harm.AnswersFrame frame)
 on_frame other frame = None
 
-abbrev pub on_registers : Way → ℕ → Option (Deed × Harm)
+abbrev pub on_registers : Way → ℕ → Option (Access × Harm)
 on_registers way.RegistersWritten function = Some (Write, harm.RegistersWritten function)
 on_registers way.RegistersRead function = Some (Read, harm.RegistersRead function)
 on_registers way.AnswersReads function = Some (Read, harm.AnswersRegisters function)
 on_registers other function = None
 
 -- for a page that is mapped to this, with these rights
-abbrev pub on_mapped : Way → MapTarget → Rights → Option (Deed × Harm)
+abbrev pub on_mapped : Way → MapTarget → Rights → Option (Access × Harm)
 on_mapped way.FrameWritten (Frame frame) rights = if rights.write then Some (Write, harm.FrameWritten frame) else None
 on_mapped way.RegistersWritten (Peer function) rights = if rights.write then Some (Write, harm.RegistersWritten function) else None
 on_mapped way.Completion target rights = if rights.read then Some (Read, harm.Completion) else None
 on_mapped other target rights = None
 
 -- for a page that isn't mapped
-abbrev pub on_unmapped : Way → Option (Deed × Harm)
+abbrev pub on_unmapped : Way → Option (Access × Harm)
 on_unmapped way.Completion = Some (Read, harm.Completion)
 on_unmapped way.Counts = Some (Write, harm.Counts)
 on_unmapped other = None
@@ -54,39 +54,39 @@ on_unmapped other = None
 -- ---- the requests that do so
 
 -- the function says that the address is translated; the port would block that
-abbrev pub translated : ℕ → ℕ → ℕ → Deed × Harm → Attack
+abbrev pub translated : ℕ → ℕ → ℕ → Access × Harm → Attack
 translated port function page does = record {
   function = function;
   harm = does.1;
   port = port;
   control = TranslationBlocking;
-  deed = does.0;
+  access = does.0;
   is_translated = true;
   requester = function;
   page = page;
 }
 
 -- it goes to the page's function past the host; the port would redirect it
-abbrev pub direct : ℕ → ℕ → ℕ → Deed × Harm → Attack
+abbrev pub direct : ℕ → ℕ → ℕ → Access × Harm → Attack
 direct port function page does = record {
   function = function;
   harm = does.1;
   port = port;
   control = RequestRedirect;
-  deed = does.0;
+  access = does.0;
   is_translated = false;
   requester = function;
   page = page;
 }
 
 -- it bears an ID that isn't the function's; the port would validate that
-abbrev pub spoofed : ℕ → ℕ → ℕ → ℕ → Deed × Harm → Attack
+abbrev pub spoofed : ℕ → ℕ → ℕ → ℕ → Access × Harm → Attack
 spoofed port function requester page does = record {
   function = function;
   harm = does.1;
   port = port;
   control = SourceValidation;
-  deed = does.0;
+  access = does.0;
   is_translated = false;
   requester = requester;
   page = page;

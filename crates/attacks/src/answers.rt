@@ -4,8 +4,8 @@ ghost use Rattle.std.specs.Prelude.{◌≡◌, ◌++◌, IfOk, OnOk};
 ghost use Rattle.std.specs.Option.{option_copied};
 ghost use Rattle.attacks.specs.Tries.{answered, answered_by, reads, reads_at};
 
-use crate::attack::{Attack, Deed, Harm, Way};
-use crate::deeds::spoofed;
+use crate::accesses::spoofed;
+use crate::attack::{Access, Attack, Harm, Way};
 use crate::names::names_of;
 use crate::path::{is_validated_below, turn_of};
 use fab_types::{Bdf, PortId};
@@ -25,7 +25,13 @@ fn reads(
 {
     names
         .iter()
-        .map(|name| spoofed(port, function, *name, page, (Deed::Read, Harm::Completion)))
+        .map(|name| spoofed(
+            port,
+            function,
+            *name,
+            page,
+            (Access::Read, Harm::Completion),
+        ))
         .collect(alloc)
 }
 

@@ -62,7 +62,7 @@ pub enum Harm {
 
 /// What a request does with a page.
 #[derive(Clone, Copy, Debug, PartialEq, Eq)]
-pub enum Deed {
+pub enum Access {
     /// It reads 1 DW.
     Read,
     /// It writes 1 DW.
@@ -81,7 +81,7 @@ pub struct Attack {
     /// The control by which that port would stop it.
     pub control: Control,
     /// Whether it reads or writes.
-    pub deed: Deed,
+    pub access: Access,
     /// Does it claim that its address is translated?
     pub is_translated: bool,
     /// The Requester ID that it bears.
@@ -139,9 +139,9 @@ impl Attack {
         ensures { IfOk result (λ bytes. bytes ≡ packet_bytes (packet_of self.now)) }
     {
         let head = head_of(self);
-        let request = match self.deed {
-            Deed::Read => RequestBuf::read(head, 1),
-            Deed::Write => RequestBuf::write(head, &PAYLOAD),
+        let request = match self.access {
+            Access::Read => RequestBuf::read(head, 1),
+            Access::Write => RequestBuf::write(head, &PAYLOAD),
         };
         PacketBytes::copy_of(alloc, request.bytes())
     }

@@ -1,11 +1,11 @@
 //! What a domain may try against another, in a layout that isn't guarded: packets, and the control that lets each pass.
 #![tactic(auto)]
 
+mod accesses;
 mod answers;
 mod attack;
 mod closings;
 mod control;
-mod deeds;
 mod findings;
 mod names;
 mod own_read;
@@ -14,7 +14,7 @@ mod packet;
 mod path;
 mod requests;
 
-pub use attack::{Attack, Deed, Harm, Way};
+pub use attack::{Access, Attack, Harm, Way};
 pub use control::is_clear;
 pub use findings::{Findings, Pair, Witness};
 pub use names::own_functions;

@@ -4,8 +4,8 @@ ghost use Rattle.std.specs.Prelude.{◌≡◌, ◌==◌, ◌&&◌, IfOk, map, op
 ghost use Rattle.std.specs.List.{filter_map, list_any};
 ghost use Rattle.attacks.specs.Tries.{by_mapping, by_none, first_unmapped, in_names, is_mapped, names_of, own_ids, unmapped_page};
 
+use crate::accesses::{on_mapped, on_unmapped, spoofed};
 use crate::attack::{Attack, Way};
-use crate::deeds::{on_mapped, on_unmapped, spoofed};
 use crate::path::is_validated;
 use fab_types::{Bdf, PortId};
 use layout::Start;

@@ -4,10 +4,10 @@ ghost use Rattle.std.specs.Prelude.{◌≡◌, IfOk, Some, option_map};
 ghost use Rattle.std.specs.List.{filter_map};
 ghost use Rattle.attacks.specs.Tries.{by_address, on_frames, on_pages, past_host, requests, tries, tries_below};
 
+use crate::accesses::{direct, on_frame, on_registers, translated};
 use crate::answers::answered;
 use crate::attack::{Attack, Way};
 use crate::closings::closings;
-use crate::deeds::{direct, on_frame, on_registers, translated};
 use crate::names::in_names;
 use crate::path::{is_blocked, turn_of};
 use fab_types::{Bdf, NoMemory, PortId};

@@ -14,7 +14,6 @@ use attacks::{Attack, Harm, OwnRead, Witness, is_clear};
 use fab_types::{Bdf, DomainId, NoMemory, PacketBytes};
 use fabric_core::Fabric;
 use std::alloc::Global;
-use std::sync::Wait;
 
 /// Is the harm seen in a fabric of one who attacked, and of one who was attacked?
 fn shows(
@@ -48,8 +47,7 @@ fn submitter(attacker: DomainId, victim: DomainId, harm: &Harm) -> DomainId
 }
 
 /// Is harm seen after the packet alone?
-fn harms<R: Wait>(
-    rt: &R,
+fn harms(
     alloc: Global,
     setting: &Setting<'_>,
     attacker: DomainId,
@@ -62,7 +60,7 @@ fn harms<R: Wait>(
     let function = attack.function;
     let by = submitter(attacker, victim, &attack.harm);
     let packet = attack.bytes(alloc)?;
-    let Some(end) = ran(rt, alloc, setting, by, function, packet)? else {
+    let Some(end) = ran(alloc, setting, by, function, packet)? else {
         return Ok(false);
     };
     let bytes = attack.bytes(alloc)?;
@@ -92,8 +90,7 @@ fn is_closed_by_another(alone: &Fabric, raced: &Fabric, victim: DomainId, functi
 }
 
 /// Is the victim's read closed otherwise behind the packet than by itself?
-fn closes<R: Wait>(
-    rt: &R,
+fn closes(
     alloc: Global,
     setting: &Setting<'_>,
     attacker: DomainId,
@@ -106,11 +103,11 @@ fn closes<R: Wait>(
 {
     let by = submitter(attacker, victim, &attack.harm);
     let packet = attack.bytes(alloc)?;
-    let Some(raced) = raced(rt, alloc, setting, by, attack.function, packet, read)? else {
+    let Some(raced) = raced(alloc, setting, by, attack.function, packet, read)? else {
         return Ok(false);
     };
     let own = read.bytes(alloc)?;
-    let Some(alone) = ran(rt, alloc, setting, victim, read.function, own)? else {
+    let Some(alone) = ran(alloc, setting, victim, read.function, own)? else {
         return Ok(false);
     };
     let is_closed = is_closed_by_another(&alone, &raced, victim, read.function);
@@ -118,8 +115,7 @@ fn closes<R: Wait>(
 }
 
 /// Is harm seen: of a read that is closed by two runs, of any other by one?
-fn lands<R: Wait>(
-    rt: &R,
+fn lands(
     alloc: Global,
     setting: &Setting<'_>,
     attacker: DomainId,
@@ -130,14 +126,13 @@ fn lands<R: Wait>(
     ensures { IfOk result (λ lands. IsTried lands setting.now.layout.now (witness_by attacker victim attack.now) (own_read attack.now.harm)) }
 {
     match attack.harm.own_read() {
-        Some(read) => closes(rt, alloc, setting, attacker, victim, attack, &read),
-        None => harms(rt, alloc, setting, attacker, victim, attack),
+        Some(read) => closes(alloc, setting, attacker, victim, attack, &read),
+        None => harms(alloc, setting, attacker, victim, attack),
     }
 }
 
 /// The witness of an attack, if the attack lands.
-pub(crate) fn witness_of<R: Wait>(
-    rt: &R,
+pub(crate) fn witness_of(
     alloc: Global,
     setting: &Setting<'_>,
     attacker: DomainId,
@@ -151,7 +146,7 @@ pub(crate) fn witness_of<R: Wait>(
     if !is_clear(setting.layout.ports(), attack.port, attack.control) {
         return Ok(None);
     }
-    if !lands(rt, alloc, setting, attacker, victim, attack)? {
+    if !lands(alloc, setting, attacker, victim, attack)? {
         return Ok(None);
     }
     let bytes = attack.bytes(alloc)?;

@@ -16,7 +16,6 @@ use domain::Domain;
 use fab_types::{Bdf, DomainId, NoMemory};
 use layout::{Layout, Start};
 use std::alloc::Global;
-use std::sync::Wait;
 
 /// Says whether the domains of a layout are kept apart.
 ///
@@ -27,7 +26,7 @@ use std::sync::Wait;
 /// seen to land; where the one only answers, those of the other try. That one is told, and none where none of them lands. That there is no other attack isn't claimed.
 ///
 /// It answers `NoMemory` where memory was refused.
-pub fn audit<R: Wait>(rt: &R, alloc: Global, layout: &Layout) -> Result<Findings, NoMemory>
+pub fn audit(alloc: Global, layout: &Layout) -> Result<Findings, NoMemory>
     ensures nothing { IfOk result (λ findings. (findings ≡ NothingToKeep) ↔ (has_nothing_to_keep layout.now ≡ true)) }
     ensures guarded { IfOk result (λ findings. (findings ≡ Guarded) ↔ ((has_nothing_to_keep layout.now ≡ false) × (list_all is_guarded_port layout.now.ports ≡ true))) }
     ensures told { IfOk result (Tell layout.now) }
@@ -39,13 +38,12 @@ pub fn audit<R: Wait>(rt: &R, alloc: Global, layout: &Layout) -> Result<Findings
     if layout.is_guarded() {
         return Ok(Findings::Guarded);
     }
-    let pairs = all_pairs(rt, alloc, &setting, setting.start.domains())?;
+    let pairs = all_pairs(alloc, &setting, setting.start.domains())?;
     Ok(Findings::Unguarded(pairs))
 }
 
 /// What each of these domains was seen to do to each other.
-fn all_pairs<R: Wait>(
-    rt: &R,
+fn all_pairs(
     alloc: Global,
     setting: &Setting<'_>,
     domains: &[Domain],
@@ -55,14 +53,13 @@ fn all_pairs<R: Wait>(
 {
     let mut pairs = Vec::new(alloc);
     for attacker in domains {
-        add_pairs(rt, alloc, setting, attacker, domains, &mut pairs)?;
+        add_pairs(alloc, setting, attacker, domains, &mut pairs)?;
     }
     Ok(pairs)
 }
 
 /// Adds what the attacker was seen to do to each other of these domains.
-fn add_pairs<R: Wait>(
-    rt: &R,
+fn add_pairs(
     alloc: Global,
     setting: &Setting<'_>,
     attacker: &Domain,
@@ -73,14 +70,13 @@ fn add_pairs<R: Wait>(
     ensures { OnOk result (Adds setting.now.layout.now (couples_of domains.now attacker.now) pairs.old.items pairs.new.items) }
 {
     for victim in domains {
-        add_pair(rt, alloc, setting, attacker, victim, pairs)?;
+        add_pair(alloc, setting, attacker, victim, pairs)?;
     }
     Ok(())
 }
 
 /// Adds what the attacker was seen to do to the victim, if that is another domain.
-fn add_pair<R: Wait>(
-    rt: &R,
+fn add_pair(
     alloc: Global,
     setting: &Setting<'_>,
     attacker: &Domain,
@@ -94,14 +90,13 @@ fn add_pair<R: Wait>(
     if attacker.domain() == victim.domain() {
         return Ok(());
     }
-    let pair = pair_of(rt, alloc, setting, attacker, victim)?;
+    let pair = pair_of(alloc, setting, attacker, victim)?;
     pairs.push(pair)?;
     Ok(())
 }
 
 /// What one domain was seen to do to another.
-fn pair_of<R: Wait>(
-    rt: &R,
+fn pair_of(
     alloc: Global,
     setting: &Setting<'_>,
     attacker: &Start,
@@ -111,7 +106,7 @@ fn pair_of<R: Wait>(
     requires other { attacker.now.domain ≢ victim.now.domain }
     ensures { IfOk result (IsPairOf setting.now.layout.now attacker.now victim.now) }
 {
-    let witnesses = all_found(rt, alloc, setting, attacker, victim)?;
+    let witnesses = all_found(alloc, setting, attacker, victim)?;
     Ok(Pair {
         attacker: attacker.domain(),
         victim: victim.domain(),
@@ -136,8 +131,7 @@ fn ways() -> [Way; 8]
 }
 
 /// The first witness of each way of harm, if there is one, the worst first.
-fn all_found<R: Wait>(
-    rt: &R,
+fn all_found(
     alloc: Global,
     setting: &Setting<'_>,
     attacker: &Start,
@@ -150,14 +144,13 @@ fn all_found<R: Wait>(
     let ways = ways();
     let mut all = Vec::new(alloc);
     for way in &ways {
-        add_found(rt, alloc, setting, *way, attacker, victim, &mut all)?;
+        add_found(alloc, setting, *way, attacker, victim, &mut all)?;
     }
     Ok(all)
 }
 
 /// Adds the first witness of this way of harm, if there is one.
-fn add_found<R: Wait>(
-    rt: &R,
+fn add_found(
     alloc: Global,
     setting: &Setting<'_>,
     way: Way,
@@ -169,7 +162,7 @@ fn add_found<R: Wait>(
     requires other { attacker.now.domain ≢ victim.now.domain }
     ensures { OnOk result (AddsFound setting.now.layout.now (candidates setting.now.layout.now attacker.now victim.now way) witnesses.old.items witnesses.new.items) }
 {
-    let found = found(rt, alloc, setting, way, attacker, victim)?;
+    let found = found(alloc, setting, way, attacker, victim)?;
     add_some(witnesses, found)?;
     Ok(())
 }
@@ -208,8 +201,7 @@ fn target<'a>(way: Way, attacker: &'a Start, victim: &'a Start) -> &'a Start
 }
 
 /// The first witness of this way of harm.
-fn found<R: Wait>(
-    rt: &R,
+fn found(
     alloc: Global,
     setting: &Setting<'_>,
     way: Way,
@@ -223,14 +215,13 @@ fn found<R: Wait>(
     let (one, other) = (attacker.domain(), victim.domain());
     let own = own_functions(alloc, trier(way, attacker, victim))?;
     let target = target(way, attacker, victim);
-    let found = found_by(rt, alloc, setting, way, one, other, &own, target)?;
+    let found = found_by(alloc, setting, way, one, other, &own, target)?;
     Ok(found)
 }
 
 /// The witness of the first request of these functions against the target that lands. What a function tries is listed
 /// once nothing landed of what those before it tried.
-fn found_by<R: Wait>(
-    rt: &R,
+fn found_by(
     alloc: Global,
     setting: &Setting<'_>,
     way: Way,
@@ -245,7 +236,7 @@ fn found_by<R: Wait>(
 {
     for function in functions {
         let attacks = tries(alloc, setting.layout, way, *function, target)?;
-        let found = first_of(rt, alloc, setting, attacker, victim, &attacks)?;
+        let found = first_of(alloc, setting, attacker, victim, &attacks)?;
         if found.is_some() {
             return Ok(found);
         }
@@ -254,8 +245,7 @@ fn found_by<R: Wait>(
 }
 
 /// The witness of the first of these attacks that lands.
-fn first_of<R: Wait>(
-    rt: &R,
+fn first_of(
     alloc: Global,
     setting: &Setting<'_>,
     attacker: DomainId,
@@ -267,7 +257,7 @@ fn first_of<R: Wait>(
     ensures { IfOk result (IsFound setting.now.layout.now (map (witness_by attacker victim) attacks.now)) }
 {
     for attack in attacks {
-        if let Some(witness) = witness_of(rt, alloc, setting, attacker, victim, attack)? {
+        if let Some(witness) = witness_of(alloc, setting, attacker, victim, attack)? {
             return Ok(Some(witness));
         }
     }

@@ -16,30 +16,23 @@ use attacks::OwnRead;
 use fab_types::{Bdf, DomainId, NoMemory, Outcome, PacketBytes};
 use fabric_core::{Event, Fabric, Station};
 use std::alloc::Global;
-use std::sync::Wait;
 use sweeps::sweeps;
 
 /// The most sweeps that follow the last packet.
 const MOST_SWEEPS: u32 = 1000;
 
 /// Makes so many sweeps, or fewer, until nothing moves.
-fn come_to_rest<R: Wait>(
-    rt: &R,
-    fabric: &mut Fabric,
-    stations: &[Station],
-    most: u32,
-) -> Result<(), NoMemory>
+fn come_to_rest(fabric: &mut Fabric, stations: &[Station], most: u32) -> Result<(), NoMemory>
     requires { most ≡ 1000 }
     ensures { OnOk result (ComesToRest (flat_map events_at stations.now) fabric.old fabric.new) }
 {
-    sweeps(rt, fabric, stations, most)?;
+    sweeps(fabric, stations, most)?;
     Ok(())
 }
 
 /// Submits a packet in a fresh fabric.
 /// None where the packet is refused, or its function is not of the domain.
-fn begun<R: Wait>(
-    rt: &R,
+fn begun(
     alloc: Global,
     setting: &Setting<'_>,
     domain: DomainId,
@@ -56,7 +49,7 @@ fn begun<R: Wait>(
         return Ok(None);
     }
     let mut fabric = Fabric::new(alloc, setting.layout)?;
-    match fabric.step(rt, &event) {
+    match fabric.step(&event) {
         Outcome::Moved => Ok(Some(fabric)),
         Outcome::Refused(_) => Ok(None),
         Outcome::Idle => unreachable!(),
@@ -66,8 +59,7 @@ fn begun<R: Wait>(
 
 /// Submits a packet in a fresh fabric, and lets that come to rest.
 /// None where the packet is refused, or its function is not of the domain.
-pub(crate) fn ran<R: Wait>(
-    rt: &R,
+pub(crate) fn ran(
     alloc: Global,
     setting: &Setting<'_>,
     domain: DomainId,
@@ -79,26 +71,25 @@ pub(crate) fn ran<R: Wait>(
     ensures own { IfOk result (λ ran. IfSome ran (λ _. home (world_of setting.now.layout.now) (Submit function bytes) ≡ Some domain)) }
     ensures refused { IfOk result (λ ran. (ran ≡ None) → IsRefused setting.now.layout.now domain function bytes) }
 {
-    let Some(mut fabric) = begun(rt, alloc, setting, domain, function, bytes)? else {
+    let Some(mut fabric) = begun(alloc, setting, domain, function, bytes)? else {
         return Ok(None);
     };
-    come_to_rest(rt, &mut fabric, &setting.stations, MOST_SWEEPS)?;
+    come_to_rest(&mut fabric, &setting.stations, MOST_SWEEPS)?;
     Ok(Some(fabric))
 }
 
 /// Asks for a begin, which may be refused.
-fn ask<R: Wait>(rt: &R, fabric: &mut Fabric, event: &Event) -> Result<(), NoMemory>
+fn ask(fabric: &mut Fabric, event: &Event) -> Result<(), NoMemory>
     ensures { OnOk result ((outcome : Outcome) × StepsTo fabric.old event.now outcome fabric.new) }
 {
-    match fabric.step(rt, event) {
+    match fabric.step(event) {
         Outcome::NoMemory => Err(NoMemory),
         Outcome::Moved | Outcome::Idle | Outcome::Refused(_) => Ok(()),
     }
 }
 
 /// The same with a read that follows some sweeps later.
-pub(crate) fn raced<R: Wait>(
-    rt: &R,
+pub(crate) fn raced(
     alloc: Global,
     setting: &Setting<'_>,
     domain: DomainId,
@@ -111,12 +102,12 @@ pub(crate) fn raced<R: Wait>(
     ensures own { IfOk result (λ raced. IfSome raced (λ _. home (world_of setting.now.layout.now) (Submit function bytes) ≡ Some domain)) }
     ensures refused { IfOk result (λ raced. (raced ≡ None) → IsRefused setting.now.layout.now domain function bytes) }
 {
-    let Some(mut fabric) = begun(rt, alloc, setting, domain, function, bytes)? else {
+    let Some(mut fabric) = begun(alloc, setting, domain, function, bytes)? else {
         return Ok(None);
     };
-    sweeps(rt, &mut fabric, &setting.stations, read.sweeps)?;
+    sweeps(&mut fabric, &setting.stations, read.sweeps)?;
     let own = Event::Submit(read.function, read.bytes(alloc)?);
-    ask(rt, &mut fabric, &own)?;
-    come_to_rest(rt, &mut fabric, &setting.stations, MOST_SWEEPS)?;
+    ask(&mut fabric, &own)?;
+    come_to_rest(&mut fabric, &setting.stations, MOST_SWEEPS)?;
     Ok(Some(fabric))
 }

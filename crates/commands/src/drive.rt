@@ -18,13 +18,11 @@ use reports::write_refusal;
 use script::{Command, Line};
 use std::alloc::Global;
 use std::io::Write;
-use std::sync::Wait;
 use sweeps::{Sweeper, a_sweep_that_moves_nothing_is_the_last};
 
 /// Runs the fabric of a layout by these lines, from its start. For each begin that is refused, a line is
 /// written at once. A line's bytes go into its event, and with that they go.
-pub fn driven<'a, R: Wait, W: Write>(
-    rt: &R,
+pub fn driven<'a, W: Write>(
     alloc: Global,
     layout: &Layout,
     lines: Vec<Line>,
@@ -40,12 +38,11 @@ pub fn driven<'a, R: Wait, W: Write>(
     let _ = layout.ports();
     a_sweep_that_moves_nothing_is_the_last();
     let mut sweeper = Sweeper::new(alloc, layout)?;
-    drive_all(rt, &mut sweeper, lines, out)?;
+    drive_all(&mut sweeper, lines, out)?;
     Ok(sweeper.into_fabric())
 }
 
-fn drive_all<'a, R: Wait, W: Write>(
-    rt: &R,
+fn drive_all<'a, W: Write>(
     sweeper: &mut Sweeper,
     lines: Vec<Line>,
     out: &mut W,
@@ -54,17 +51,12 @@ fn drive_all<'a, R: Wait, W: Write>(
     ensures fault { IfErr result (λ fault. IsRunFault fault) }
 {
     for line in lines {
-        drive(rt, sweeper, line, out)?;
+        drive(sweeper, line, out)?;
     }
     Ok(())
 }
 
-fn drive<'a, R: Wait, W: Write>(
-    rt: &R,
-    sweeper: &mut Sweeper,
-    line: Line,
-    out: &mut W,
-) -> Result<(), Fault<'a>>
+fn drive<'a, W: Write>(sweeper: &mut Sweeper, line: Line, out: &mut W) -> Result<(), Fault<'a>>
     ensures ok { OnOk result (Wrote (W.contents out.old) (W.contents out.new) (Does (flat_map events_at sweeper.old.stations) line.number sweeper.old.world line.command sweeper.new.world)) }
     ensures stations { sweeper.new.stations ≡ sweeper.old.stations }
     ensures fault { IfErr result (λ fault. IsRunFault fault) }
@@ -72,18 +64,17 @@ fn drive<'a, R: Wait, W: Write>(
     let Line { number, command } = line;
     match command {
         Command::Submit(function, bytes) => {
-            begin(rt, sweeper, number, &Event::Submit(function, bytes), out)
+            begin(sweeper, number, &Event::Submit(function, bytes), out)
         }
-        Command::Tick(function) => begin(rt, sweeper, number, &Event::Tick(function), out),
+        Command::Tick(function) => begin(sweeper, number, &Event::Tick(function), out),
         Command::Mmio(domain, access) => {
-            begin(rt, sweeper, number, &Event::Mmio(domain, access), out)
+            begin(sweeper, number, &Event::Mmio(domain, access), out)
         }
-        Command::Sweep(most) => Ok(sweeper.sweeps(rt, most)?),
+        Command::Sweep(most) => Ok(sweeper.sweeps(most)?),
     }
 }
 
-fn begin<'a, R: Wait, W: Write>(
-    rt: &R,
+fn begin<'a, W: Write>(
     sweeper: &mut Sweeper,
     line: u32,
     event: &Event,
@@ -93,7 +84,7 @@ fn begin<'a, R: Wait, W: Write>(
     ensures stations { sweeper.new.stations ≡ sweeper.old.stations }
     ensures fault { IfErr result (λ fault. IsRunFault fault) }
 {
-    match sweeper.step(rt, event) {
+    match sweeper.step(event) {
         Outcome::Moved | Outcome::Idle => Ok(()),
         Outcome::Refused(fault) => Ok(write_refusal(out, line, fault)?),
         Outcome::NoMemory => Err(Fault::NoMemory),

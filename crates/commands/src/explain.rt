@@ -15,7 +15,6 @@ use findings_text::{Remarks, write_explanation};
 use inputs::{ExitStatus, Fault, FileGiver, FileTaker, layout_in, text_of};
 use std::alloc::Global;
 use std::io::Write;
-use std::sync::Wait;
 
 /// Audits the layout of a file, and writes what it is about, its tree and what was found.
 /// Before that the script of each witness goes into a file, if a folder is named. It answers how the program ends:
@@ -26,8 +25,7 @@ use std::sync::Wait;
 /// # Errors
 /// As `text_of`, then as `layout_in`; and `NoMemory` where memory is refused before the text stands ready, `Folder` where a script
 /// can't be written, `Unwritable` where the output takes no more.
-pub fn explain<'a, R: Wait, F: FileGiver, T: FileTaker, W: Write>(
-    rt: &R,
+pub fn explain<'a, F: FileGiver, T: FileTaker, W: Write>(
     alloc: Global,
     files: &F,
     asked: Explaining<'a>,
@@ -40,7 +38,7 @@ pub fn explain<'a, R: Wait, F: FileGiver, T: FileTaker, W: Write>(
     let text = text_of(files, asked.layout)?;
     let layout = layout_in(alloc, text.as_str())?;
     let remarks = Remarks::read(alloc, text.as_str())?;
-    let findings = audit(rt, alloc, &layout)?;
+    let findings = audit(alloc, &layout)?;
     write_scripts(alloc, scripts, asked.scripts, &remarks, &findings)?;
     write_explanation(alloc, out, &layout, &remarks, &findings, asked.groups)?;
     Ok(status_after(&findings, remarks.left_out_count()))

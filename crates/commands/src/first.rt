@@ -19,7 +19,6 @@ use script::{Command, Line, packet_bytes};
 use std::alloc::Global;
 use std::io;
 use std::io::Write;
-use std::sync::Wait;
 
 /// One switch, and below it one function, whose page 1 is mapped to frame 0.
 const PLATFORM: &str = "\
@@ -43,12 +42,7 @@ const SWEEPS: u32 = 1000;
 /// # Errors
 /// `ScriptLine` with line 1 where the word stands for no packet; and `NoMemory` where memory was refused, `Unwritable` where the
 /// output takes no more.
-pub fn first<'a, R: Wait, W: Write>(
-    rt: &R,
-    alloc: Global,
-    packet: &str,
-    out: &mut W,
-) -> Result<(), Fault<'a>>
+pub fn first<'a, W: Write>(alloc: Global, packet: &str, out: &mut W) -> Result<(), Fault<'a>>
     ensures printed { OnOk result (Wrote (W.contents out.old) (W.contents out.new) (Prints packet.now)) }
     ensures fault { IfErr result (λ f. (f ≡ Fault.ScriptLine 1) ⊎ IsRunFault f) }
     ensures line { IsErrOf result (Fault.ScriptLine 1) ↔ (¬ IsPacketWord packet.now) }
@@ -72,7 +66,7 @@ pub fn first<'a, R: Wait, W: Write>(
     let mut lines = Vec::with_capacity(alloc, 2)?;
     lines.push_reserved(submit);
     lines.push_reserved(sweep);
-    let fabric = driven(rt, alloc, &layout, lines, out)?;
+    let fabric = driven(alloc, &layout, lines, out)?;
     write_memory(out, fabric.domains())?;
     Ok(())
 }

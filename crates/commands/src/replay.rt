@@ -11,7 +11,6 @@ use crate::report::write_part;
 use inputs::{Fault, FileGiver, journal_of, layout_of, start_of, text_of};
 use std::alloc::Global;
 use std::io::Write;
-use std::sync::Wait;
 
 /// Replays the journal in a file from what the layout gives this domain.
 /// It writes the part of the report of the domain.
@@ -20,8 +19,7 @@ use std::sync::Wait;
 /// As `layout_of`, then as `text_of`, `start_of` and `journal_of`, then `IllegalEntry` for the first line whose entry is illegal
 /// after those before it: the first that applies; and `NoMemory` where memory was refused, `Unwritable` where the output takes no
 /// more.
-pub fn replay<'a, R: Wait, F: FileGiver, W: Write>(
-    rt: &R,
+pub fn replay<'a, F: FileGiver, W: Write>(
     alloc: Global,
     files: &F,
     layout_name: &'a str,
@@ -36,7 +34,7 @@ pub fn replay<'a, R: Wait, F: FileGiver, W: Write>(
     let text = text_of(files, journal_name)?;
     let start = start_of(alloc, &layout, number)?;
     let journal = journal_of(alloc, start.domain(), text.as_str())?;
-    let domain = journal_text::replay(rt, alloc, &start, journal.lines())?;
+    let domain = journal_text::replay(alloc, &start, journal.lines())?;
     write_part(alloc, out, &domain)?;
     Ok(())
 }

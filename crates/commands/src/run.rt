@@ -19,7 +19,6 @@ use script::Line;
 use std::alloc::Global;
 use std::io;
 use std::io::Write;
-use std::sync::Wait;
 
 /// Runs the fabric of a layout by a script.
 /// It writes the begins that were refused, and what the run ends in.
@@ -27,8 +26,7 @@ use std::sync::Wait;
 /// # Errors
 /// As `layout_of`, then as `script_of`: the first that applies; and `NoMemory` where memory was refused, `Unwritable` where the
 /// output takes no more.
-pub fn run<'a, R: Wait, F: FileGiver, W: Write>(
-    rt: &R,
+pub fn run<'a, F: FileGiver, W: Write>(
     alloc: Global,
     files: &F,
     names: Files<'a>,
@@ -39,7 +37,7 @@ pub fn run<'a, R: Wait, F: FileGiver, W: Write>(
 {
     let layout = layout_of(alloc, files, names.layout)?;
     let script = script_of(alloc, files, names.script)?;
-    let fabric = driven(rt, alloc, &layout, script.into_lines(), out)?;
+    let fabric = driven(alloc, &layout, script.into_lines(), out)?;
     write_report(alloc, out, &fabric)?;
     Ok(())
 }
@@ -49,8 +47,7 @@ pub fn run<'a, R: Wait, F: FileGiver, W: Write>(
 ///
 /// # Errors
 /// As `inputs_of`; and `NoMemory` where memory was refused, `Unwritable` where the output takes no more.
-pub fn alone<'a, R: Wait, F: FileGiver, W: Write>(
-    rt: &R,
+pub fn alone<'a, F: FileGiver, W: Write>(
     alloc: Global,
     files: &F,
     names: Files<'a>,
@@ -66,7 +63,7 @@ pub fn alone<'a, R: Wait, F: FileGiver, W: Write>(
         script,
         start,
     } = inputs;
-    let domain = replayed(rt, alloc, &layout, script.into_lines(), &start)?;
+    let domain = replayed(alloc, &layout, script.into_lines(), &start)?;
     write_part(alloc, out, &domain)?;
     Ok(())
 }
@@ -75,8 +72,7 @@ pub fn alone<'a, R: Wait, F: FileGiver, W: Write>(
 ///
 /// # Errors
 /// As `alone`.
-pub fn journal<'a, R: Wait, F: FileGiver, W: Write>(
-    rt: &R,
+pub fn journal<'a, F: FileGiver, W: Write>(
     alloc: Global,
     files: &F,
     names: Files<'a>,
@@ -92,19 +88,18 @@ pub fn journal<'a, R: Wait, F: FileGiver, W: Write>(
         script,
         start,
     } = inputs;
-    let fabric = driven(rt, alloc, &layout, script.into_lines(), &mut io::sink())?;
+    let fabric = driven(alloc, &layout, script.into_lines(), &mut io::sink())?;
     let Some(domain) = fabric.domain(start.domain()) else {
         unreachable!();
     };
     let mut text = Vec::new(alloc);
-    write_journal(rt, alloc, &mut text, domain)?;
+    write_journal(alloc, &mut text, domain)?;
     out.write_all(&text)?;
     Ok(())
 }
 
 /// The domain that the journal of a run makes of this start.
-fn replayed<'a, R: Wait>(
-    rt: &R,
+fn replayed<'a>(
     alloc: Global,
     layout: &Layout,
     lines: Vec<Line>,
@@ -114,12 +109,12 @@ fn replayed<'a, R: Wait>(
     ensures ok { IfOk result (λ domain. IsReplayed layout.now lines.items start.now domain) }
     ensures fault { IfErr result (λ fault. IsRunFault fault) }
 {
-    let fabric = driven(rt, alloc, layout, lines, &mut io::sink())?;
+    let fabric = driven(alloc, layout, lines, &mut io::sink())?;
     let number = start.domain();
     let Some(domain) = fabric.domain(number) else {
         unreachable!();
     };
-    match Domain::replay(rt, alloc, start, domain.journal()) {
+    match Domain::replay(alloc, start, domain.journal()) {
         Ok(domain) => Ok(domain),
         Err(ReplayFault::NoMemory) => Err(Fault::NoMemory),
         Err(ReplayFault::Illegal(_)) => unreachable!(),

@@ -142,19 +142,19 @@ pub update-in_range : (s : Ledger) (limits : Counters) → IsInRange s → IsUpd
 update-in_range s limits range update k = record { counter = (range k).counter; left = (update k).1; start = (range k).start }
 
 -- limits whose totals are in range are taken, and the sender then stands for them
-pub told-update : (sent limit told : Kind → ℕ) (s : Ledger) (limits : Counters) → IsInRange s → StandsFor sent limit s → Count told limits
-    → ((k : Kind) → (limit k ≤ told k) × (told k ≤ sent k + at s.start k)) → IsUpdate s limits
-told-update sent limit told s limits range stands counts grows k =
+pub advertised-update : (sent limit advertised : Kind → ℕ) (s : Ledger) (limits : Counters) → IsInRange s → StandsFor sent limit s → Count advertised limits
+    → ((k : Kind) → (limit k ≤ advertised k) × (advertised k ≤ sent k + at s.start k)) → IsUpdate s limits
+advertised-update sent limit advertised s limits range stands counts grows k =
     let left = left-totals sent limit s range stands k in
     let between = stands.in_range k in
     let further = grows k in
     let start = (range k).start in
     let halves = half k in
-    let high : told k < sent k + size_of k = omega arith in
-    let low : sent k ≤ told k = omega arith in
-    let new : distance (size_of k) (at s.credits_consumed k) (at limits k) ≡ told k - sent k =
+    let high : advertised k < sent k + size_of k = omega arith in
+    let low : sent k ≤ advertised k = omega arith in
+    let new : distance (size_of k) (at s.credits_consumed k) (at limits k) ≡ advertised k - sent k =
     ap (λ m. distance (size_of k) m (at limits k)) (stands.sent_counted k)
-    ∙ (ap (λ m. distance (size_of k) (sent k % size_of k) m) (counts k) ∙ distance-totals (size_of k) (sent k) (told k) low high) in
+    ∙ (ap (λ m. distance (size_of k) (sent k % size_of k) m) (counts k) ∙ distance-totals (size_of k) (sent k) (advertised k) low high) in
     (omega arith, omega arith)
 
 -- new limits of one class

@@ -55,7 +55,7 @@ impl Receiver {
     }
 
     /// Takes the credits of a packet back that were freed.
-    /// No sender was told of them.
+    /// They were advertised to no sender.
     pub fn reclaim(&mut self, cost: Cost)
         ensures exact { self.new ≡ record self.old { credits_allocated = uncounted self.old.credits_allocated cost } }
         ensures totals { (limit : Kind → ℕ) → Count (with_cost limit cost) self.old.credits_allocated → Count limit self.new.credits_allocated }

@@ -13,7 +13,7 @@ use fab_types::Cost;
 use std::marker::Model;
 
 /// What a sender counts of one direction of a link, in credits.
-/// It counts those that it consumed, the limit that it was last told, and the limit at the start. Between the
+/// It counts those that it consumed, the limit that was last advertised to it, and the limit at the start. Between the
 /// limit and what was sent there are never more credits than at the start, so no counter is ever misread.
 #[derive(Clone, Copy, Debug, PartialEq, Eq)]
 pub struct Sender {
@@ -77,7 +77,7 @@ impl Sender {
         self.credits_consumed = self.credits_consumed.plus(cost);
     }
 
-    /// Takes the limits that the receiver tells, if they can be its limits.
+    /// Takes the limits that the receiver advertises, if they can be its limits.
     /// They can be where for each kind they are no less than before, and no more beyond what was sent than at
     /// the start. It answers whether they can; if not, nothing changes.
     pub fn update(&mut self, limits: Limits) -> bool
@@ -86,12 +86,12 @@ impl Sender {
         ensures refused { OnFalse result (self.new ≡ self.old) }
 
         // Limits whose totals grew, and by no more than was sent, are taken.
-        ensures totals { (sent limit told : Kind → ℕ) → StandsFor sent limit self.old → Count told limits →
-            ((k : Kind) → (limit k ≤ told k) × (told k ≤ sent k + at self.old.start k)) →
-            IsTrue result × StandsFor sent told self.new }
+        ensures totals { (sent limit advertised : Kind → ℕ) → StandsFor sent limit self.old → Count advertised limits →
+            ((k : Kind) → (limit k ≤ advertised k) × (advertised k ≤ sent k + at self.old.start k)) →
+            IsTrue result × StandsFor sent advertised self.new }
     {
-        let told = limits;
-        let accepted = self.accepts(told);
+        let advertised = limits;
+        let accepted = self.accepts(advertised);
         if accepted {
             self.credit_limit = limits;
         }
@@ -159,27 +159,36 @@ fn covers(sent: Credits, limit: Credits, payload: u16) -> bool
         && payload <= sent.payload.distance_to(limit.payload)
 }
 
-/// Can `told` be the new limit of a counter, and does it leave what the old one left?
+/// Can `advertised` be the new limit of a counter, and does it leave what the old one left?
 fn accepts_counter<const SIZE: u16>(
     sent: Counter<SIZE>,
     limit: Counter<SIZE>,
     start: Counter<SIZE>,
-    told: Counter<SIZE>,
+    advertised: Counter<SIZE>,
 ) -> bool
-    ensures { IsTrue result ↔ (distance SIZE sent.entry limit.entry ≤ distance SIZE sent.entry told.entry) × (distance SIZE sent.entry told.entry ≤ start.entry) }
+    ensures { IsTrue result ↔ (distance SIZE sent.entry limit.entry ≤ distance SIZE sent.entry advertised.entry) × (distance SIZE sent.entry advertised.entry ≤ start.entry) }
 {
-    let distance = sent.distance_to(told);
+    let distance = sent.distance_to(advertised);
     sent.distance_to(limit) <= distance && distance <= start.value()
 }
 
 /// The same of both counters of a class.
-fn accepts_class(sent: Credits, limit: Credits, start: Credits, told: Credits) -> bool
+fn accepts_class(sent: Credits, limit: Credits, start: Credits, advertised: Credits) -> bool
     ensures { IsTrue result ↔
-        (distance 256 sent.headers limit.headers ≤ distance 256 sent.headers told.headers) ×
-        (distance 256 sent.headers told.headers ≤ start.headers) ×
-        (distance 4096 sent.payload limit.payload ≤ distance 4096 sent.payload told.payload) ×
-        (distance 4096 sent.payload told.payload ≤ start.payload) }
+        (distance 256 sent.headers limit.headers ≤ distance 256 sent.headers advertised.headers) ×
+        (distance 256 sent.headers advertised.headers ≤ start.headers) ×
+        (distance 4096 sent.payload limit.payload ≤ distance 4096 sent.payload advertised.payload) ×
+        (distance 4096 sent.payload advertised.payload ≤ start.payload) }
 {
-    accepts_counter(sent.headers, limit.headers, start.headers, told.headers)
-        && accepts_counter(sent.payload, limit.payload, start.payload, told.payload)
+    accepts_counter(
+        sent.headers,
+        limit.headers,
+        start.headers,
+        advertised.headers,
+    ) && accepts_counter(
+        sent.payload,
+        limit.payload,
+        start.payload,
+        advertised.payload,
+    )
 }

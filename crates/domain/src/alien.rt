@@ -15,7 +15,6 @@ use crate::entry::Entry;
 use crate::receive::Reception;
 use fab_types::{NoMemory, PacketBytes, Parties, Place};
 use frame_log::{Frame, FrameFault};
-use std::sync::Wait;
 
 /// How many entries an alien packet may lead to: its own, and those of two packets, one after another.
 const ENTRIES: usize = 3;
@@ -40,9 +39,8 @@ impl Domain {
     ghost use Rattle.domain.specs.Domains.{Makes};
 
     /// The packet was taken there. It answers `Illegal` where the machine has no such entry.
-    pub(crate) fn end_alien<R: Wait>(
+    pub(crate) fn end_alien(
         &mut self,
-        rt: &R,
         place: Place,
         sender: Parties,
         bytes: &[u8],
@@ -68,7 +66,7 @@ impl Domain {
             return Err(EntryFault::NoMemory);
         };
         let domain = self.start.domain();
-        let Ok(sent) = self.state.receive(rt, domain, bytes, reception) else {
+        let Ok(sent) = self.state.receive(domain, bytes, reception) else {
             return Err(EntryFault::NoMemory);
         };
         self.entries = entries;
@@ -83,9 +81,8 @@ impl Domain {
     /// frame, of the host or of the function that takes it, or its home. The frame that follows is the result,
     /// if one does. The packet's own frame ends here, while its number stays in flight at its home for ever. It
     /// answers `NoMemory` alone, where memory was refused; then nothing changes, and the frame is given back.
-    pub fn alien<R: Wait>(
+    pub fn alien(
         &mut self,
-        rt: &R,
         place: Place,
         frame: Frame,
         bytes: &[u8],
@@ -98,7 +95,7 @@ impl Domain {
         ensures err { OnErr result (self.new ≡ self.old) }
     {
         let sender = frame.head().parties;
-        match self.end_alien(rt, place, sender, bytes) {
+        match self.end_alien(place, sender, bytes) {
             Ok(sent) => Ok(sent),
             Err(EntryFault::Illegal) => unreachable!(),
             Err(EntryFault::NoMemory) => Err(FrameFault::NoMemory(frame)),

@@ -21,7 +21,6 @@ use domain_state::{perform, tag_to_open};
 use fab_types::{Bdf, DomainId, NoMemory, Origin, PacketBytes, Parties};
 use frame_log::Frame;
 use function::{OpenTag, OpenTags, Plan, TagUse};
-use std::sync::Wait;
 use tlp_view::{ReadPacket, RequestBuf};
 
 /// The Tag that a packet of this function opens, if it opens one.
@@ -74,9 +73,8 @@ fn open(tags: &mut OpenTags, opened: Option<OpenTag>)
 
 impl State {
     /// Emits a packet of a function, which has these bytes, and opens its Tag if it waits for a completion.
-    pub(crate) fn submit<R: Wait>(
+    pub(crate) fn submit(
         &mut self,
-        rt: &R,
         domain: DomainId,
         function: Bdf,
         packet: &ReadPacket<'_>,
@@ -93,16 +91,15 @@ impl State {
         make_room(&mut self.open_tags, &mut self.records, opened.as_ref())?;
         let frame = self
             .flight
-            .emit_read(rt, domain, Parties::Upward(function), packet, bytes)?;
+            .emit_read(domain, Parties::Upward(function), packet, bytes)?;
         open(&mut self.open_tags, opened);
         self.contents.counts.begins += 1;
         Ok(frame)
     }
 
     /// Begins by emitting this request, which opens this Tag if it waits for a completion.
-    pub(crate) fn request<R: Wait>(
+    pub(crate) fn request(
         &mut self,
-        rt: &R,
         domain: DomainId,
         parties: Parties,
         packet: &RequestBuf,
@@ -116,16 +113,15 @@ impl State {
         ensures err { OnErr result (self.new ≡ self.old) }
     {
         make_room(&mut self.open_tags, &mut self.records, opened.as_ref())?;
-        let frame = self.flight.emit_made(rt, domain, parties, packet.bytes())?;
+        let frame = self.flight.emit_made(domain, parties, packet.bytes())?;
         open(&mut self.open_tags, opened);
         self.contents.counts.begins += 1;
         Ok(frame)
     }
 
     /// A tick of this function with this plan.
-    pub(crate) fn tick<R: Wait>(
+    pub(crate) fn tick(
         &mut self,
-        rt: &R,
         domain: DomainId,
         function: Bdf,
         plan: &Plan,
@@ -140,7 +136,7 @@ impl State {
         let sent = match plan {
             Plan::Emit(packet, opened) => {
                 let parties = Parties::Upward(function);
-                Some(self.request(rt, domain, parties, packet, *opened)?)
+                Some(self.request(domain, parties, packet, *opened)?)
             }
             Plan::Nothing | Plan::Halt | Plan::Fault | Plan::Pass => {
                 self.contents.counts.begins += 1;

@@ -26,7 +26,6 @@ use frame_log::Frame;
 use function::{Functions, OpenTags, TagUse};
 use layout::Start;
 use request_handling::{Disposition, Effect, Reply};
-use std::sync::Wait;
 use tlp_view::TlpView;
 
 /// Closes the Tag that the completion of these bytes names, and keeps the record of it, which is made in its place.
@@ -76,9 +75,8 @@ fn complete_line(functions: &mut Functions, tags: &OpenTags, arriving: &Arriving
 
 impl State {
     /// Emits what answers a packet, if anything does. Where memory was refused nothing changes.
-    pub(crate) fn send<R: Wait>(
+    pub(crate) fn send(
         &mut self,
-        rt: &R,
         domain: DomainId,
         reply: Option<Reply>,
     ) -> Result<Option<Frame>, NoMemory>
@@ -91,7 +89,7 @@ impl State {
         };
         let frame = self
             .flight
-            .emit_made(rt, domain, reply.parties(), reply.bytes())?;
+            .emit_made(domain, reply.parties(), reply.bytes())?;
         Ok(Some(frame))
     }
 
@@ -112,9 +110,8 @@ impl State {
     /// Emits what answers the packet of this number, which ends so, made as a whole. Where memory was refused nothing changes.
     // (apart from `answer`, which else would clear room for such an answer for each packet that ends)
     #[cold]
-    fn send_reply<R: Wait>(
+    fn send_reply(
         &mut self,
-        rt: &R,
         start: &Start,
         number: u64,
         disposition: Disposition,
@@ -129,14 +126,13 @@ impl State {
         };
         let (memory, registers) = (&self.contents.memory, &self.contents.registers);
         let reply = disposition.reply(start, memory, registers, bytes);
-        self.send(rt, start.domain(), reply)
+        self.send(start.domain(), reply)
     }
 
     /// The same, but the data of a read's answer are lent where it is put together.
     #[tactic(auto, using(request_handling::proofs::Suiting::unanswered))]
-    fn answer<R: Wait>(
+    fn answer(
         &mut self,
-        rt: &R,
         start: &Start,
         number: u64,
         disposition: Disposition,
@@ -157,16 +153,15 @@ impl State {
         }
         let (memory, registers) = (&self.contents.memory, &self.contents.registers);
         if let Some(reply) = disposition.data_reply(start, memory, registers, bytes) {
-            return Ok(Some(self.flight.emit_data(rt, start.domain(), &reply)?));
+            return Ok(Some(self.flight.emit_data(start.domain(), &reply)?));
         }
-        self.send_reply(rt, start, number, disposition)
+        self.send_reply(start, number, disposition)
     }
 
     /// Ends the packet of this number: emits what answers it, and does what its end does. Where memory
     /// was refused, which comes only where something answers it, nothing changes.
-    pub(crate) fn conclude<R: Wait>(
+    pub(crate) fn conclude(
         &mut self,
-        rt: &R,
         start: &Start,
         number: u64,
         disposition: Disposition,
@@ -179,7 +174,7 @@ impl State {
         ensures sent { IfOk result (λ sent. (e : Emission) → item_at self.old.flight number ≡ Some e → sent ≡ option_map (descriptor_of start.now.domain (length self.old.flight)) (disposed start.now self.old e disposition).reply) }
         ensures err { OnErr result ((self.new ≡ self.old) × ((e : Emission) → item_at self.old.flight number ≡ Some e → IsSome (disposed start.now self.old e disposition).reply)) }
     {
-        let sent = self.answer(rt, start, number, disposition)?;
+        let sent = self.answer(start, number, disposition)?;
         self.perform(number, disposition.effect());
         self.flight.end(number);
         Ok(sent)

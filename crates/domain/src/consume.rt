@@ -10,7 +10,6 @@ use crate::entry::Entry;
 use fab_types::{Parties, PortId};
 use frame_log::{Frame, FrameFault};
 use request_handling::{Disposition, access_of, carriage_up, refusal_of, refusal_of_completion};
-use std::sync::Wait;
 
 /// Why an entry was not done.
 #[derive(Clone, Copy, Debug, PartialEq, Eq)]
@@ -63,9 +62,8 @@ impl Domain {
     }
 
     /// Ends a packet in flight so, by this entry.
-    fn end_by<R: Wait>(
+    fn end_by(
         &mut self,
-        rt: &R,
         entry: Entry,
         number: u64,
         disposition: Disposition,
@@ -75,7 +73,7 @@ impl Domain {
         ensures fault { IfErr result (λ fault. IsEntryFault self.old entry fault) }
         ensures err { OnErr result (self.new ≡ self.old) }
     {
-        let Ok(sent) = self.state.conclude(rt, &self.start, number, disposition) else {
+        let Ok(sent) = self.state.conclude(&self.start, number, disposition) else {
             return Err(EntryFault::NoMemory);
         };
         self.journal.push_reserved(entry);
@@ -84,11 +82,7 @@ impl Domain {
 
     /// The packet is stopped by its sender's first port. It answers `Illegal` where the machine has no
     /// such entry.
-    pub(crate) fn end_refused<R: Wait>(
-        &mut self,
-        rt: &R,
-        number: u64,
-    ) -> Result<Option<Frame>, EntryFault>
+    pub(crate) fn end_refused(&mut self, number: u64) -> Result<Option<Frame>, EntryFault>
         ensures ok { IfOk result (λ sent. Makes self.old (Refuse number) self.new sent) }
         ensures fault { IfErr result (λ fault. IsEntryFault self.old (Refuse number) fault) }
         ensures err { OnErr result (self.new ≡ self.old) }
@@ -96,15 +90,11 @@ impl Domain {
         let Some(disposition) = self.refusal_end(number) else {
             return Err(EntryFault::Illegal);
         };
-        self.end_by(rt, Entry::Refuse(number), number, disposition)
+        self.end_by(Entry::Refuse(number), number, disposition)
     }
 
     /// The packet reached its completer. It answers `Illegal` where the machine has no such entry.
-    pub(crate) fn end_carried<R: Wait>(
-        &mut self,
-        rt: &R,
-        number: u64,
-    ) -> Result<Option<Frame>, EntryFault>
+    pub(crate) fn end_carried(&mut self, number: u64) -> Result<Option<Frame>, EntryFault>
         ensures ok { IfOk result (λ sent. Makes self.old (Carry number) self.new sent) }
         ensures fault { IfErr result (λ fault. IsEntryFault self.old (Carry number) fault) }
         ensures err { OnErr result (self.new ≡ self.old) }
@@ -112,7 +102,7 @@ impl Domain {
         let Some(disposition) = self.carriage_end(number) else {
             return Err(EntryFault::Illegal);
         };
-        self.end_by(rt, Entry::Carry(number), number, disposition)
+        self.end_by(Entry::Carry(number), number, disposition)
     }
 
     /// The completion reached whom it answers. Did it close a Tag, so that a record was made? It answers
@@ -135,12 +125,7 @@ impl Domain {
     /// flight or not stopped there. `NoMemory` comes only where an answer is made and memory was refused. Then
     /// nothing changes, and the frame is given back. The port is the sender's first one, which the layout tells
     /// too.
-    pub fn refuse<R: Wait>(
-        &mut self,
-        rt: &R,
-        frame: Frame,
-        port: PortId,
-    ) -> Result<Option<Frame>, FrameFault>
+    pub fn refuse(&mut self, frame: Frame, port: PortId) -> Result<Option<Frame>, FrameFault>
         ensures ok { IfOk result (λ sent. (frame.domain ≡ (self.old.share).domain) × Makes self.old (Refuse frame.number) self.new sent) }
         ensures reply { IfOk result (λ sent. IfSome sent IsCompletion) }
         ensures fault { IfErr result (λ fault. IsRefused self.old (Refuse frame.number) frame fault) }
@@ -150,7 +135,7 @@ impl Domain {
         if frame.domain() != self.start.domain() {
             return Err(FrameFault::Stray(frame));
         }
-        match self.end_refused(rt, frame.number()) {
+        match self.end_refused(frame.number()) {
             Ok(sent) => Ok(sent),
             Err(EntryFault::Illegal) => Err(FrameFault::Stray(frame)),
             Err(EntryFault::NoMemory) => Err(FrameFault::NoMemory(frame)),
@@ -164,7 +149,7 @@ impl Domain {
     /// follows is the result. It is `Stray` where the frame is not of this domain, or its packet is not
     /// in flight or not carried. `NoMemory` comes only where something follows and memory was refused.
     /// Then nothing changes, and the frame is given back.
-    pub fn carry<R: Wait>(&mut self, rt: &R, frame: Frame) -> Result<Option<Frame>, FrameFault>
+    pub fn carry(&mut self, frame: Frame) -> Result<Option<Frame>, FrameFault>
         ensures ok { IfOk result (λ sent. (frame.domain ≡ (self.old.share).domain) × Makes self.old (Carry frame.number) self.new sent) }
         ensures fault { IfErr result (λ fault. IsRefused self.old (Carry frame.number) frame fault) }
         ensures err { OnErr result (self.new ≡ self.old) }
@@ -172,7 +157,7 @@ impl Domain {
         if frame.domain() != self.start.domain() {
             return Err(FrameFault::Stray(frame));
         }
-        match self.end_carried(rt, frame.number()) {
+        match self.end_carried(frame.number()) {
             Ok(sent) => Ok(sent),
             Err(EntryFault::Illegal) => Err(FrameFault::Stray(frame)),
             Err(EntryFault::NoMemory) => Err(FrameFault::NoMemory(frame)),

@@ -11,7 +11,6 @@ use crate::entry::Entry;
 use domain_state::{host_request, is_in_page, opened_for, register_address, size_of, tag_for};
 use fab_types::{HostAccess, MmioFault, Parties};
 use frame_log::Frame;
-use std::sync::Wait;
 
 impl Domain {
     ghost use Rattle.domain.specs.declared.entry.Entry.TheVariants.{Mmio};
@@ -57,7 +56,7 @@ impl Domain {
     /// - `Range`: the offset is no multiple of 4, the size isn't 1 to 64 whole DW, or it passes the page's end.
     /// - `NoTag`: a read, and all 32 are open.
     /// - `BudgetSpent`; or `NoMemory` where memory was refused.
-    pub fn mmio<R: Wait>(&mut self, rt: &R, access: &HostAccess) -> Result<Frame, MmioFault>
+    pub fn mmio(&mut self, access: &HostAccess) -> Result<Frame, MmioFault>
         ensures ok { IfOk result (λ frame. Makes self.old (Mmio access.now) self.new (Some frame)) }
 
         // Which refusal it is: the first that applies. Without one only memory may be refused.
@@ -75,7 +74,7 @@ impl Domain {
         let packet = host_request(domain, tag, address, &access.operation);
         let parties = Parties::Downward(access.function);
         let opened = opened_for(domain, tag, &access.operation);
-        let Ok(frame) = self.state.request(rt, domain, parties, &packet, opened) else {
+        let Ok(frame) = self.state.request(domain, parties, &packet, opened) else {
             return Err(MmioFault::NoMemory);
         };
         self.journal.push_reserved(Entry::Mmio(copy));

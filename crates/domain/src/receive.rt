@@ -10,7 +10,6 @@ use crate::state::State;
 use fab_types::{DomainId, NoMemory};
 use frame_log::Frame;
 use request_handling::Handling;
-use std::sync::Wait;
 
 /// What becomes of an alien packet: it ends like one of the domain's own, or arrives as a completion.
 #[derive(Drop)]
@@ -21,9 +20,8 @@ pub(crate) enum Reception {
 
 impl State {
     /// A packet that isn't in flight here ends so. Where memory was refused nothing changes.
-    fn end_bytes<R: Wait>(
+    fn end_bytes(
         &mut self,
-        rt: &R,
         domain: DomainId,
         bytes: &[u8],
         handling: Handling,
@@ -35,15 +33,14 @@ impl State {
         ensures err { OnErr result (self.new ≡ self.old) }
     {
         let Handling { effect, reply } = handling;
-        let sent = self.send(rt, domain, reply)?;
+        let sent = self.send(domain, reply)?;
         self.contents.perform(bytes, effect);
         Ok(sent)
     }
 
     /// An alien packet is received so. Where memory was refused nothing changes.
-    pub(crate) fn receive<R: Wait>(
+    pub(crate) fn receive(
         &mut self,
-        rt: &R,
         domain: DomainId,
         bytes: &[u8],
         reception: Reception,
@@ -57,7 +54,7 @@ impl State {
         ensures err { OnErr result (self.new ≡ self.old) }
     {
         match reception {
-            Reception::Ends(handling) => self.end_bytes(rt, domain, bytes, handling),
+            Reception::Ends(handling) => self.end_bytes(domain, bytes, handling),
             Reception::Arrives(arriving) => {
                 self.arrive(bytes, &arriving);
                 Ok(None)

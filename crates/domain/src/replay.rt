@@ -14,7 +14,7 @@ use fab_types::{MmioFault, ReplayFault, SubmitFault, TickFault};
 use frame_log::Log;
 use layout::Start;
 use std::alloc::Global;
-use std::sync::{Arc, Wait};
+use std::sync::Arc;
 
 impl Domain {
     ghost use Rattle.domain.specs.Replays.{Follows, IsFirstIllegal};
@@ -26,32 +26,32 @@ impl Domain {
     ///
     /// `Illegal` where the machine has no such entry in this state, and `NoMemory` where memory was refused.
     /// Then nothing changes.
-    pub fn apply<R: Wait>(&mut self, rt: &R, entry: &Entry) -> Result<(), EntryFault>
+    pub fn apply(&mut self, entry: &Entry) -> Result<(), EntryFault>
         ensures ok { OnOk result (Follows self.old entry.now self.new) }
         ensures err { OnErr result (self.new ≡ self.old) }
         ensures illegal { IfErr result (λ fault. fault ≡ end.Illegal → change self.old.share self.old.state entry.now ≡ None) }
     {
         match entry {
-            Entry::Submit(function, bytes) => match self.submit_bytes(rt, *function, bytes) {
+            Entry::Submit(function, bytes) => match self.submit_bytes(*function, bytes) {
                 Ok(_) => Ok(()),
                 Err(SubmitFault::NoMemory) => Err(EntryFault::NoMemory),
                 Err(_) => Err(EntryFault::Illegal),
             },
-            Entry::Tick(function) => match self.tick(rt, *function) {
+            Entry::Tick(function) => match self.tick(*function) {
                 Ok(_) => Ok(()),
                 Err(TickFault::NoMemory) => Err(EntryFault::NoMemory),
                 Err(_) => Err(EntryFault::Illegal),
             },
-            Entry::Mmio(access) => match self.mmio(rt, access) {
+            Entry::Mmio(access) => match self.mmio(access) {
                 Ok(_) => Ok(()),
                 Err(MmioFault::NoMemory) => Err(EntryFault::NoMemory),
                 Err(_) => Err(EntryFault::Illegal),
             },
-            Entry::Refuse(number) => match self.end_refused(rt, *number) {
+            Entry::Refuse(number) => match self.end_refused(*number) {
                 Ok(_) => Ok(()),
                 Err(fault) => Err(fault),
             },
-            Entry::Carry(number) => match self.end_carried(rt, *number) {
+            Entry::Carry(number) => match self.end_carried(*number) {
                 Ok(_) => Ok(()),
                 Err(fault) => Err(fault),
             },
@@ -60,7 +60,7 @@ impl Domain {
                 Err(fault) => Err(fault),
             },
             Entry::Alien(place, sender, bytes) => {
-                match self.end_alien(rt, *place, *sender, bytes.as_slice()) {
+                match self.end_alien(*place, *sender, bytes.as_slice()) {
                     Ok(_) => Ok(()),
                     Err(fault) => Err(fault),
                 }
@@ -71,12 +71,7 @@ impl Domain {
     /// The domain that a journal leaves, from its start, with a log of its own. It answers
     /// `Illegal(index)` with the first entry that is illegal after those before it, or `NoMemory`
     /// where memory was refused.
-    pub fn replay<R: Wait>(
-        rt: &R,
-        alloc: Global,
-        start: &Start,
-        entries: &[Entry],
-    ) -> Result<Domain, ReplayFault>
+    pub fn replay(alloc: Global, start: &Start, entries: &[Entry]) -> Result<Domain, ReplayFault>
         ensures state { IfOk result (λ domain. replay start.now entries.now ≡ Some domain.state) }
         ensures journal { IfOk result (λ domain. (domain.journal ≡ entries.now) × (domain.share ≡ start.now)) }
 
@@ -94,7 +89,7 @@ impl Domain {
             return Err(ReplayFault::NoMemory);
         };
         for (i, entry) in entries.iter().enumerate() {
-            match domain.apply(rt, entry) {
+            match domain.apply(entry) {
                 Ok(()) => {}
                 Err(EntryFault::Illegal) => return Err(ReplayFault::Illegal(i)),
                 Err(EntryFault::NoMemory) => return Err(ReplayFault::NoMemory),

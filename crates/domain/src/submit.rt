@@ -13,7 +13,6 @@ use crate::entry::Entry;
 use domain_state::{completes, tag_to_open};
 use fab_types::{Bdf, Origin, PacketBytes, SubmitFault};
 use frame_log::Frame;
-use std::sync::Wait;
 use tlp_view::ReadPacket;
 
 impl Domain {
@@ -53,9 +52,8 @@ impl Domain {
     }
 
     /// The packet emits its frame and enters the journal. No refusal applies to it.
-    fn accept<R: Wait>(
+    fn accept(
         &mut self,
-        rt: &R,
         function: Bdf,
         packet: &ReadPacket<'_>,
         bytes: PacketBytes,
@@ -71,7 +69,7 @@ impl Domain {
             return Err(SubmitFault::NoMemory);
         };
         let domain = self.start.domain();
-        let Ok(frame) = self.state.submit(rt, domain, function, packet, logged) else {
+        let Ok(frame) = self.state.submit(domain, function, packet, logged) else {
             return Err(SubmitFault::NoMemory);
         };
         self.journal.push_reserved(Entry::Submit(function, bytes));
@@ -82,12 +80,7 @@ impl Domain {
     /// The packet may be malformed. A well-formed non-posted request opens its Tag. It is refused with the
     /// first fault that applies: `NoFunction`, `TooLong`, `Completion`, `TagBusy`, `BudgetSpent`; or `NoMemory`
     /// where memory was refused. Then nothing changes.
-    pub fn submit<R: Wait>(
-        &mut self,
-        rt: &R,
-        function: Bdf,
-        bytes: &[u8],
-    ) -> Result<Frame, SubmitFault>
+    pub fn submit(&mut self, function: Bdf, bytes: &[u8]) -> Result<Frame, SubmitFault>
         ensures ok { IfOk result (λ frame. Makes self.old (Submit function bytes.now) self.new (Some frame)) }
 
         // Which refusal it is: the first that applies. Without one only memory may be refused.
@@ -103,18 +96,13 @@ impl Domain {
         let Ok(copy) = PacketBytes::shared_copy(alloc, bytes) else {
             return Err(SubmitFault::NoMemory);
         };
-        self.accept(rt, function, &packet, copy)
+        self.accept(function, &packet, copy)
     }
 
     /// A function of this domain submits a packet of bytes that the journal and the log share, where they are made for that.
     /// It does what `submit` does, and is refused as that is: with the first fault that applies of `NoFunction`, `TooLong`,
     /// `Completion`, `TagBusy` and `BudgetSpent`, or with `NoMemory` where memory was refused. Then nothing changes.
-    pub fn submit_bytes<R: Wait>(
-        &mut self,
-        rt: &R,
-        function: Bdf,
-        bytes: &PacketBytes,
-    ) -> Result<Frame, SubmitFault>
+    pub fn submit_bytes(&mut self, function: Bdf, bytes: &PacketBytes) -> Result<Frame, SubmitFault>
         ensures ok { IfOk result (λ frame. Makes self.old (Submit function bytes.now) self.new (Some frame)) }
 
         // Which refusal it is: the first that applies. Without one only memory may be refused.
@@ -130,6 +118,6 @@ impl Domain {
         let Ok(clone) = bytes.try_clone(alloc) else {
             return Err(SubmitFault::NoMemory);
         };
-        self.accept(rt, function, &packet, clone)
+        self.accept(function, &packet, clone)
     }
 }

@@ -11,7 +11,6 @@ use crate::domain::Domain;
 use crate::entry::Entry;
 use fab_types::{Bdf, TickFault};
 use frame_log::Frame;
-use std::sync::Wait;
 
 impl Domain {
     ghost use Rattle.domain.specs.declared.entry.Entry.TheVariants.{Tick};
@@ -34,7 +33,7 @@ impl Domain {
     /// It does so if it runs; a tick in which nothing happens is a begin too. The frame is that of the request
     /// which the line sends, if it sends one. It is refused with the first fault that applies: `NoFunction`,
     /// `BudgetSpent`; or `NoMemory` where memory was refused to a line that sends. Then nothing changes.
-    pub fn tick<R: Wait>(&mut self, rt: &R, function: Bdf) -> Result<Option<Frame>, TickFault>
+    pub fn tick(&mut self, function: Bdf) -> Result<Option<Frame>, TickFault>
         ensures ok { IfOk result (λ sent. Makes self.old (Tick function) self.new sent) }
 
         // Which refusal it is: the first that applies. Without one only memory may be refused.
@@ -51,7 +50,7 @@ impl Domain {
         let Some(plan) = &planned else {
             unreachable!();
         };
-        let Ok(sent) = self.state.tick(rt, self.start.domain(), function, plan) else {
+        let Ok(sent) = self.state.tick(self.start.domain(), function, plan) else {
             return Err(TickFault::NoMemory);
         };
         self.journal.push_reserved(Entry::Tick(function));

@@ -13,7 +13,7 @@ use frame_log::{Frame, Log, Token};
 use request_handling::{DataReply, head_of, well_formed_head};
 use std::alloc::Global;
 use std::marker::Model;
-use std::sync::{Arc, Wait};
+use std::sync::Arc;
 use tlp_view::ReadPacket;
 
 /// How many numbers may have no slot.
@@ -108,9 +108,8 @@ impl Flight {
     }
 
     /// Puts a packet with this head and these bytes into flight under the next number.
-    fn put<R: Wait>(
+    fn put(
         &mut self,
-        rt: &R,
         domain: DomainId,
         parties: Parties,
         head: Head,
@@ -127,7 +126,7 @@ impl Flight {
     {
         self.slots.reserve(1)?;
         let number = self.made();
-        let (frame, token) = self.log.emit_bytes(rt, domain, number, head, bytes)?;
+        let (frame, token) = self.log.emit_bytes(domain, number, head, bytes)?;
         self.slots.push_reserved(Some(InFlight {
             parties,
             is_well_formed,
@@ -138,9 +137,8 @@ impl Flight {
     }
 
     /// Puts a packet of well-formed bytes into flight. Where memory was refused nothing is in flight that was not before.
-    fn emit_well_formed<R: Wait>(
+    fn emit_well_formed(
         &mut self,
-        rt: &R,
         domain: DomainId,
         parties: Parties,
         bytes: PacketBytes,
@@ -154,14 +152,13 @@ impl Flight {
     {
         let these = parties;
         let head = well_formed_head(these, bytes.as_slice());
-        self.put(rt, domain, parties, head, true, bytes)
+        self.put(domain, parties, head, true, bytes)
     }
 
     /// Emits a packet that the domain itself makes, well formed and of at most 272 bytes, under the next number. Where
     /// memory was refused nothing is in flight that was not before.
-    pub fn emit_made<R: Wait>(
+    pub fn emit_made(
         &mut self,
-        rt: &R,
         domain: DomainId,
         parties: Parties,
         bytes: &[u8],
@@ -174,28 +171,22 @@ impl Flight {
         ensures err { OnErr result (self.new ≡ self.old) }
     {
         let copy = PacketBytes::copy_of(*self.slots.allocator(), bytes)?;
-        self.emit_well_formed(rt, domain, parties, copy)
+        self.emit_well_formed(domain, parties, copy)
     }
 
     /// The same of an answer whose data are lent: its bytes are put together here.
-    pub fn emit_data<R: Wait>(
-        &mut self,
-        rt: &R,
-        domain: DomainId,
-        reply: &DataReply<'_>,
-    ) -> Result<Frame, NoMemory>
+    pub fn emit_data(&mut self, domain: DomainId, reply: &DataReply<'_>) -> Result<Frame, NoMemory>
         ensures flight { IfOk result (λ _. self.new ≡ self.old ++ Some reply.now ∷ []) }
         ensures frame { IfOk result (λ frame. frame ≡ descriptor_of domain (length self.old) reply.now) }
         ensures err { OnErr result (self.new ≡ self.old) }
     {
         let bytes = reply.bytes(*self.slots.allocator())?;
-        self.emit_well_formed(rt, domain, reply.parties(), bytes)
+        self.emit_well_formed(domain, reply.parties(), bytes)
     }
 
     /// The same of a packet of others, well formed or not, that was read already and whose bytes need no copy.
-    pub fn emit_read<R: Wait>(
+    pub fn emit_read(
         &mut self,
-        rt: &R,
         domain: DomainId,
         parties: Parties,
         packet: &ReadPacket<'_>,
@@ -210,7 +201,7 @@ impl Flight {
     {
         let these = parties;
         let head = head_of(these, packet);
-        self.put(rt, domain, parties, head, packet.is_well_formed(), bytes)
+        self.put(domain, parties, head, packet.is_well_formed(), bytes)
     }
 
     /// How many packets were emitted, which is the number of the next one.

@@ -8,7 +8,7 @@ ghost use Rattle.fab_types.specs.declared.faults.begin.SubmitFault.{SubmitFault}
 ghost use Rattle.fab_types.specs.declared.faults.begin.TickFault.{TickFault};
 ghost use Rattle.fab_types.specs.declared.faults.begin.MmioFault.{MmioFault};
 ghost use Rattle.frame_log.specs.Descriptor.{Descriptor};
-ghost use Rattle.port_queue.specs.Leaving.{has};
+ghost use Rattle.port_queue.specs.EligibleClasses.{has};
 ghost use Rattle.lane.specs.Lanes.{Class, eligible};
 ghost use Rattle.domains.specs.Domains.{Emits, IsGivenBack, IsStray, domain_at, made, made_at, mmio_refusal, place_of, place_of_function, submit_refusal, tick_refusal};
 ghost use Rattle.domains.specs.Agents.{AreFound, AreReplayed, accessed, carried_at, carried_by_function, carried_by_host, IsSettled, delivered, agents_of, is_function_of, submitted, taken_from, ticked, waiting_of};
@@ -26,10 +26,9 @@ use frame_log::{Frame, FrameFault};
 use lane::Desk;
 use layout::Layout;
 use outboxes::Outboxes;
-use port_queue::LeavingClasses;
+use port_queue::EligibleClasses;
 use std::alloc::Global;
 use std::marker::Model;
-use std::sync::Wait;
 
 /// The domains of a fabric, and an outbox of each of their functions and hosts.
 /// Each outbox has a place for each packet that may ever be put into it. A contract sees an `AgentsView`.
@@ -86,26 +85,21 @@ impl Agents {
     }
 
     /// A function submits a packet, which waits in its outbox.
-    pub fn submit<R: Wait>(
-        &mut self,
-        rt: &R,
-        function: Bdf,
-        bytes: &PacketBytes,
-    ) -> Result<(), SubmitFault>
+    pub fn submit(&mut self, function: Bdf, bytes: &PacketBytes) -> Result<(), SubmitFault>
         ensures ok { OnOk result (submitted self.old function bytes.now ≡ Some self.new) }
         // Which refusal it is: the first that applies. Without one only memory may be refused.
         ensures refused { (fault : SubmitFault) → submit_refusal self.old.domains function bytes.now ≡ Some fault → result ≡ Err fault }
         ensures accepted { submit_refusal self.old.domains function bytes.now ≡ None → IsOkUnless result SubmitFault.NoMemory }
         ensures err { OnErr result (self.new ≡ self.old) }
     {
-        let frame = self.domains.submit(rt, function, bytes)?;
+        let frame = self.domains.submit(function, bytes)?;
         self.outboxes.put(Origin::Function(function), frame);
         Ok(())
     }
 
     /// The program of a function does its next line.
     /// What it sends, if anything, waits in the function's outbox.
-    pub fn tick<R: Wait>(&mut self, rt: &R, function: Bdf) -> Result<(), TickFault>
+    pub fn tick(&mut self, function: Bdf) -> Result<(), TickFault>
         ensures ok { OnOk result (ticked self.old function ≡ Some self.new) }
         ensures refused { (fault : TickFault) → tick_refusal self.old.domains function ≡ Some fault → result ≡ Err fault }
         ensures accepted { tick_refusal self.old.domains function ≡ None → IsOkUnless result TickFault.NoMemory }
@@ -113,7 +107,7 @@ impl Agents {
         ensures memory { result ≡ Err TickFault.NoMemory → Emits (made_at self.old.domains (Tick function) (place_of_function self.old.domains function)) }
         ensures err { OnErr result (self.new ≡ self.old) }
     {
-        if let Some(sent) = self.domains.tick(rt, function)? {
+        if let Some(sent) = self.domains.tick(function)? {
             self.outboxes.put(Origin::Function(function), sent);
         }
         Ok(())
@@ -121,32 +115,27 @@ impl Agents {
 
     /// The host of a domain reads or writes the register page of a function.
     /// The request waits in the host's outbox.
-    pub fn mmio<R: Wait>(
-        &mut self,
-        rt: &R,
-        domain: DomainId,
-        access: &HostAccess,
-    ) -> Result<(), MmioFault>
+    pub fn mmio(&mut self, domain: DomainId, access: &HostAccess) -> Result<(), MmioFault>
         ensures ok { OnOk result (accessed self.old domain access.now ≡ Some self.new) }
         ensures refused { (fault : MmioFault) → mmio_refusal self.old.domains domain access.now ≡ Some fault → result ≡ Err fault }
         ensures accepted { mmio_refusal self.old.domains domain access.now ≡ None → IsOkUnless result MmioFault.NoMemory }
         ensures err { OnErr result (self.new ≡ self.old) }
     {
-        let request = self.domains.mmio(rt, domain, access)?;
+        let request = self.domains.mmio(domain, access)?;
         self.outboxes.put(Origin::Host(domain), request);
         Ok(())
     }
 
     /// The host takes a request of its home.
     /// What answers it, if anything, waits in the host's outbox.
-    pub fn carry_by_host<R: Wait>(&mut self, rt: &R, frame: Frame) -> Result<(), FrameFault>
+    pub fn carry_by_host(&mut self, frame: Frame) -> Result<(), FrameFault>
         ensures ok { OnOk result (carried_by_host self.old frame ≡ Some self.new) }
         ensures fault { IfErr result (λ fault. IsGivenBack (made self.old.domains frame.domain (Carry frame.number)) frame fault) }
         ensures stray { carried_by_host self.old frame ≡ None → result ≡ Err (FrameFault.Stray frame) }
         ensures err { OnErr result (self.new ≡ self.old) }
     {
         let domain = frame.domain();
-        if let Some(answer) = self.domains.carry(rt, frame)? {
+        if let Some(answer) = self.domains.carry(frame)? {
             self.outboxes.put(Origin::Host(domain), answer);
         }
         Ok(())
@@ -155,12 +144,7 @@ impl Agents {
     /// A function takes a request of its own domain.
     /// What answers it, if anything, waits in the function's outbox. `Stray` where the function is not one of
     /// the request's home.
-    pub fn carry_by_function<R: Wait>(
-        &mut self,
-        rt: &R,
-        function: Bdf,
-        frame: Frame,
-    ) -> Result<(), FrameFault>
+    pub fn carry_by_function(&mut self, function: Bdf, frame: Frame) -> Result<(), FrameFault>
         ensures ok { OnOk result (carried_by_function self.old function frame ≡ Some self.new) }
         ensures fault { IfErr result (λ fault. IsGivenBack (carried_at self.old.domains function frame) frame fault) }
         ensures stray { carried_by_function self.old function frame ≡ None → result ≡ Err (FrameFault.Stray frame) }
@@ -169,7 +153,7 @@ impl Agents {
         if !self.is_function_of(function, frame.domain()) {
             return Err(FrameFault::Stray(frame));
         }
-        if let Some(answer) = self.domains.carry(rt, frame)? {
+        if let Some(answer) = self.domains.carry(frame)? {
             self.outboxes.put(Origin::Function(function), answer);
         }
         Ok(())
@@ -203,7 +187,7 @@ impl Agents {
     }
 
     /// Does no packet wait in the outbox of this origin? So it is too where there is no such outbox.
-    pub fn has_none_waiting(&self, origin: Origin) -> bool
+    pub fn is_outbox_empty(&self, origin: Origin) -> bool
         ensures { result ≡ (length (waiting_of self.now.outboxes origin) == 0) }
     {
         self.outboxes.is_empty(origin)
@@ -226,10 +210,10 @@ impl Agents {
     }
 
     /// Of which classes a packet may leave an origin's outbox (PCIe 4.0, 2.4.1).
-    pub fn leaving(&self, origin: Origin) -> LeavingClasses
+    pub fn eligible_classes(&self, origin: Origin) -> EligibleClasses
         ensures { (class : Class) → has result class ≡ is_some (eligible class (waiting_of self.now.outboxes origin)) }
     {
-        self.outboxes.leaving(origin)
+        self.outboxes.eligible_classes(origin)
     }
 
     /// The domain that made the eligible packet of a class that an origin has waiting.

@@ -11,7 +11,6 @@ use crate::places::place_of;
 use domain::{Domain, copied};
 use fab_types::{DomainId, Parties, Place};
 use frame_log::{Frame, FrameFault};
-use std::sync::Wait;
 
 /// The bytes that its home has in flight under a packet's number.
 fn flown(domains: &[Domain], domain: DomainId, number: u64) -> Option<&[u8]>
@@ -23,8 +22,7 @@ fn flown(domains: &[Domain], domain: DomainId, number: u64) -> Option<&[u8]>
 }
 
 /// The domain at this place of the list gets a packet of these bytes.
-fn taken_at<R: Wait>(
-    rt: &R,
+fn taken_at(
     domains: &mut [Domain],
     at: usize,
     place: Place,
@@ -41,13 +39,12 @@ fn taken_at<R: Wait>(
     if !domains[at].has_alien(there, bytes) {
         return Err(FrameFault::Stray(frame));
     }
-    domains[at].alien(rt, place, frame, bytes)
+    domains[at].alien(place, frame, bytes)
 }
 
 /// The domain at this place of the list, if there is one, gets the packet.
 /// It gets it with the bytes that its home has in flight.
-pub(crate) fn alien_at<R: Wait>(
-    rt: &R,
+pub(crate) fn alien_at(
     domains: &mut [Domain],
     at: Option<usize>,
     place: Place,
@@ -67,7 +64,7 @@ pub(crate) fn alien_at<R: Wait>(
     };
     // a copy, for their home may be the domain that changes
     let bytes = copied(bytes);
-    taken_at(rt, domains, at, place, frame, bytes.as_slice())
+    taken_at(domains, at, place, frame, bytes.as_slice())
 }
 
 /// Would the entry of a packet of these bytes, in the domain at this place of the list, emit another?

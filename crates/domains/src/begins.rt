@@ -13,11 +13,9 @@ ghost use Rattle.domains.specs.Domains.{Emits, made_at, mmio_refusal_by, submit_
 use domain::Domain;
 use fab_types::{Bdf, HostAccess, MmioFault, PacketBytes, SubmitFault, TickFault};
 use frame_log::Frame;
-use std::sync::Wait;
 
 /// A function of the domain at this place submits a packet.
-pub(crate) fn submit_at<R: Wait>(
-    rt: &R,
+pub(crate) fn submit_at(
     domains: &mut [Domain],
     place: usize,
     function: Bdf,
@@ -30,12 +28,11 @@ pub(crate) fn submit_at<R: Wait>(
     ensures err { OnErr result (domains.new ≡ domains.old) }
     ensures places { (origin : Origin) → place_of_origin domains.new origin ≡ place_of_origin domains.old origin }
 {
-    domains[place].submit_bytes(rt, function, bytes)
+    domains[place].submit_bytes(function, bytes)
 }
 
 /// The program of a function of the domain at this place has a tick.
-pub(crate) fn tick_at<R: Wait>(
-    rt: &R,
+pub(crate) fn tick_at(
     domains: &mut [Domain],
     place: usize,
     function: Bdf,
@@ -48,12 +45,11 @@ pub(crate) fn tick_at<R: Wait>(
     ensures err { OnErr result (domains.new ≡ domains.old) }
     ensures places { (origin : Origin) → place_of_origin domains.new origin ≡ place_of_origin domains.old origin }
 {
-    domains[place].tick(rt, function)
+    domains[place].tick(function)
 }
 
 /// The host of the domain at this place reads or writes a register page.
-pub(crate) fn mmio_at<R: Wait>(
-    rt: &R,
+pub(crate) fn mmio_at(
     domains: &mut [Domain],
     place: usize,
     access: &HostAccess,
@@ -65,5 +61,5 @@ pub(crate) fn mmio_at<R: Wait>(
     ensures err { OnErr result (domains.new ≡ domains.old) }
     ensures places { (origin : Origin) → place_of_origin domains.new origin ≡ place_of_origin domains.old origin }
 {
-    domains[place].mmio(rt, access)
+    domains[place].mmio(access)
 }

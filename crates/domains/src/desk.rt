@@ -4,7 +4,6 @@ use crate::domains::Domains;
 use fab_types::PortId;
 use frame_log::{Frame, FrameFault};
 use lane::Desk;
-use std::sync::Wait;
 
 impl Desk for Domains {
     ghost use Rattle.std.specs.Prelude.{◌≡◌, List, None, Some};
@@ -22,12 +21,7 @@ impl Desk for Domains {
 
     ghost wants = { λ known frame port. Emits (made known frame.domain (Refuse frame.number)) };
 
-    fn refuse<W: Wait>(
-        &mut self,
-        rt: &W,
-        frame: Frame,
-        port: PortId,
-    ) -> Result<Option<Frame>, FrameFault> {
-        self.refuse(rt, frame, port)
+    fn refuse(&mut self, frame: Frame, port: PortId) -> Result<Option<Frame>, FrameFault> {
+        self.refuse(frame, port)
     }
 }

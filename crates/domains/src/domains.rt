@@ -26,7 +26,6 @@ use layout::Layout;
 use outboxes::OriginIndex;
 use std::alloc::Global;
 use std::marker::Model;
-use std::sync::Wait;
 
 /// The domains of a fabric, each that owns a port, by rising number. A contract sees the list of them.
 #[derive(Drop)]
@@ -104,12 +103,7 @@ impl Domains {
     }
 
     /// A function submits a packet, in its own domain.
-    pub fn submit<R: Wait>(
-        &mut self,
-        rt: &R,
-        function: Bdf,
-        bytes: &PacketBytes,
-    ) -> Result<Frame, SubmitFault>
+    pub fn submit(&mut self, function: Bdf, bytes: &PacketBytes) -> Result<Frame, SubmitFault>
         ensures ok { IfOk result (λ frame. made_at self.old (Submit function bytes.now) (place_of_function self.old function) ≡ Some (record { domains = self.new; sent = Some frame })) }
 
         // Which refusal it is: the first that applies. Without one only memory may be refused.
@@ -118,13 +112,13 @@ impl Domains {
         ensures err { OnErr result (self.new ≡ self.old) }
     {
         match self.home(function) {
-            Some(place) => submit_at(rt, &mut self.domains, place, function, bytes),
+            Some(place) => submit_at(&mut self.domains, place, function, bytes),
             None => Err(SubmitFault::NoFunction),
         }
     }
 
     /// The program of a function does its next line, in its own domain.
-    pub fn tick<R: Wait>(&mut self, rt: &R, function: Bdf) -> Result<Option<Frame>, TickFault>
+    pub fn tick(&mut self, function: Bdf) -> Result<Option<Frame>, TickFault>
         ensures ok { IfOk result (λ sent. made_at self.old (Tick function) (place_of_function self.old function) ≡ Some (record { domains = self.new; sent = sent })) }
 
         // Which refusal it is: the first that applies. Without one only memory may be refused.
@@ -135,18 +129,13 @@ impl Domains {
         ensures err { OnErr result (self.new ≡ self.old) }
     {
         match self.home(function) {
-            Some(place) => tick_at(rt, &mut self.domains, place, function),
+            Some(place) => tick_at(&mut self.domains, place, function),
             None => Err(TickFault::NoFunction),
         }
     }
 
     /// The host of this domain reads or writes the register page of a function.
-    pub fn mmio<R: Wait>(
-        &mut self,
-        rt: &R,
-        domain: DomainId,
-        access: &HostAccess,
-    ) -> Result<Frame, MmioFault>
+    pub fn mmio(&mut self, domain: DomainId, access: &HostAccess) -> Result<Frame, MmioFault>
         ensures ok { IfOk result (λ frame. made self.old domain (Mmio access.now) ≡ Some (record { domains = self.new; sent = Some frame })) }
 
         // Which refusal it is: the first that applies. Without one only memory may be refused.
@@ -155,18 +144,13 @@ impl Domains {
         ensures err { OnErr result (self.new ≡ self.old) }
     {
         match self.place(domain) {
-            Some(place) => mmio_at(rt, &mut self.domains, place, access),
+            Some(place) => mmio_at(&mut self.domains, place, access),
             None => Err(MmioFault::NotYours),
         }
     }
 
     /// A packet is stopped by its sender's first port.
-    pub fn refuse<R: Wait>(
-        &mut self,
-        rt: &R,
-        frame: Frame,
-        port: PortId,
-    ) -> Result<Option<Frame>, FrameFault>
+    pub fn refuse(&mut self, frame: Frame, port: PortId) -> Result<Option<Frame>, FrameFault>
         ensures ok { IfOk result (λ sent. made self.old frame.domain (Refuse frame.number) ≡ Some (record { domains = self.new; sent = sent })) }
         ensures reply { IfOk result (λ sent. IfSome sent IsCompletion) }
         ensures fault { IfErr result (λ fault. IsGivenBack (made self.old frame.domain (Refuse frame.number)) frame fault) }
@@ -174,20 +158,20 @@ impl Domains {
         ensures err { OnErr result (self.new ≡ self.old) }
     {
         match self.place(frame.domain()) {
-            Some(place) => refuse_at(rt, &mut self.domains, place, frame, port),
+            Some(place) => refuse_at(&mut self.domains, place, frame, port),
             None => Err(FrameFault::Stray(frame)),
         }
     }
 
     /// A packet reached its completer.
-    pub fn carry<R: Wait>(&mut self, rt: &R, frame: Frame) -> Result<Option<Frame>, FrameFault>
+    pub fn carry(&mut self, frame: Frame) -> Result<Option<Frame>, FrameFault>
         ensures ok { IfOk result (λ sent. made self.old frame.domain (Carry frame.number) ≡ Some (record { domains = self.new; sent = sent })) }
         ensures fault { IfErr result (λ fault. IsGivenBack (made self.old frame.domain (Carry frame.number)) frame fault) }
         ensures stray { made self.old frame.domain (Carry frame.number) ≡ None → result ≡ Err (FrameFault.Stray frame) }
         ensures err { OnErr result (self.new ≡ self.old) }
     {
         match self.place(frame.domain()) {
-            Some(place) => carry_at(rt, &mut self.domains, place, frame),
+            Some(place) => carry_at(&mut self.domains, place, frame),
             None => Err(FrameFault::Stray(frame)),
         }
     }
@@ -210,9 +194,8 @@ impl Domains {
     /// number gets the entry, with the bytes that the packet's home has in flight. The packet's own frame ends
     /// here, while its number stays in flight at its home. It is `Stray` where there is no such entry. Memory
     /// may be refused to any such entry.
-    pub fn alien<R: Wait>(
+    pub fn alien(
         &mut self,
-        rt: &R,
         number: DomainId,
         place: Place,
         frame: Frame,
@@ -223,7 +206,7 @@ impl Domains {
         ensures err { OnErr result (self.new ≡ self.old) }
     {
         let at = self.place(number);
-        alien_at(rt, &mut self.domains, at, place, frame)
+        alien_at(&mut self.domains, at, place, frame)
     }
 
     /// May the domain of this number have the entry of this packet?

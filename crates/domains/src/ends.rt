@@ -10,11 +10,9 @@ ghost use Rattle.domains.specs.Domains.{IsGivenBack, IsHome, IsStray, made_at};
 use domain::Domain;
 use fab_types::PortId;
 use frame_log::{Frame, FrameFault};
-use std::sync::Wait;
 
 /// A packet of the domain at this place is stopped by its sender's first port.
-pub(crate) fn refuse_at<R: Wait>(
-    rt: &R,
+pub(crate) fn refuse_at(
     domains: &mut [Domain],
     place: usize,
     frame: Frame,
@@ -28,12 +26,11 @@ pub(crate) fn refuse_at<R: Wait>(
     ensures err { OnErr result (domains.new ≡ domains.old) }
     ensures places { (origin : Origin) → place_of_origin domains.new origin ≡ place_of_origin domains.old origin }
 {
-    domains[place].refuse(rt, frame, port)
+    domains[place].refuse(frame, port)
 }
 
 /// A packet of the domain at this place reached its completer.
-pub(crate) fn carry_at<R: Wait>(
-    rt: &R,
+pub(crate) fn carry_at(
     domains: &mut [Domain],
     place: usize,
     frame: Frame,
@@ -45,7 +42,7 @@ pub(crate) fn carry_at<R: Wait>(
     ensures err { OnErr result (domains.new ≡ domains.old) }
     ensures places { (origin : Origin) → place_of_origin domains.new origin ≡ place_of_origin domains.old origin }
 {
-    domains[place].carry(rt, frame)
+    domains[place].carry(frame)
 }
 
 /// A completion of the domain at this place reached whom it answers.

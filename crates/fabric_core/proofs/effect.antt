@@ -1,6 +1,6 @@
 -- What the calls of a fabric do is what `effect` says of each event.
 pub mod Answered
-pub mod LostAnswers
+pub mod MisroutedAnswers
 pub mod Courses
 pub mod Outputs
 pub mod Room

@@ -13,7 +13,7 @@ pub mod Sent
 pub mod OnLinks
 pub mod Taking
 pub mod Turns
-pub mod Losses
+pub mod Misroutes
 pub mod AtHost
 pub mod AtFunctions
 pub mod Begins

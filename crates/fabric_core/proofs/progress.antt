@@ -9,8 +9,8 @@ pub mod Takers
 pub mod Ports
 pub mod Tree
 pub mod Homes
-pub mod Losses
-pub mod LostEnds
+pub mod Misroutes
+pub mod MisroutedEnds
 pub mod Drained
 pub mod InFlight
 pub mod NewFabrics

@@ -10,7 +10,7 @@ pub mod Guarding
 pub mod GuardedBegins
 pub mod GuardedAliens
 pub mod GuardedEnds
-pub mod GuardedRoot
+pub mod GuardedHost
 pub mod GuardedArrival
 pub mod Sites
 pub mod GuardedTurns

@@ -20,8 +20,8 @@ use Rattle.topology.specs.declared.nodes.LinkEnd.{LinkEnd}
 use Rattle.interconnect.specs.Moves.{channel_at, on_channel, put_at}
 use Rattle.fabric_core.specs.declared.event.Event.{Event}
 use Rattle.fabric_core.specs.declared.event.Event.TheVariants.{Submit, Tick, Mmio, Enter, Pass, Send, Take, Credit, Root, Arrive}
-use Rattle.fabric_core.specs.Receipts.{arrive, from_host, root}
-use Rattle.fabric_core.specs.Losing.{pass}
+use Rattle.fabric_core.specs.Arrivals.{arrive, from_host, arrive_at_host}
+use Rattle.fabric_core.specs.Misrouting.{pass}
 use Rattle.fabric_core.specs.Wanting.{WantsMemory}
 use Rattle.fabric_core.specs.World.{World, with_both, with_channels, with_agents}
 
@@ -55,7 +55,7 @@ effect w (Pass port class) = pass w port class
 effect w (Send direction class) = option_map (with_channels w) (on_channel w.channels (sender_of w.tree.links direction) (send class))
 effect w (Take direction) = option_map (with_channels w) (on_channel w.channels (sender_of w.tree.links direction) deliver)
 effect w (Credit direction) = option_map (with_channels w) (on_channel w.channels (sender_of w.tree.links direction) update_fc)
-effect w (Root class) = root w class
+effect w (Root class) = arrive_at_host w class
 effect w (Arrive function class) = arrive w function class
 
 -- does it begin something, as a function or a host asks?

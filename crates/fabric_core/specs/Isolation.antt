@@ -22,7 +22,7 @@ use Rattle.interconnect.specs.Moves.{channel_at}
 use Rattle.interconnect.specs.Passes.{index_of, no_place}
 use Rattle.fabric_core.specs.declared.event.Event.{Event}
 use Rattle.fabric_core.specs.declared.event.Event.TheVariants.{Submit, Tick, Mmio, Enter, Pass, Send, Take, Credit, Root, Arrive}
-use Rattle.fabric_core.specs.Receipts.{Taken, taken, taken_at, to_function, to_host}
+use Rattle.fabric_core.specs.Arrivals.{Taken, taken, taken_at, to_function, to_host}
 use Rattle.fabric_core.specs.Events.{StepsTo, effect, refusal}
 use Rattle.fabric_core.specs.World.{World}
 
@@ -64,7 +64,7 @@ abbrev pub home_passed : World → Class → ℕ → Option ℕ
 home_passed w class i = home_of_taken (taken_at w.channels class (slice_index_or w.tree.places i no_place).input)
 
 -- An event that begins something is of the domain whose function or host begins it, and an event that takes a packet
--- is of that packet's home. What tells credits is of nobody
+-- is of that packet's home. What returns credits is of nobody
 abbrev pub home : World → Event → Option ℕ
 home w (Submit function bytes) = number_of (domain_of_function w function)
 home w (Tick function) = number_of (domain_of_function w function)

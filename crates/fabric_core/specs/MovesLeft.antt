@@ -6,9 +6,9 @@
 --   Send, Take          it is further along its link: one move
 --   Pass, Root          where it goes on fewer directions are ahead: three moves for each
 --   Pass, Root, Arrive  one that goes no further has no more moves, and what is sent in return has fewer than it had
---   Credit              credits are to be told of one direction less
+--   Credit              credits are to be returned of one direction less
 --
--- Packets count twice, since an event that moves one may leave the credits of one direction to be told. A begin adds what a
+-- Packets count twice, since an event that moves one may leave the credits of one direction to be returned. A begin adds what a
 -- packet in an outbox has at most: 330.
 use Rattle.std.specs.Prelude.{◌≡◌, ℕ, ◌+◌, ◌*◌, ◌<◌, ◌≤◌, ◌==◌, Bool, true, false, ◌&&◌, not, nat_le, nat_lt, List, [], ◌∷◌, ◌++◌, count_by, Option, Some, None, if◌then◌else◌}
 use Rattle.std.specs.List.{sum_by}
@@ -86,15 +86,15 @@ direction_from (link ∷ links) end =
     else direction_from links end)
 
 -- are credits to be told?
-abbrev pub untold : Channel → ℕ
-untold c = if same_counters c.left (unspent c.start (c.wire ++ c.ingress)) then 0 else 1
+abbrev pub unreturned : Channel → ℕ
+unreturned c = if same_counters c.left (unspent c.start (c.wire ++ c.ingress)) then 0 else 1
 
 -- the packets on a direction: at its sender, on the wire and at its receiver
 abbrev pub moves_at : List Switch → Option Direction → Channel → ℕ
 moves_at switches direction c = sum_by (moves_of switches 3 direction) c.egress + sum_by (moves_of switches 2 direction) c.wire + sum_by (moves_of switches 1 direction) c.ingress
 
 unfoldable pub moves_on : List Switch → Option Direction → Channel → ℕ
-moves_on switches direction c = 2 * moves_at switches direction c + untold c
+moves_on switches direction c = 2 * moves_at switches direction c + unreturned c
 
 -- a sum over a list whose first element has this place
 abbrev pub sum_from : {X : Type 0} → (ℕ → X → ℕ) → ℕ → List X → ℕ

@@ -18,7 +18,7 @@ use Rattle.topology.specs.declared.nodes.LinkEnd.{LinkEnd}
 use Rattle.topology.specs.declared.places.PortPlace.{PortPlace}
 use Rattle.interconnect.specs.Moves.{channel_at, put_at}
 use Rattle.interconnect.specs.Passes.{index_of, no_place, no_port}
-use Rattle.fabric_core.specs.Receipts.{Taken, taken_at}
+use Rattle.fabric_core.specs.Arrivals.{Taken, taken_at}
 use Rattle.fabric_core.specs.World.{World, with_channels}
 
 -- a port of the fabric: its number among all, its switch, and what it is

@@ -13,7 +13,7 @@ use Rattle.link.specs.Channels.{Channel}
 use Rattle.port.specs.Turns.{PortView}
 pub use Rattle.domains.specs.Aliens.{flown, flown_by}
 pub use Rattle.packet_places.specs.Standing.{is_numbered}
-pub use Rattle.packet_places.specs.Whereabouts.{AreWhereabouts, Whereabout, is_named, stands_at}
+pub use Rattle.packet_places.specs.PacketPlaces.{ArePacketPlaces, PacketPlace, is_named, stands_at}
 use Rattle.fabric_core.specs.Trails.{standing_at}
 use Rattle.fabric_core.specs.World.{World, is_guarded}
 
@@ -60,10 +60,10 @@ pub record HaveOnePlace (w : World) : Type 0 where
   pub shown : All (IsFlown w.agents.domains) (frames_of w)
 
 -- each packet that is named is in flight at its domain
-abbrev pub AreFlown : World → ℕ → List Whereabout → Type 0
+abbrev pub AreFlown : World → ℕ → List PacketPlace → Type 0
 AreFlown w domain named = list_all (λ one. is_some (flown w.agents.domains domain one.0)) named ≡ true
 
 -- In a guarded fabric these are all that the domain has in flight, and each stands at no other place
-pub record ArePartition (w : World) (domain : ℕ) (named : List Whereabout) : Type 0 where
+pub record ArePartition (w : World) (domain : ℕ) (named : List PacketPlace) : Type 0 where
   pub in_flight : (n : ℕ) → is_named named n ≡ is_some (flown w.agents.domains domain n)
   pub alone : (n : ℕ) (one other : Place) → stands_at (standing_at w) domain n one ≡ true → stands_at (standing_at w) domain n other ≡ true → one ≡ other

@@ -17,26 +17,25 @@ use Rattle.lane.specs.Lanes.{Class, class_of, eligible}
 use Rattle.domains.specs.Aliens.{answers}
 use Rattle.domains.specs.Domains.{Made, made}
 use Rattle.topology.specs.declared.nodes.LinkEnd.{LinkEnd}
-use Rattle.interconnect.specs.declared.lost.Lost.{Lost}
+use Rattle.interconnect.specs.declared.misrouted.Misrouted.{Misrouted}
 use Rattle.interconnect.specs.Moves.{channel_at, left_at, put_at}
 use Rattle.interconnect.specs.Views.{InterconnectView, IsSameRest, channels, simplex_at}
-use Rattle.received.specs.declared.receipt.Receipt.{Receipt}
-use Rattle.received.specs.declared.receipt.Receipt.TheVariants.{Carry, Deliver, Nobody, Relay}
+use Rattle.received.specs.declared.received.Received.{Received}
 use Rattle.fabric_core.specs.Passing.{answered_at}
 
 -- the entry that its home's machine has of a packet at the host, if it has one, and what that makes
-abbrev pub entry_by_host : List DomainView → Descriptor → Receipt → Option Made
-entry_by_host domains frame Relay = None
-entry_by_host domains frame Carry = made domains frame.domain (entry.Carry frame.number)
-entry_by_host domains frame Deliver = made domains frame.domain (entry.Deliver frame.number)
-entry_by_host domains frame Nobody = None
+abbrev pub entry_by_host : List DomainView → Descriptor → Received → Option Made
+entry_by_host domains frame Received.Relayed = None
+entry_by_host domains frame Received.Request = made domains frame.domain (entry.Carry frame.number)
+entry_by_host domains frame Received.Completion = made domains frame.domain (entry.Deliver frame.number)
+entry_by_host domains frame Received.Unknown = None
 
 -- the same at a function
-abbrev pub entry_by_function : List DomainView → ℕ → Descriptor → Receipt → Option Made
-entry_by_function domains function frame Relay = None
-entry_by_function domains function frame Carry = carried_at domains function frame
-entry_by_function domains function frame Deliver = made domains frame.domain (entry.Deliver frame.number)
-entry_by_function domains function frame Nobody = None
+abbrev pub entry_by_function : List DomainView → ℕ → Descriptor → Received → Option Made
+entry_by_function domains function frame Received.Relayed = None
+entry_by_function domains function frame Received.Request = carried_at domains function frame
+entry_by_function domains function frame Received.Completion = made domains frame.domain (entry.Deliver frame.number)
+entry_by_function domains function frame Received.Unknown = None
 
 -- what a packet may want memory for: an entry that emits another, or to be an alien packet or a stray
 abbrev pub EntryWants : Option Made → Type 0
@@ -110,25 +109,25 @@ AnswersByCompletion None = ⊤
 AnswersByCompletion (Some m) = IfSome m.sent (λ answer. class_of answer ≡ Completion)
 
 -- a packet that a port has no case for is gone: what answers it waits at the port's own output, and its violation is reported
-pub record IsLost (old new : InterconnectView) (agents agents' : AgentsView) (violations violations' : List Violation) (lost : Lost) (m : Made) : Type 0 where
-  pub answered : channels new ≡ answered_at (channels old) lost.own m.sent
+pub record IsMisrouted (old new : InterconnectView) (agents agents' : AgentsView) (violations violations' : List Violation) (misrouted : Misrouted) (m : Made) : Type 0 where
+  pub answered : channels new ≡ answered_at (channels old) misrouted.own m.sent
   pub rest : IsSameRest old new
   pub entered : agents' ≡ record { domains = m.domains; outboxes = agents.outboxes }
-  pub told : violations' ≡ violations ++ option_to_list lost.report
+  pub told : violations' ≡ violations ++ option_to_list misrouted.report
 
 -- or it was put back, and all else is as it was
-pub record IsLeft (old new : InterconnectView) (agents agents' : AgentsView) (violations violations' : List Violation) (lost : Lost) (frame : Descriptor) : Type 0 where
-  pub back : IsBack old new lost.input frame
+pub record IsLeft (old new : InterconnectView) (agents agents' : AgentsView) (violations violations' : List Violation) (misrouted : Misrouted) (frame : Descriptor) : Type 0 where
+  pub back : IsBack old new misrouted.input frame
   pub same : agents' ≡ agents
   pub told : violations' ≡ violations
 
 -- has the port's own output no place for what answers it?
-abbrev pub must_wait : InterconnectView → Lost → Made → Bool
-must_wait old lost m = answers (Some m) && is_full Completion (channel_at (channels old) lost.own)
+abbrev pub must_wait : InterconnectView → Misrouted → Made → Bool
+must_wait old misrouted m = answers (Some m) && is_full Completion (channel_at (channels old) misrouted.own)
 
 -- what becomes of it, where its home's entry makes this
-abbrev pub Loses : InterconnectView → InterconnectView → AgentsView → AgentsView → List Violation → List Violation → Lost → Descriptor → Made → Outcome → Type 0
-Loses old new agents agents' violations violations' lost frame m Moved = (must_wait old lost m ≡ false) × IsLost old new agents agents' violations violations' lost m
-Loses old new agents agents' violations violations' lost frame m Idle = (must_wait old lost m ≡ true) × IsLeft old new agents agents' violations violations' lost frame
-Loses old new agents agents' violations violations' lost frame m (Refused fault) = ⊥
-Loses old new agents agents' violations violations' lost frame m NoMemory = (must_wait old lost m ≡ false) × IsLeft old new agents agents' violations violations' lost frame
+abbrev pub Misroutes : InterconnectView → InterconnectView → AgentsView → AgentsView → List Violation → List Violation → Misrouted → Descriptor → Made → Outcome → Type 0
+Misroutes old new agents agents' violations violations' misrouted frame m Moved = (must_wait old misrouted m ≡ false) × IsMisrouted old new agents agents' violations violations' misrouted m
+Misroutes old new agents agents' violations violations' misrouted frame m Idle = (must_wait old misrouted m ≡ true) × IsLeft old new agents agents' violations violations' misrouted frame
+Misroutes old new agents agents' violations violations' misrouted frame m (Refused fault) = ⊥
+Misroutes old new agents agents' violations violations' misrouted frame m NoMemory = (must_wait old misrouted m ≡ false) × IsLeft old new agents agents' violations violations' misrouted frame

@@ -35,7 +35,7 @@ others_at station = []
 abbrev pub events_at : Station → List Event
 events_at s = map (taking s) classes ++ others_at s
 
--- no packet may leave there, and no credits are to be told
+-- no packet may leave there, and no credits are to be returned
 abbrev pub is_quiet : World → Station → Bool
 is_quiet w (station.FunctionOutbox function) = none_eligible (waiting_of w.agents.outboxes (origin.Function function))
 is_quiet w (station.HostOutbox domain) = none_eligible (waiting_of w.agents.outboxes (origin.Host domain))

@@ -19,9 +19,9 @@ is_moved Idle = false
 is_moved (Refused fault) = false
 is_moved NoMemory = false
 
-abbrev pub tells_credits : Event → Bool
-tells_credits (Credit direction) = true
-tells_credits event = false
+abbrev pub returns_credits : Event → Bool
+returns_credits (Credit direction) = true
+returns_credits event = false
 
 abbrev pub or_same : World → Option World → World
 or_same w None = w
@@ -31,9 +31,9 @@ or_same w (Some new) = new
 abbrev pub after : World → Event → Outcome → World
 after w event outcome = if is_moved outcome then or_same w (effect w event) else w
 
--- An event is left where it tells credits, or is one of the domain and moved
+-- An event is left where it returns credits, or is one of the domain and moved
 abbrev pub is_left : ℕ → World → Event → Outcome → Bool
-is_left d w event outcome = tells_credits event || (is_event_of w d event && is_moved outcome)
+is_left d w event outcome = returns_credits event || (is_event_of w d event && is_moved outcome)
 
 -- of the events of a run those that are left, in their order
 abbrev pub events_left : ℕ → World → List Event → List Outcome → List Event
@@ -63,10 +63,10 @@ pub record HasSame (d : ℕ) (one other : World) : Type 0 where
 abbrev pub HasMemory : Outcome → Type 0
 HasMemory outcome = outcome ≢ NoMemory
 
--- each of these events moved; but one that tells credits may find nothing to tell
+-- each of these events moved; but one that returns credits may find none to return
 abbrev pub HaveMoved : List Event → List Outcome → Type 0
 HaveMoved [] [] = ⊤
-HaveMoved (event ∷ events) (outcome ∷ outcomes) = IsTrue (tells_credits event || is_moved outcome) × HaveMoved events outcomes
+HaveMoved (event ∷ events) (outcome ∷ outcomes) = IsTrue (returns_credits event || is_moved outcome) × HaveMoved events outcomes
 HaveMoved [] (outcome ∷ outcomes) = ⊥
 HaveMoved (event ∷ events) [] = ⊥
 

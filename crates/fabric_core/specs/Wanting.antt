@@ -12,10 +12,9 @@ use Rattle.topology.specs.declared.places.PortPlace.{PortPlace}
 use Rattle.interconnect.specs.Passes.{index_of, no_place}
 use Rattle.fabric_core.specs.declared.event.Event.{Event}
 use Rattle.fabric_core.specs.declared.event.Event.TheVariants.{Submit, Tick, Mmio, Enter, Pass, Send, Take, Credit, Root, Arrive}
-use Rattle.fabric_core.specs.Receipts.{Taken, receipt_at, taken, taken_at, to_function, to_host}
-use Rattle.received.specs.declared.receipt.Receipt.{Receipt}
-use Rattle.received.specs.declared.receipt.Receipt.TheVariants.{Carry, Deliver, Nobody, Relay}
-use Rattle.received.specs.Receipts.{receipt_at_host}
+use Rattle.fabric_core.specs.Arrivals.{Taken, received_at, taken, taken_at, to_function, to_host}
+use Rattle.received.specs.declared.received.Received.{Received}
+use Rattle.received.specs.Received.{received_at_host}
 use Rattle.switch_output.specs.Vetted.{may_go_on}
 use Rattle.fabric_core.specs.Passing.{Site, site_at}
 use Rattle.fabric_core.specs.Settling.{EntryWants, entry_by_function, entry_by_host}
@@ -47,17 +46,17 @@ NumberWants w class (Some i) = PlaceWants w class i (slice_index_or w.tree.place
 -- ---- at the host and at functions
 
 -- what the host sends down again wants none
-abbrev pub RootWantsBy : World → Taken → Receipt → Type 0
-RootWantsBy w t Relay = ⊥
-RootWantsBy w t Carry = EntryWants (entry_by_host w.agents.domains t.frame Carry)
-RootWantsBy w t Deliver = EntryWants (entry_by_host w.agents.domains t.frame Deliver)
-RootWantsBy w t Nobody = ⊤
+abbrev pub HostWantsBy : World → Taken → Received → Type 0
+HostWantsBy w t Received.Relayed = ⊥
+HostWantsBy w t Received.Request = EntryWants (entry_by_host w.agents.domains t.frame Received.Request)
+HostWantsBy w t Received.Completion = EntryWants (entry_by_host w.agents.domains t.frame Received.Completion)
+HostWantsBy w t Received.Unknown = ⊤
 
-abbrev pub RootWants : World → Taken → Type 0
-RootWants w t = RootWantsBy w t (receipt_at_host t.frame)
+abbrev pub HostWants : World → Taken → Type 0
+HostWants w t = HostWantsBy w t (received_at_host t.frame)
 
 abbrev pub ArriveWants : World → ℕ → Taken → Type 0
-ArriveWants w function t = EntryWants (entry_by_function w.agents.domains function t.frame (receipt_at w function t.frame))
+ArriveWants w function t = EntryWants (entry_by_function w.agents.domains function t.frame (received_at w function t.frame))
 
 -- ---- each event
 
@@ -70,5 +69,5 @@ WantsMemory w (Pass port class) = NumberWants w class (index_of w.tree.places po
 WantsMemory w (Send direction class) = ⊥
 WantsMemory w (Take direction) = ⊥
 WantsMemory w (Credit direction) = ⊥
-WantsMemory w (Root class) = OfTaken (RootWants w) (taken w to_host class)
+WantsMemory w (Root class) = OfTaken (HostWants w) (taken w to_host class)
 WantsMemory w (Arrive function class) = OfTaken (ArriveWants w function) (taken w (to_function function) class)

@@ -12,45 +12,34 @@ use domains::Agents;
 use fab_types::{
     Bdf, BeginFault, DomainId, HostAccess, MmioFault, Outcome, PacketBytes, SubmitFault, TickFault,
 };
-use std::sync::Wait;
 
-pub(crate) fn submit<R: Wait>(
-    rt: &R,
-    agents: &mut Agents,
-    function: Bdf,
-    bytes: &PacketBytes,
-) -> Outcome
+pub(crate) fn submit(agents: &mut Agents, function: Bdf, bytes: &PacketBytes) -> Outcome
     ensures steps { (h : InterconnectView) (violations : List Violation) (strays : List Descriptor) → StepsTo (world_over h agents.old violations strays) (Submit function bytes.now) result (world_over h agents.new violations strays) }
     ensures begun { result ≢ Outcome.Idle }
 {
-    match agents.submit(rt, function, bytes) {
+    match agents.submit(function, bytes) {
         Ok(()) => Outcome::Moved,
         Err(SubmitFault::NoMemory) => Outcome::NoMemory,
         Err(fault) => Outcome::Refused(BeginFault::Submit(fault)),
     }
 }
 
-pub(crate) fn tick<R: Wait>(rt: &R, agents: &mut Agents, function: Bdf) -> Outcome
+pub(crate) fn tick(agents: &mut Agents, function: Bdf) -> Outcome
     ensures steps { (h : InterconnectView) (violations : List Violation) (strays : List Descriptor) → StepsTo (world_over h agents.old violations strays) (Tick function) result (world_over h agents.new violations strays) }
     ensures begun { result ≢ Outcome.Idle }
 {
-    match agents.tick(rt, function) {
+    match agents.tick(function) {
         Ok(()) => Outcome::Moved,
         Err(TickFault::NoMemory) => Outcome::NoMemory,
         Err(fault) => Outcome::Refused(BeginFault::Tick(fault)),
     }
 }
 
-pub(crate) fn mmio<R: Wait>(
-    rt: &R,
-    agents: &mut Agents,
-    domain: DomainId,
-    access: &HostAccess,
-) -> Outcome
+pub(crate) fn mmio(agents: &mut Agents, domain: DomainId, access: &HostAccess) -> Outcome
     ensures steps { (h : InterconnectView) (violations : List Violation) (strays : List Descriptor) → StepsTo (world_over h agents.old violations strays) (Mmio domain access.now) result (world_over h agents.new violations strays) }
     ensures begun { result ≢ Outcome.Idle }
 {
-    match agents.mmio(rt, domain, access) {
+    match agents.mmio(domain, access) {
         Ok(()) => Outcome::Moved,
         Err(MmioFault::NoMemory) => Outcome::NoMemory,
         Err(fault) => Outcome::Refused(BeginFault::Mmio(fault)),

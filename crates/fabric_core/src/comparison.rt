@@ -14,7 +14,6 @@ use fab_types::{CompareFault, DomainId, NoMemory};
 use layout::Layout;
 use platform::{DownstreamPort, owns_port};
 use std::alloc::Global;
-use std::sync::Wait;
 
 /// What a comparison of two runs answers, with the fabric after each.
 #[derive(Drop)]
@@ -37,17 +36,12 @@ pub(crate) fn has_domain(layout: &Layout, domain: DomainId) -> bool
 }
 
 /// The layout's fabric after these events.
-fn ran<R: Wait>(
-    rt: &R,
-    alloc: Global,
-    layout: &Layout,
-    events: &[Event],
-) -> Result<Fabric, NoMemory>
+fn ran(alloc: Global, layout: &Layout, events: &[Event]) -> Result<Fabric, NoMemory>
     ensures run { IfOk result (λ fabric. IsRun (world_of layout.now) events.now fabric) }
     ensures alone { IfOk result (λ fabric. AreReplayed fabric.agents.domains) }
 {
     let mut fabric = Fabric::new(alloc, layout)?;
-    let _outcomes = fabric.run(rt, alloc, events)?;
+    let _outcomes = fabric.run(alloc, events)?;
     Ok(fabric)
 }
 
@@ -69,8 +63,7 @@ fn has_same_journal(one: &Fabric, other: &Fabric, domain: DomainId) -> bool
 /// `NoDomain` where the domain owns no port of the layout, which is tested before anything else; `NoMemory`
 /// where memory was refused to the fabrics or to the lists of their outcomes. An event to which memory was
 /// refused changed nothing, and the run went on.
-pub fn compare_runs<R: Wait>(
-    rt: &R,
+pub fn compare_runs(
     alloc: Global,
     layout: &Layout,
     events: &[Event],
@@ -83,10 +76,10 @@ pub fn compare_runs<R: Wait>(
     if !has_domain(layout, domain) {
         return Err(CompareFault::NoDomain);
     }
-    let Ok(one) = ran(rt, alloc, layout, events) else {
+    let Ok(one) = ran(alloc, layout, events) else {
         return Err(CompareFault::NoMemory);
     };
-    let Ok(other) = ran(rt, alloc, layout, others) else {
+    let Ok(other) = ran(alloc, layout, others) else {
         return Err(CompareFault::NoMemory);
     };
     if has_same_journal(&one, &other, domain) {

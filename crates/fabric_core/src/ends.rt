@@ -6,8 +6,8 @@ ghost use Rattle.fab_types.specs.declared.outcome.Outcome.TheVariants.{NoMemory}
 ghost use Rattle.topology.specs.Links.{sender_of};
 ghost use Rattle.topology.specs.Topologies.{IsEnd};
 ghost use Rattle.fabric_core.specs.declared.event.Event.TheVariants.{Arrive, Root};
-ghost use Rattle.fabric_core.specs.Receipts.{agents_by_function, agents_by_host, receipt_in, from_host, own_by_function, own_by_host};
-ghost use Rattle.received.specs.Receipts.{receipt_at_host};
+ghost use Rattle.fabric_core.specs.Arrivals.{agents_by_function, agents_by_host, received_in, from_host, own_by_function, own_by_host};
+ghost use Rattle.received.specs.Received.{received_at_host};
 ghost use Rattle.received.specs.Receivers.{receiver_at_host};
 ghost use Rattle.fabric_core.specs.Events.{StepsTo};
 ghost use Rattle.fabric_core.specs.Settling.{IsBack, IsTaken, IsTakenIn, EntryWants, Relays, Settles, Strays, Takes, entry_by_function, entry_by_host};
@@ -20,8 +20,7 @@ use domains::Agents;
 use fab_types::{Bdf, Class, Direction, DomainId, Outcome, Place, Way};
 use frame_log::{Frame, FrameFault};
 use interconnect::Interconnect;
-use received::{Receipt, is_relayed, receipt_at_function, receipt_at_host, receiver_at_host};
-use std::sync::Wait;
+use received::{Received, is_relayed, received_at_function, received_at_host, receiver_at_host};
 use topology::LinkEnd;
 
 /// The link between the host and the top switch.
@@ -107,38 +106,36 @@ fn receiver_of(interconnect: &Interconnect, agents: &Agents, frame: &Frame) -> D
     receiver_at_host(interconnect.bridge(), agents, frame)
 }
 
-fn end_at_host<R: Wait>(
-    rt: &R,
+fn end_at_host(
     interconnect: &Interconnect,
     agents: &mut Agents,
     frame: Frame,
 ) -> Result<(), FrameFault>
-    ensures { Takes (agents_by_host (interconnect.now.routes).ports agents.old frame (receipt_at_host frame)) (EntryWants (entry_by_host agents.old.domains frame (receipt_at_host frame))) frame agents.old agents.new result }
+    ensures { Takes (agents_by_host (interconnect.now.routes).ports agents.old frame (received_at_host frame)) (EntryWants (entry_by_host agents.old.domains frame (received_at_host frame))) frame agents.old agents.new result }
 {
-    match end_at_home(rt, agents, frame) {
+    match end_at_home(agents, frame) {
         Err(FrameFault::Stray(frame)) => {
             let receiver = receiver_of(interconnect, agents, &frame);
-            agents.alien_at_host(rt, receiver, Place::Ingress(top_link(Way::Up)), frame)
+            agents.alien_at_host(receiver, Place::Ingress(top_link(Way::Up)), frame)
         }
         ended => ended,
     }
 }
 
 /// The host of its home takes a packet, which is stray where its home has no case for it.
-fn end_at_home<R: Wait>(rt: &R, agents: &mut Agents, frame: Frame) -> Result<(), FrameFault>
-    ensures { Takes (own_by_host agents.old frame (receipt_at_host frame)) (Emits (entry_by_host agents.old.domains frame (receipt_at_host frame))) frame agents.old agents.new result }
+fn end_at_home(agents: &mut Agents, frame: Frame) -> Result<(), FrameFault>
+    ensures { Takes (own_by_host agents.old frame (received_at_host frame)) (Emits (entry_by_host agents.old.domains frame (received_at_host frame))) frame agents.old agents.new result }
 {
-    match receipt_at_host(&frame) {
-        Receipt::Carry => agents.carry_by_host(rt, frame),
-        Receipt::Deliver => agents.complete(frame),
-        Receipt::Relay => Err(FrameFault::Stray(frame)),
-        Receipt::Nobody => Err(FrameFault::Stray(frame)),
+    match received_at_host(&frame) {
+        Received::Request => agents.carry_by_host(frame),
+        Received::Completion => agents.complete(frame),
+        Received::Relayed => Err(FrameFault::Stray(frame)),
+        Received::Unknown => Err(FrameFault::Stray(frame)),
     }
 }
 
 /// The host takes the eligible packet of a class.
-pub(crate) fn root<R: Wait>(
-    rt: &R,
+pub(crate) fn arrive_at_host(
     interconnect: &mut Interconnect,
     agents: &mut Agents,
     strays: &mut Vec<Frame>,
@@ -158,54 +155,51 @@ pub(crate) fn root<R: Wait>(
     let Some(frame) = interconnect.take_at(end, class) else {
         return Outcome::Idle;
     };
-    let ended = end_at_host(rt, interconnect, agents, frame);
+    let ended = end_at_host(interconnect, agents, frame);
     settle(interconnect, strays, end, ended)
 }
 
-fn end_at_function<R: Wait>(
-    rt: &R,
+fn end_at_function(
     interconnect: &Interconnect,
     agents: &mut Agents,
     function: Bdf,
     frame: Frame,
 ) -> Result<(), FrameFault>
-    ensures { Takes (agents_by_function agents.old function frame (receipt_in (interconnect.now.routes).ports agents.old.domains function frame)) (EntryWants (entry_by_function agents.old.domains function frame (receipt_in (interconnect.now.routes).ports agents.old.domains function frame))) frame agents.old agents.new result }
+    ensures { Takes (agents_by_function agents.old function frame (received_in (interconnect.now.routes).ports agents.old.domains function frame)) (EntryWants (entry_by_function agents.old.domains function frame (received_in (interconnect.now.routes).ports agents.old.domains function frame))) frame agents.old agents.new result }
 {
-    match end_at_own(rt, interconnect, agents, function, frame) {
+    match end_at_own(interconnect, agents, function, frame) {
         Err(FrameFault::Stray(frame)) => {
             let down = Direction {
                 lower: function,
                 way: Way::Down,
             };
-            agents.alien_at_function(rt, function, Place::Ingress(down), frame)
+            agents.alien_at_function(function, Place::Ingress(down), frame)
         }
         ended => ended,
     }
 }
 
 /// A function takes a packet of its own domain, which is stray where that has no case for it.
-fn end_at_own<R: Wait>(
-    rt: &R,
+fn end_at_own(
     interconnect: &Interconnect,
     agents: &mut Agents,
     function: Bdf,
     frame: Frame,
 ) -> Result<(), FrameFault>
-    ensures { Takes (own_by_function agents.old function frame (receipt_in (interconnect.now.routes).ports agents.old.domains function frame)) (Emits (entry_by_function agents.old.domains function frame (receipt_in (interconnect.now.routes).ports agents.old.domains function frame))) frame agents.old agents.new result }
+    ensures { Takes (own_by_function agents.old function frame (received_in (interconnect.now.routes).ports agents.old.domains function frame)) (Emits (entry_by_function agents.old.domains function frame (received_in (interconnect.now.routes).ports agents.old.domains function frame))) frame agents.old agents.new result }
 {
     let is_own = agents.is_function_of(function, frame.domain());
-    match receipt_at_function(interconnect.bridge(), function, is_own, &frame) {
-        Receipt::Carry => agents.carry_by_function(rt, function, frame),
-        Receipt::Deliver => agents.complete(frame),
-        Receipt::Relay => Err(FrameFault::Stray(frame)),
-        Receipt::Nobody => Err(FrameFault::Stray(frame)),
+    match received_at_function(interconnect.bridge(), function, is_own, &frame) {
+        Received::Request => agents.carry_by_function(function, frame),
+        Received::Completion => agents.complete(frame),
+        Received::Relayed => Err(FrameFault::Stray(frame)),
+        Received::Unknown => Err(FrameFault::Stray(frame)),
     }
 }
 
 /// A function takes the eligible packet of a class. That the layout has the function is tested last, since mostly
 /// nothing waits.
-pub(crate) fn arrive<R: Wait>(
-    rt: &R,
+pub(crate) fn arrive(
     interconnect: &mut Interconnect,
     agents: &mut Agents,
     strays: &mut Vec<Frame>,
@@ -227,6 +221,6 @@ pub(crate) fn arrive<R: Wait>(
     let Some(frame) = interconnect.take_at(end, class) else {
         return Outcome::Idle;
     };
-    let ended = end_at_function(rt, interconnect, agents, function, frame);
+    let ended = end_at_function(interconnect, agents, function, frame);
     settle(interconnect, strays, end, ended)
 }

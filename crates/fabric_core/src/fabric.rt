@@ -14,9 +14,9 @@ ghost use Rattle.fabric_core.specs.Isolation.{AreApart, IsApart, domain_of, home
 ghost use Rattle.fabric_core.specs.MovesLeft.{MovesEnd};
 ghost use Rattle.fabric_core.specs.Orderly.{IsOrderly};
 ghost use Rattle.fabric_core.specs.Orders.{AreInOrder};
-ghost use Rattle.fabric_core.specs.Places.{AreFlown, ArePartition, AreWhereabouts, HaveOnePlace};
+ghost use Rattle.fabric_core.specs.Places.{AreFlown, ArePartition, ArePacketPlaces, HaveOnePlace};
 ghost use Rattle.fabric_core.specs.Runs.{HaveBegun, Run};
-ghost use Rattle.fabric_core.specs.Leaving.{AreLeaving, has};
+ghost use Rattle.fabric_core.specs.EligibleClasses.{AreEligible, has};
 ghost use Rattle.fabric_core.specs.Stations.{events_at, is_quiet, taking};
 ghost use Rattle.fabric_core.specs.Still.{Concludes, NeverBlocks};
 ghost use Rattle.fabric_core.specs.TakenOut.{NoneCanTell};
@@ -24,12 +24,12 @@ ghost use Rattle.fabric_core.specs.Trails.{standing_at};
 ghost use Rattle.fabric_core.specs.Waits.{waits};
 ghost use Rattle.fabric_core.specs.World.{is_guarded, world_of};
 
+use crate::eligible_classes::eligible_classes;
 use crate::event::Event;
 use crate::laws::{
     every_event_keeps_a_fabric, moves_end, other_domains_can_be_taken_out, still_is_consumed,
     still_is_empty,
 };
-use crate::leaving::leaving;
 use crate::quiet::is_quiet;
 use crate::station::Station;
 use crate::step::step;
@@ -42,12 +42,11 @@ use fab_types::{Class, Direction, DomainId, NoMemory, Outcome, Place, PlacesFaul
 use frame_log::Frame;
 use interconnect::Interconnect;
 use layout::Layout;
-use packet_places::whereabouts_of;
+use packet_places::packet_places_of;
 use port::Reports;
-use port_queue::LeavingClasses;
+use port_queue::EligibleClasses;
 use std::alloc::Global;
 use std::marker::Model;
-use std::sync::Wait;
 
 /// A fabric: the links and switches of a layout, and its domains.
 /// It also has what the domains have emitted, the violations that its ports reported, and the packets that the
@@ -160,14 +159,14 @@ impl Fabric {
     /// was refused.
     pub fn places(&self, alloc: Global, domain: DomainId) -> Result<Vec<(u64, Place)>, PlacesFault>
         ensures domain { (result ≡ Err PlacesFault.NoDomain) ↔ (domain_of self.now domain ≡ None) }
-        ensures places { IfOk result (λ named. AreWhereabouts (standing_at self.now) domain named.items) }
+        ensures places { IfOk result (λ named. ArePacketPlaces (standing_at self.now) domain named.items) }
         ensures flown { IfOk result (λ named. AreFlown self.now domain named.items) }
         ensures partition { is_guarded self.now ≡ true → IfOk result (λ named. ArePartition self.now domain named.items) }
     {
         if self.domain(domain).is_none() {
             return Err(PlacesFault::NoDomain);
         }
-        match whereabouts_of(&self.interconnect, &self.agents, alloc, domain) {
+        match packet_places_of(&self.interconnect, &self.agents, alloc, domain) {
             Ok(named) => Ok(named),
             Err(_) => Err(PlacesFault::NoMemory),
         }
@@ -175,7 +174,7 @@ impl Fabric {
 
     /// The domain that an event is of, as the fabric stands. A begin is of the domain whose function or host begins it,
     /// and an event that takes a packet is of that packet's home, the domain that made it, wherever the packet is and
-    /// whoever takes it. None where the event tells credits, where there is nothing to take, and where no domain has the
+    /// whoever takes it. None where the event returns credits, where there is nothing to take, and where no domain has the
     /// function or host. Where there is nothing to take the event would answer `Idle`.
     pub fn home(&self, event: &Event) -> Option<DomainId>
         ensures value { result ≡ home self.now event.now }
@@ -187,11 +186,11 @@ impl Fabric {
     /// Of which classes a packet may leave this station (PCIe 4.0, 2.4.1).
     /// It is the station's oldest of the class, unless an older posted one waits there. An event that takes a
     /// packet of another class there would answer `Idle`.
-    pub fn leaving(&self, station: &Station) -> LeavingClasses
-        ensures value { AreLeaving self.now station.now result }
+    pub fn eligible_classes(&self, station: &Station) -> EligibleClasses
+        ensures value { AreEligible self.now station.now result }
         ensures idle { (class : Class) → has result class ≡ false → StepsTo self.now (taking station.now class) Idle self.now }
     {
-        leaving(&self.interconnect, &self.agents, station)
+        eligible_classes(&self.interconnect, &self.agents, station)
     }
 
     /// Does the packet of a class that may leave this port wait for a place?
@@ -232,7 +231,7 @@ impl Fabric {
     /// share and state alone. And of each two packets of a domain that keep their order (PCIe 4.0, 2.4.1), a posted one and
     /// a later one from the same function, or from the host to the same function, the journal consumes the later one
     /// only after the posted one.
-    pub fn step<R: Wait>(&mut self, rt: &R, event: &Event) -> Outcome
+    pub fn step(&mut self, event: &Event) -> Outcome
         ensures steps { StepsTo self.old event.now result self.new }
         ensures begun { is_begin event.now ≡ true → result ≢ Idle }
         ensures bounded { HaveCredits self.new }
@@ -245,7 +244,6 @@ impl Fabric {
         // A law: what an event makes of a fabric is one.
         every_event_keeps_a_fabric();
         step(
-            rt,
             &mut self.interconnect,
             &mut self.agents,
             &mut self.reports,
@@ -264,12 +262,7 @@ impl Fabric {
     /// no domain has an entry of an alien one; each event left every domain that it was foreign to as it was; and no
     /// packet was lost or doubled: each that a domain made stands in exactly one place, or exactly one entry of its
     /// journal consumed it; and no packet that keeps its order behind a posted one was consumed before that.
-    pub fn run<R: Wait>(
-        &mut self,
-        rt: &R,
-        alloc: Global,
-        events: &[Event],
-    ) -> Result<Vec<Outcome>, NoMemory>
+    pub fn run(&mut self, alloc: Global, events: &[Event]) -> Result<Vec<Outcome>, NoMemory>
         ensures run { IfOk result (λ outcomes. Run self.old events.now outcomes.items self.new) }
         ensures begins { IfOk result (λ outcomes. HaveBegun events.now outcomes.items self.old.agents.domains self.new.agents.domains) }
         ensures alone { IfOk result (λ outcomes. AreReplayed self.new.agents.domains) }
@@ -283,7 +276,7 @@ impl Fabric {
     {
         let mut outcomes = Vec::with_capacity(alloc, events.len())?;
         for event in events {
-            let outcome = self.step(rt, event);
+            let outcome = self.step(event);
             outcomes.push_reserved(outcome);
         }
         // for the proof: each state is the replay of its journal, and what a fabric keeps

@@ -130,7 +130,7 @@ pub fn what_is_left_can_be_run()
 /// Where nothing can move any more, no packet is left, in any layout.
 /// Take any run from where nothing was begun, whatever functions and hosts submit in it. If then no event but a begin
 /// has an effect, no packet waits in an outbox or at either end of a link, and none is on a wire. So nobody can block
-/// the fabric: while a packet stands anywhere, some event moves one, or tells credits.
+/// the fabric: while a packet stands anywhere, some event moves one, or returns credits.
 pub fn still_is_empty()
     ensures { (platform : Platform) → IsPlatform platform → NeverBlocks (world_of platform) }
 {}

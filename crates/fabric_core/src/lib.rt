@@ -3,12 +3,12 @@
 
 mod begins;
 mod comparison;
+mod eligible_classes;
 mod ends;
 mod event;
 mod fabric;
 mod laws;
-mod leaving;
-mod lose;
+mod misroute;
 mod pass;
 mod purge;
 mod quiet;
@@ -28,6 +28,6 @@ pub use laws::{
     packets_have_one_place, packets_keep_their_order, posted_packets_keep_to_their_way,
     stations_are_those_of_the_layout, still_is_consumed, still_is_empty, what_is_left_can_be_run,
 };
-pub use port_queue::LeavingClasses;
+pub use port_queue::EligibleClasses;
 pub use purge::purge_run;
 pub use station::Station;

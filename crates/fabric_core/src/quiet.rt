@@ -15,10 +15,10 @@ use fab_types::{Direction, Origin, Way};
 use interconnect::Interconnect;
 
 /// May no packet leave the outbox of this origin, whatever its class? The oldest always may, so then none waits.
-fn has_none_emitted(agents: &Agents, origin: &Origin) -> bool
+fn is_outbox_empty(agents: &Agents, origin: &Origin) -> bool
     ensures { result ≡ none_eligible (waiting_of agents.now.outboxes origin.now) }
 {
-    agents.has_none_waiting(*origin)
+    agents.is_outbox_empty(*origin)
 }
 
 pub(crate) fn is_quiet(interconnect: &Interconnect, agents: &Agents, station: &Station) -> bool
@@ -26,13 +26,13 @@ pub(crate) fn is_quiet(interconnect: &Interconnect, agents: &Agents, station: &S
 {
     match station {
         Station::FunctionOutbox(function) => {
-            has_none_emitted(agents, &Origin::Function(*function))
+            is_outbox_empty(agents, &Origin::Function(*function))
         }
-        Station::HostOutbox(domain) => has_none_emitted(agents, &Origin::Host(*domain)),
-        Station::Port(port) => interconnect.has_none_passing(*port),
+        Station::HostOutbox(domain) => is_outbox_empty(agents, &Origin::Host(*domain)),
+        Station::Port(port) => interconnect.is_input_empty(*port),
         Station::Link(direction) => interconnect.is_quiet(*direction),
-        Station::Host => interconnect.has_none_received(top_link(Way::Up)),
-        Station::Function(function) => interconnect.has_none_received(Direction {
+        Station::Host => interconnect.is_ingress_empty(top_link(Way::Up)),
+        Station::Function(function) => interconnect.is_ingress_empty(Direction {
             lower: *function,
             way: Way::Down,
         }),

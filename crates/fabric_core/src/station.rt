@@ -8,7 +8,7 @@ use crate::event::Event;
 use fab_types::{Bdf, Class, Direction, DomainId, Origin, PortId};
 
 /// Where packets wait or travel in a fabric. The events there take a packet of each class in turn; on a direction of a
-/// link the oldest packet is then received, and the sender told of credits.
+/// link the oldest packet is then received, and credits are returned to the sender.
 #[derive(Clone, Copy, Debug, PartialEq, Eq)]
 pub enum Station {
     /// The outbox of this function, from which packets enter its link.

@@ -6,7 +6,7 @@ ghost use Rattle.fabric_core.specs.Invariant.{IsConsistent};
 ghost use Rattle.fabric_core.specs.World.{world_over};
 
 use crate::begins::{mmio, submit, tick};
-use crate::ends::{arrive, root};
+use crate::ends::{arrive, arrive_at_host};
 use crate::event::Event;
 use crate::pass::pass;
 use crate::wires::{deliver, enter, send, update_fc};
@@ -15,10 +15,8 @@ use fab_types::Outcome;
 use frame_log::Frame;
 use interconnect::Interconnect;
 use port::Reports;
-use std::sync::Wait;
 
-pub(crate) fn step<R: Wait>(
-    rt: &R,
+pub(crate) fn step(
     interconnect: &mut Interconnect,
     agents: &mut Agents,
     reports: &mut Reports,
@@ -30,22 +28,15 @@ pub(crate) fn step<R: Wait>(
     ensures begun { is_begin event.now ≡ true → result ≢ Outcome.Idle }
 {
     match event {
-        Event::Submit(function, bytes) => submit(rt, agents, *function, bytes),
-        Event::Tick(function) => tick(rt, agents, *function),
-        Event::Mmio(domain, access) => mmio(rt, agents, *domain, access),
+        Event::Submit(function, bytes) => submit(agents, *function, bytes),
+        Event::Tick(function) => tick(agents, *function),
+        Event::Mmio(domain, access) => mmio(agents, *domain, access),
         Event::Enter(origin, class) => enter(interconnect, agents, *origin, *class),
-        Event::Pass(port, class) => pass(rt, interconnect, agents, reports, *port, *class),
+        Event::Pass(port, class) => pass(interconnect, agents, reports, *port, *class),
         Event::Send(direction, class) => send(interconnect, *direction, *class),
         Event::Take(direction) => deliver(interconnect, *direction),
         Event::Credit(direction) => update_fc(interconnect, *direction),
-        Event::Root(class) => root(rt, interconnect, agents, strays, *class),
-        Event::Arrive(function, class) => arrive(
-            rt,
-            interconnect,
-            agents,
-            strays,
-            *function,
-            *class,
-        ),
+        Event::Root(class) => arrive_at_host(interconnect, agents, strays, *class),
+        Event::Arrive(function, class) => arrive(interconnect, agents, strays, *function, *class),
     }
 }

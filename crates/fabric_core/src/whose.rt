@@ -8,7 +8,7 @@ ghost use Rattle.frame_log.specs.Descriptor.{Descriptor};
 ghost use Rattle.interconnect.specs.Passes.{input_of};
 ghost use Rattle.interconnect.specs.Views.{channels};
 ghost use Rattle.topology.specs.Links.{sender_of};
-ghost use Rattle.fabric_core.specs.Receipts.{taken_at};
+ghost use Rattle.fabric_core.specs.Arrivals.{taken_at};
 ghost use Rattle.fabric_core.specs.Isolation.{home, home_of_taken, home_sent, home_travelling, number_of};
 ghost use Rattle.fabric_core.specs.World.{world_over};
 ghost use Rattle.domains.specs.Domains.{domain_at, place_of};

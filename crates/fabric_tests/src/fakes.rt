@@ -9,7 +9,6 @@ use fab_types::{Class, NoMemory, PortId, Violation};
 use frame_log::{Frame, FrameFault};
 use lane::{Desk, FrameQueue, Reporter};
 use port::Reports;
-use std::sync::Wait;
 use switch_output::{LaneOut, VettedFrame};
 
 /// A desk with one domain.
@@ -30,13 +29,8 @@ impl Desk for OneDomain {
 
     ghost wants = { λ known frame port. ⊤ };
 
-    fn refuse<W: Wait>(
-        &mut self,
-        rt: &W,
-        frame: Frame,
-        port: PortId,
-    ) -> Result<Option<Frame>, FrameFault> {
-        self.domain.refuse(rt, frame, port)
+    fn refuse(&mut self, frame: Frame, port: PortId) -> Result<Option<Frame>, FrameFault> {
+        self.domain.refuse(frame, port)
     }
 }
 

@@ -7,7 +7,6 @@ use fabric_core::{Event, Fabric};
 use layout::Layout;
 use layout_tests::EXAMPLE;
 use std::alloc::Global;
-use std::sync::Wait;
 use std::test::Fail;
 
 /// A read of one DW at 1000 by 06:00.0.
@@ -31,20 +30,20 @@ impl Scene {
     }
 
     /// What comes of an event. It has no contract, so that a proof about many events knows none of what a step promises.
-    fn outcome<R: Wait>(&mut self, rt: &R, event: &Event) -> Outcome {
-        self.fabric.step(rt, event)
+    fn outcome(&mut self, event: &Event) -> Outcome {
+        self.fabric.step(event)
     }
 
     /// Is this event idle?
-    fn rests<R: Wait>(&mut self, rt: &R, one: Move) -> bool {
+    fn rests(&mut self, one: Move) -> bool {
         let event = one.event();
-        self.outcome(rt, &event) == Outcome::Idle
+        self.outcome(&event) == Outcome::Idle
     }
 
     /// Is each of these idle?
-    fn all_rest<R: Wait>(&mut self, rt: &R, moves: &[Move]) -> bool {
+    fn all_rest(&mut self, moves: &[Move]) -> bool {
         for one in moves {
-            if !self.rests(rt, *one) {
+            if !self.rests(*one) {
                 return false;
             }
         }
@@ -58,8 +57,8 @@ impl Scene {
     }
 
     /// What came of each event of a run, unless memory was refused.
-    fn outcomes<R: Wait>(&mut self, rt: &R, alloc: Global, list: &[Event]) -> Option<Vec<Outcome>> {
-        self.fabric.run(rt, alloc, list).ok()
+    fn outcomes(&mut self, alloc: Global, list: &[Event]) -> Option<Vec<Outcome>> {
+        self.fabric.run(alloc, list).ok()
     }
 }
 
@@ -77,12 +76,12 @@ const OF_NOTHING: [Move; 7] = [
 #[test]
 fn what_the_layout_has_not_is_idle(rt: HostRuntime) -> Result<(), Fail> {
     let mut scene = Scene::new(rt.alloc())?;
-    assert!(rt; scene.all_rest(&rt, &OF_NOTHING));
+    assert!(rt; scene.all_rest(&OF_NOTHING));
     assert!(rt; scene.fabric.credits(direction(NOBODY, Way::Up)).is_none());
     Ok(())
 }
 
-/// A read is sent, no credits are told, and nobody ticks.
+/// A read is sent, no credits are returned, and nobody ticks.
 fn five_events(alloc: Global) -> Result<Vec<Event>, Fail> {
     let read = PacketBytes::copy_of(alloc, &READ_BY_06)?;
     let events = vec![in alloc;
@@ -101,7 +100,7 @@ fn a_run_has_an_outcome_of_each_event(rt: HostRuntime) -> Result<(), Fail> {
     let up = direction(FUNCTION_06, Way::Up);
     let before = scene.headers_left(up);
     let list = five_events(rt.alloc())?;
-    let outcomes = scene.outcomes(&rt, rt.alloc(), &list).ok_or("outcomes")?;
+    let outcomes = scene.outcomes(rt.alloc(), &list).ok_or("outcomes")?;
     assert!(rt; outcomes.len() == 5);
     assert!(rt; matches!(outcomes[2], Outcome::Moved) && matches!(outcomes[3], Outcome::Idle));
     assert!(rt; scene.headers_left(up) < before);

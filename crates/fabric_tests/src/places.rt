@@ -8,7 +8,6 @@ use fabric_core::{Event, Fabric};
 use layout::Layout;
 use layout_tests::EXAMPLE;
 use std::alloc::Global;
-use std::sync::Wait;
 use std::test::Fail;
 
 /// A read of one DW at 1000 by 03:00.0.
@@ -32,13 +31,13 @@ impl Scene {
 
     /// Does the event move something? It has no contract, so that a proof about many events knows none of what a step
     /// promises.
-    fn does<R: Wait>(&mut self, rt: &R, event: &Event) -> bool {
-        matches!(self.fabric.step(rt, event), Outcome::Moved)
+    fn does(&mut self, event: &Event) -> bool {
+        matches!(self.fabric.step(event), Outcome::Moved)
     }
 
-    fn submits<R: Wait>(&mut self, rt: &R, id: u16, bytes: &[u8]) -> bool {
+    fn submits(&mut self, id: u16, bytes: &[u8]) -> bool {
         match PacketBytes::copy_of(self.alloc, bytes) {
-            Ok(bytes) => self.does(rt, &Event::Submit(Bdf::from_bits(id), bytes)),
+            Ok(bytes) => self.does(&Event::Submit(Bdf::from_bits(id), bytes)),
             Err(_) => false,
         }
     }
@@ -63,12 +62,12 @@ impl Scene {
     }
 
     /// Has the domain that its journal leaves, replayed alone, this packet in flight?
-    fn replays<R: Wait>(&self, rt: &R, number: u8, packet: u64) -> bool {
+    fn replays(&self, number: u8, packet: u64) -> bool {
         let Some(domain) = DomainId::new(number).and_then(|number| self.fabric.domain(number))
         else {
             return false;
         };
-        match Domain::replay(rt, self.alloc, domain.start(), domain.journal()) {
+        match Domain::replay(self.alloc, domain.start(), domain.journal()) {
             Ok(alone) => alone.bytes(packet).is_some(),
             Err(_) => false,
         }
@@ -93,13 +92,13 @@ fn stops() -> [(u64, Place); 6] {
 
 /// After how many of the events, from the first on, did each packet stand where it should and nowhere else, and was it in
 /// flight?
-fn agreed<R: Wait>(rt: &R, scene: &mut Scene) -> usize {
+fn agreed(scene: &mut Scene) -> usize {
     let stops = stops();
     for place in 0..6 {
         let (packet, stop) = stops[place];
-        let moved = scene.does(rt, &STOPPED_READ[place].event());
+        let moved = scene.does(&STOPPED_READ[place].event());
         let stands = scene.has_one(2, packet, stop) && scene.has_one(1, 0, outbox(FUNCTION_03));
-        if !moved || !stands || !scene.replays(rt, 2, packet) {
+        if !moved || !stands || !scene.replays(2, packet) {
             return place;
         }
     }
@@ -110,12 +109,12 @@ fn agreed<R: Wait>(rt: &R, scene: &mut Scene) -> usize {
 fn each_packet_is_named_where_it_stands(rt: HostRuntime) -> Result<(), Fail> {
     let mut scene = Scene::new(rt.alloc())?;
     assert!(rt; scene.has_none(1) && scene.has_none(2));
-    assert!(rt; scene.submits(&rt, FUNCTION_03, &READ_BY_03));
-    assert!(rt; scene.submits(&rt, FUNCTION_06, &READ_BY_03));
+    assert!(rt; scene.submits(FUNCTION_03, &READ_BY_03));
+    assert!(rt; scene.submits(FUNCTION_06, &READ_BY_03));
     assert!(rt; scene.has_one(2, 0, outbox(FUNCTION_06)));
-    assert_eq!(rt; agreed(&rt, &mut scene), 6);
-    assert!(rt; scene.does(&rt, &Move::Arrive(FUNCTION_06, Completion).event()));
-    assert!(rt; scene.has_none(2) && !scene.replays(&rt, 2, 1));
+    assert_eq!(rt; agreed(&mut scene), 6);
+    assert!(rt; scene.does(&Move::Arrive(FUNCTION_06, Completion).event()));
+    assert!(rt; scene.has_none(2) && !scene.replays(2, 1));
     assert!(rt; scene.has_one(1, 0, outbox(FUNCTION_03)));
     Ok(())
 }

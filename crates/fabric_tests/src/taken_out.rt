@@ -7,7 +7,6 @@ use fabric_core::{Comparison, Event, Fabric, compare_runs, purge_run};
 use layout::Layout;
 use layout_tests::EXAMPLE;
 use std::alloc::Global;
-use std::sync::Wait;
 use std::test::Fail;
 
 /// A write of 03:00.0, and three reads of what it wrote: of four bytes, of two, and of none. How many spoofed writes
@@ -130,28 +129,12 @@ fn entries(one: &Fabric, other: &Fabric, domain: DomainId) -> Option<usize> {
     }
 }
 
-fn compared<R: Wait>(
-    rt: &R,
-    one: &Script,
-    other: &Script,
-    domain: DomainId,
-) -> Result<Comparison, CompareFault> {
-    compare_runs(
-        rt,
-        one.alloc,
-        &one.layout,
-        &one.events,
-        &other.events,
-        domain,
-    )
+fn compared(one: &Script, other: &Script, domain: DomainId) -> Result<Comparison, CompareFault> {
+    compare_runs(one.alloc, &one.layout, &one.events, &other.events, domain)
 }
 
-fn purged<R: Wait>(
-    rt: &R,
-    script: &Script,
-    domain: DomainId,
-) -> Result<(Fabric, Fabric), CompareFault> {
-    purge_run(rt, script.alloc, &script.layout, &script.events, domain)
+fn purged(script: &Script, domain: DomainId) -> Result<(Fabric, Fabric), CompareFault> {
+    purge_run(script.alloc, &script.layout, &script.events, domain)
 }
 
 fn is_equal(comparison: &Comparison) -> bool {
@@ -159,8 +142,8 @@ fn is_equal(comparison: &Comparison) -> bool {
 }
 
 /// Does a comparison of both lists say that the domain's journals are equal? It says nothing where it fails.
-fn are_equal<R: Wait>(rt: &R, one: &Script, other: &Script, domain: DomainId) -> Option<bool> {
-    Some(is_equal(&compared(rt, one, other, domain).ok()?))
+fn are_equal(one: &Script, other: &Script, domain: DomainId) -> Option<bool> {
+    Some(is_equal(&compared(one, other, domain).ok()?))
 }
 
 /// What 5,000 writes of the other domain leave in the whole run, and in what is left of it.
@@ -173,8 +156,8 @@ fn leaves_no_trace(whole: &Fabric, left: &Fabric, domain: DomainId, other: Domai
 }
 
 /// Do the writes of the other domain leave no trace in this one's run?
-fn are_apart<R: Wait>(rt: &R, script: &Script, domain: DomainId, other: DomainId) -> bool {
-    match purged(rt, script, domain) {
+fn are_apart(script: &Script, domain: DomainId, other: DomainId) -> bool {
+    match purged(script, domain) {
         Ok((whole, left)) => leaves_no_trace(&whole, &left, domain, other),
         Err(_) => false,
     }
@@ -189,26 +172,26 @@ fn five_thousand_spoofed_writes_leave_no_trace_in_the_other_domain(
     let loud = loud(alloc).ok_or("a longer list")?;
     let domain = DomainId::new(1).ok_or("a domain")?;
     let other = DomainId::new(2).ok_or("another domain")?;
-    assert_eq!(rt; are_equal(&rt, &quiet, &loud, domain), Some(true));
-    assert_eq!(rt; are_equal(&rt, &quiet, &loud, other), Some(false));
-    assert!(rt; are_apart(&rt, &loud, domain, other));
+    assert_eq!(rt; are_equal(&quiet, &loud, domain), Some(true));
+    assert_eq!(rt; are_equal(&quiet, &loud, other), Some(false));
+    assert!(rt; are_apart(&loud, domain, other));
     Ok(())
 }
 
-fn are_not_compared<R: Wait>(rt: &R, script: &Script, nobody: DomainId) -> bool {
-    let comparison = compared(rt, script, script, nobody);
+fn are_not_compared(script: &Script, nobody: DomainId) -> bool {
+    let comparison = compared(script, script, nobody);
     matches!(comparison, Err(CompareFault::NoDomain))
 }
 
-fn is_not_purged<R: Wait>(rt: &R, script: &Script, nobody: DomainId) -> bool {
-    matches!(purged(rt, script, nobody), Err(CompareFault::NoDomain))
+fn is_not_purged(script: &Script, nobody: DomainId) -> bool {
+    matches!(purged(script, nobody), Err(CompareFault::NoDomain))
 }
 
 #[test]
 fn a_domain_that_owns_no_port_is_refused(rt: HostRuntime) -> Result<(), Fail> {
     let script = Script::new(rt.alloc()).ok_or("a layout")?;
     let nobody = DomainId::new(3).ok_or("a domain")?;
-    assert!(rt; are_not_compared(&rt, &script, nobody));
-    assert!(rt; is_not_purged(&rt, &script, nobody));
+    assert!(rt; are_not_compared(&script, nobody));
+    assert!(rt; is_not_purged(&script, nobody));
     Ok(())
 }

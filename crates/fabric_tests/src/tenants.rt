@@ -5,7 +5,7 @@ use fab_types::{Bdf, DomainId, PortId};
 use frame_log::{Frame, FrameFault, Log};
 use layout::Layout;
 use std::alloc::Global;
-use std::sync::{Arc, Wait};
+use std::sync::Arc;
 use std::test::Fail;
 
 const LAYOUT: &str = "pciefab 1
@@ -42,25 +42,25 @@ impl Scene {
         Some(Scene { domain })
     }
 
-    fn write<R: Wait>(&mut self, rt: &R) -> Option<Frame> {
-        self.domain.submit(rt, Bdf::from_bits(0x0300), &WRITE).ok()
+    fn write(&mut self) -> Option<Frame> {
+        self.domain.submit(Bdf::from_bits(0x0300), &WRITE).ok()
     }
 
     /// The packet, which no call takes but `carry`: a write to the host is no completion, and its port has no cause
     /// to stop it.
-    fn strays<R: Wait>(&mut self, rt: &R, frame: Frame) -> Option<Frame> {
+    fn strays(&mut self, frame: Frame) -> Option<Frame> {
         let Err(FrameFault::Stray(frame)) = self.domain.deliver(frame) else {
             return None;
         };
         let port = PortId::new(Bdf::from_bits(0x0200));
-        let Err(FrameFault::Stray(frame)) = self.domain.refuse(rt, frame, port) else {
+        let Err(FrameFault::Stray(frame)) = self.domain.refuse(frame, port) else {
             return None;
         };
         Some(frame)
     }
 
-    fn carries<R: Wait>(&mut self, rt: &R, frame: Frame) -> bool {
-        matches!(self.domain.carry(rt, frame), Ok(None))
+    fn carries(&mut self, frame: Frame) -> bool {
+        matches!(self.domain.carry(frame), Ok(None))
     }
 
     fn entries(&self) -> usize {
@@ -71,10 +71,10 @@ impl Scene {
 #[test]
 fn a_packet_is_taken_by_the_call_of_its_case_alone(rt: HostRuntime) -> Result<(), Fail> {
     let mut scene = Scene::new(rt.alloc()).ok_or("a domain")?;
-    let frame = scene.write(&rt).ok_or("a write")?;
-    let frame = scene.strays(&rt, frame).ok_or("a stray")?;
+    let frame = scene.write().ok_or("a write")?;
+    let frame = scene.strays(frame).ok_or("a stray")?;
     assert_eq!(rt; scene.entries(), 1);
-    assert!(rt; scene.carries(&rt, frame));
+    assert!(rt; scene.carries(frame));
     assert_eq!(rt; scene.entries(), 2);
     Ok(())
 }

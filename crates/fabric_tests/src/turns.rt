@@ -11,7 +11,6 @@ use layout::Layout;
 use layout_tests::EXAMPLE;
 use port::{Port, Reports, TurnParts};
 use std::alloc::Global;
-use std::sync::Wait;
 
 fn port_id(id: u16) -> PortId {
     PortId::new(Bdf::from_bits(id))
@@ -68,23 +67,23 @@ fn port_with(alloc: Global, id: u16, number: u8, left: u64) -> Option<Scene> {
 
 impl Scene {
     /// A function submits the packet of these bytes, which comes into the port.
-    fn submit<R: Wait>(&mut self, rt: &R, function: u16, word: &str) -> bool {
-        match self.submitted(rt, function, word) {
+    fn submit(&mut self, function: u16, word: &str) -> bool {
+        match self.submitted(function, word) {
             Some(frame) => self.input.put(frame).is_ok(),
             None => false,
         }
     }
 
-    fn submitted<R: Wait>(&mut self, rt: &R, function: u16, word: &str) -> Option<Frame> {
+    fn submitted(&mut self, function: u16, word: &str) -> Option<Frame> {
         let bytes = hex::decode(self.alloc, word).ok()?;
         self.desk
             .domain
-            .submit(rt, Bdf::from_bits(function), &bytes)
+            .submit(Bdf::from_bits(function), &bytes)
             .ok()
     }
 
     /// A turn of the port, which has a lane for each way out of its switch.
-    fn turn<R: Wait>(&mut self, rt: &R, class: Class) -> Option<Outcome> {
+    fn turn(&mut self, class: Class) -> Option<Outcome> {
         if self.outs.len() != self.port.lanes() {
             return None;
         }
@@ -95,7 +94,7 @@ impl Scene {
             desk: &mut self.desk,
             reporter: &mut self.place,
         };
-        Some(self.port.turn(rt, class, &mut lanes))
+        Some(self.port.turn(class, &mut lanes))
     }
 
     /// The number of the first packet that waits before the port, and how many there are.
@@ -105,12 +104,12 @@ impl Scene {
         Some((first.number(), packets.len()))
     }
 
-    fn moves<R: Wait>(&mut self, rt: &R, class: Class) -> bool {
-        matches!(self.turn(rt, class), Some(Outcome::Moved))
+    fn moves(&mut self, class: Class) -> bool {
+        matches!(self.turn(class), Some(Outcome::Moved))
     }
 
-    fn rests<R: Wait>(&mut self, rt: &R, class: Class) -> bool {
-        matches!(self.turn(rt, class), Some(Outcome::Idle))
+    fn rests(&mut self, class: Class) -> bool {
+        matches!(self.turn(class), Some(Outcome::Idle))
     }
 
     /// Is this packet the first of so many that wait before the port?
@@ -118,18 +117,18 @@ impl Scene {
         matches!(self.waiting(), Some((first, all)) if first == number && all == count)
     }
 
-    fn rests_before<R: Wait>(&mut self, rt: &R, number: u64, count: usize) -> bool {
-        self.rests(rt, Posted) && self.is_first(number, count)
+    fn rests_before(&mut self, number: u64, count: usize) -> bool {
+        self.rests(Posted) && self.is_first(number, count)
     }
 
-    fn stays<R: Wait>(&mut self, rt: &R, number: u64, count: usize) -> bool {
-        self.is_first(number, count) && self.rests_before(rt, number, count)
+    fn stays(&mut self, number: u64, count: usize) -> bool {
+        self.is_first(number, count) && self.rests_before(number, count)
     }
 
     /// Does the lane give this packet back, and it stays the first of so many before the port? From then on the lane
     /// takes one.
-    fn gives_back<R: Wait>(&mut self, rt: &R, number: u64, count: usize) -> bool {
-        self.stays(rt, number, count) && self.permit(0)
+    fn gives_back(&mut self, number: u64, count: usize) -> bool {
+        self.stays(number, count) && self.permit(0)
     }
 
     /// Does a packet of the class wait in this lane?
@@ -152,11 +151,11 @@ impl Scene {
     }
 
     /// Does the step go as it says?
-    fn does<R: Wait>(&mut self, rt: &R, step: Step) -> bool {
+    fn does(&mut self, step: Step) -> bool {
         match step {
-            Step::Submits(word) => self.submit(rt, SENDER, word),
-            Step::Moves(class) => self.moves(rt, class),
-            Step::Rests(class) => self.rests(rt, class),
+            Step::Submits(word) => self.submit(SENDER, word),
+            Step::Moves(class) => self.moves(class),
+            Step::Rests(class) => self.rests(class),
             Step::Permits(lane) => self.permit(lane),
             Step::Sent(lane, class) => self.has_sent(lane, class),
             Step::SentNothing(lane, class) => !self.has_sent(lane, class),
@@ -192,11 +191,11 @@ enum Step {
 
 /// How many of these steps go as they say, at the port above 06:00.0 of domain 2, whose lanes each take this many
 /// packets.
-fn steps_done<R: Wait>(rt: &R, alloc: Global, left: u64, steps: &[Step]) -> Option<usize> {
+fn steps_done(alloc: Global, left: u64, steps: &[Step]) -> Option<usize> {
     let mut scene = port_with(alloc, PORT, 2, left)?;
     let mut done = 0_usize;
     for step in steps {
-        if !scene.does(rt, *step) {
+        if !scene.does(*step) {
             return Some(done);
         }
         done = done.wrapping_add(1);
@@ -206,19 +205,19 @@ fn steps_done<R: Wait>(rt: &R, alloc: Global, left: u64, steps: &[Step]) -> Opti
 
 /// Three packets go to a lane that takes so many of them, and each further one where it was asked once more: is each that it
 /// gives back where it was, and do all go on in their order?
-fn stay_until_taken<R: Wait>(rt: &R, alloc: Global, left: u64) -> Option<bool> {
+fn stay_until_taken(alloc: Global, left: u64) -> Option<bool> {
     let mut scene = port_with(alloc, PORT, 2, left)?;
     for _ in 0..3 {
-        if !scene.submit(rt, SENDER, WRITE_TO_A_PEER) {
+        if !scene.submit(SENDER, WRITE_TO_A_PEER) {
             return None;
         }
     }
     for number in 0..3_u8 {
         let (packet, count) = (u64::from(number), usize::from(3 - number));
-        if packet >= left && !scene.gives_back(rt, packet, count) {
+        if packet >= left && !scene.gives_back(packet, count) {
             return Some(false);
         }
-        if !scene.moves(rt, Posted) {
+        if !scene.moves(Posted) {
             return Some(false);
         }
     }
@@ -238,7 +237,7 @@ const WRITE_TO_A_PEER: &str = "400000010600000f9000000000000001";
 #[test]
 fn a_packet_that_the_lane_gives_back_stays_where_it_was(rt: HostRuntime) {
     for left in 0..3 {
-        assert_eq!(rt; stay_until_taken(&rt, rt.alloc(), left), Some(true));
+        assert_eq!(rt; stay_until_taken(rt.alloc(), left), Some(true));
     }
 }
 
@@ -252,7 +251,7 @@ fn an_answer_that_the_lane_gives_back_is_put_later(rt: HostRuntime) {
         Step::Rests(NonPosted),
         Step::Sent(1, Completion),
     ];
-    assert_eq!(rt; steps_done(&rt, rt.alloc(), 0, &steps), Some(steps.len()));
+    assert_eq!(rt; steps_done(rt.alloc(), 0, &steps), Some(steps.len()));
 }
 
 #[test]
@@ -271,5 +270,5 @@ fn nothing_goes_on_while_a_report_is_held(rt: HostRuntime) {
         Step::Moves(Posted),
         Step::Sent(0, Posted),
     ];
-    assert_eq!(rt; steps_done(&rt, rt.alloc(), 16, &steps), Some(steps.len()));
+    assert_eq!(rt; steps_done(rt.alloc(), 16, &steps), Some(steps.len()));
 }

@@ -1,3 +1,4 @@
 pub mod Descriptor
+pub mod Rows
 pub mod Words
 pub mod Faults

@@ -6,6 +6,8 @@ mod entry;
 mod fault;
 mod frame;
 mod log;
+mod place;
+mod row;
 mod token;
 
 pub use entry::TlpEntry;

@@ -1,38 +1,33 @@
 ghost use Rattle.std.specs.Prelude.{◌≡◌, ◌≤◌, IfOk, length};
-ghost use Rattle.boxcar.specs.Table.{Shows};
 
 use crate::entry::TlpEntry;
 use crate::frame::Frame;
-use crate::token::{Chunk, Token};
-use boxcar::Pushed;
+use crate::row::Row;
+use crate::token::Token;
 use fab_types::{DomainId, Head, NoMemory, PacketBytes};
 use std::alloc::Global;
 use std::marker::Model;
-use std::sync::Wait;
 
 /// How many domains there may be: their numbers are 1 to 31.
 const DOMAINS: usize = 31;
 
-/// How many packets a chunk is for: as many as it holds before it makes room for twice as many.
-const CHUNK: u64 = 3_808;
-
 /// A log of packets, shared by all who emit, in any thread. Entries are added, and stay as they are where they are
 /// until the log ends. Those of a domain stand in a row of their own, so that threads which emit for different domains
-/// share nothing; a row is made of chunks. A contract sees where the rows stand.
+/// share nothing. A contract sees where the rows stand.
 #[derive(Drop)]
 pub struct Log {
     alloc: Global,
-    rows: Vec<boxcar::Vec<Chunk>>,
+    rows: Vec<Row>,
 }
 
 impl Model for Log {
     ghost use Rattle.std.specs.Prelude.{◌≡◌, List, length};
-    ghost use Rattle.boxcar.specs.Table.{Shelves, shelves_coded};
+    ghost use Rattle.boxcar.specs.Slot.{Named, named_coded};
     ghost use base.Stored.{coded_list};
 
-    ghost Value = { List Shelves };
+    ghost Value = { List (List Named) };
 
-    ghost coded = { coded_list shelves_coded };
+    ghost coded = { coded_list (coded_list named_coded) };
 
     ghost view = { λ l. l.rows.items };
 
@@ -46,43 +41,22 @@ impl Log {
     pub fn new(alloc: Global) -> Result<Log, NoMemory> {
         let mut rows = Vec::with_capacity(alloc, DOMAINS)?;
         for _ in 0..DOMAINS {
-            rows.push_reserved(boxcar::Vec::new(alloc)?);
+            rows.push_reserved(Row::new(alloc)?);
         }
         Ok(Log { alloc, rows })
     }
 
-    /// Where the chunks of this domain stand.
-    fn row(&self, domain: DomainId) -> &boxcar::Vec<Chunk>
+    /// Where the entries of this domain stand.
+    fn row(&self, domain: DomainId) -> &Row
         ensures { result.now ≡ row_of self.now domain }
     {
         &self.rows[usize::from(domain.get()) - 1]
     }
 
-    /// The chunk of this domain's packet of this number. The numbers of a domain rise one by one.
-    fn chunk<R: Wait>(
-        &self,
-        rt: &R,
-        domain: DomainId,
-        number: u64,
-    ) -> Result<Pushed<Chunk>, NoMemory>
-        ensures { IfOk result (λ chunk. Shows (row_of self.now domain) chunk) }
-    {
-        let row = self.row(domain);
-        if let Some(chunk) = row.witness((number / CHUNK) as usize) {
-            return Ok(chunk);
-        }
-        match row.push_shown(rt, boxcar::Vec::new(self.alloc)?) {
-            Ok(chunk) => Ok(chunk),
-            Err(_) => Err(NoMemory),
-        }
-    }
-
     /// Adds a packet, of at most 272 bytes: 16 of header and 256 of payload. It answers `NoMemory` where
-    /// memory was refused; then no token names an entry of it. It may have to wait for another thread that is
-    /// making room.
-    pub fn emit<R: Wait>(
+    /// memory was refused; then no token names an entry of it. It waits for nobody.
+    pub fn emit(
         &self,
-        rt: &R,
         domain: DomainId,
         number: u64,
         head: Head,
@@ -96,13 +70,12 @@ impl Log {
         ensures token { IfOk result (λ r. Shown self.now r.1) }
     {
         let bytes = PacketBytes::copy_of(self.alloc, bytes)?;
-        self.emit_bytes(rt, domain, number, head, bytes)
+        self.emit_bytes(domain, number, head, bytes)
     }
 
     /// The same of bytes that need no copy.
-    pub fn emit_bytes<R: Wait>(
+    pub fn emit_bytes(
         &self,
-        rt: &R,
         domain: DomainId,
         number: u64,
         head: Head,
@@ -120,11 +93,8 @@ impl Log {
             number,
             bytes,
         };
-        let chunk = self.chunk(rt, domain, number)?;
-        let Ok(at) = self.row(domain).value(&chunk).push_shown(rt, entry) else {
-            return Err(NoMemory);
-        };
-        let token = Token { domain, chunk, at };
+        let at = self.row(domain).store(self.alloc, entry)?;
+        let token = Token { domain, at };
         Ok((Frame::of(domain, number, head), token))
     }
 
@@ -134,6 +104,6 @@ impl Log {
         requires { Shown self.now token.now }
         ensures { result.now ≡ entry_of token.now }
     {
-        self.row(token.domain).value(&token.chunk).value(&token.at)
+        self.row(token.domain).lend(&token.at)
     }
 }

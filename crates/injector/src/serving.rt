@@ -12,25 +12,24 @@ use crate::begin_ring::BeginRing;
 use domain::Domain;
 use fab_types::{BeginFault, MmioFault, SubmitFault, TickFault};
 use frame_log::Frame;
-use std::sync::Wait;
 
 /// Makes the call of the domain that is asked for.
-fn perform<R: Wait>(rt: &R, domain: &mut Domain, ask: &Ask) -> Result<Option<Frame>, BeginFault>
+fn perform(domain: &mut Domain, ask: &Ask) -> Result<Option<Frame>, BeginFault>
     ensures ok { IfOk result (λ sent. Makes domain.old (entry_of ask.now) domain.new sent) }
     ensures refused { (fault : BeginFault) → begin_fault domain.old ask.now ≡ Some fault → result ≡ Err fault }
     ensures accepted { begin_fault domain.old ask.now ≡ None → IsOkUnless result (memory_fault ask.now) }
     ensures err { OnErr result (domain.new ≡ domain.old) }
 {
     match ask {
-        Ask::Submit(function, bytes) => match domain.submit(rt, *function, bytes.as_slice()) {
+        Ask::Submit(function, bytes) => match domain.submit(*function, bytes.as_slice()) {
             Ok(frame) => Ok(Some(frame)),
             Err(fault) => Err(BeginFault::Submit(fault)),
         },
-        Ask::Tick(function) => match domain.tick(rt, *function) {
+        Ask::Tick(function) => match domain.tick(*function) {
             Ok(sent) => Ok(sent),
             Err(fault) => Err(BeginFault::Tick(fault)),
         },
-        Ask::Mmio(access) => match domain.mmio(rt, access) {
+        Ask::Mmio(access) => match domain.mmio(access) {
             Ok(frame) => Ok(Some(frame)),
             Err(fault) => Err(BeginFault::Mmio(fault)),
         },
@@ -59,11 +58,7 @@ fn is_memory_fault(fault: &BeginFault) -> bool
 ///
 /// The fault of that call, after which the domain is as it was. The begin is counted as refused; but where
 /// memory was refused it is held, and the next `serve` makes the same call again.
-pub fn serve<R: Wait>(
-    rt: &R,
-    domain: &mut Domain,
-    ring: &mut BeginRing,
-) -> Result<Option<Frame>, BeginFault>
+pub fn serve(domain: &mut Domain, ring: &mut BeginRing) -> Result<Option<Frame>, BeginFault>
     ensures ring { SameConsumer ring.old.consumer ring.new.consumer }
     ensures ok { IfOk result (λ sent. Serves domain.old ring.old domain.new ring.new sent) }
     ensures err { IfErr result (λ fault. Refuses domain.old ring.old domain.new ring.new fault) }
@@ -74,7 +69,7 @@ pub fn serve<R: Wait>(
     let Some(begin) = ring.held() else {
         unreachable!();
     };
-    match perform(rt, domain, &begin.what) {
+    match perform(domain, &begin.what) {
         Ok(sent) => {
             ring.accept();
             Ok(sent)

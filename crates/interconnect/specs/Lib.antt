@@ -4,5 +4,5 @@ pub mod Quiet
 pub mod Starts
 pub mod Kept
 pub mod Passes
-pub mod Lost
+pub mod Misrouted
 pub mod Waits

@@ -41,8 +41,8 @@ first_credits (Some limits) = counters_of limits
 abbrev pub unused_below : Platform → ℕ → SimplexView
 unused_below platform lower = unused (first_credits (credits_of platform lower))
 
-abbrev pub root_outputs : Platform → List SimplexView
-root_outputs platform = unused_below platform (id_of 1 0 0) ∷ []
+abbrev pub host_outputs : Platform → List SimplexView
+host_outputs platform = unused_below platform (id_of 1 0 0) ∷ []
 
 abbrev pub switch_outputs : Platform → Switch → List SimplexView
 switch_outputs platform switch = unused_below platform switch.id ∷ map (λ port. unused_below platform (id_below port)) (ports_on platform.ports (internal_bus switch))
@@ -51,7 +51,7 @@ abbrev pub function_outputs : Platform → EndpointFunction → List SimplexView
 function_outputs platform function = unused_below platform function.id ∷ []
 
 abbrev pub nodes_of : Platform → List (List SimplexView)
-nodes_of platform = root_outputs platform ∷ (map (switch_outputs platform) platform.switches ++ map (function_outputs platform) platform.functions)
+nodes_of platform = host_outputs platform ∷ (map (switch_outputs platform) platform.switches ++ map (function_outputs platform) platform.functions)
 
 -- a port that holds nothing
 abbrev pub idle_port : Config → PortView

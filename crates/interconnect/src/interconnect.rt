@@ -10,17 +10,17 @@ ghost use Rattle.lane.specs.Lanes.{eligible};
 ghost use Rattle.topology.specs.Links.{sender_of};
 ghost use Rattle.topology.specs.Topologies.{IsEnd};
 ghost use Rattle.interconnect.specs.Kept.{IsInterconnect};
-ghost use Rattle.interconnect.specs.Lost.{lost_at};
+ghost use Rattle.interconnect.specs.Misrouted.{misrouted_at};
 ghost use Rattle.interconnect.specs.Moves.{on_channel};
 ghost use Rattle.interconnect.specs.Passes.{Passes, index_of, input_of};
 ghost use Rattle.interconnect.specs.Quiet.{is_quiet_at, none_received_at};
 ghost use Rattle.interconnect.specs.Starts.{start_of};
 ghost use Rattle.interconnect.specs.Views.{IsSameRest, channels};
 
-use crate::lost::{Lost, lost_by};
+use crate::misrouted::{Misrouted, misrouted_by};
 use crate::node::Node;
 use crate::outputs::{
-    deliver_at, has_none_received_at, head_at, is_quiet_at, send_at, update_fc_at,
+    deliver_at, head_at, is_ingress_empty_at, is_quiet_at, send_at, update_fc_at,
 };
 use crate::pass::{index_of, turn_at};
 use crate::start::{nodes_of, ports_of};
@@ -32,7 +32,6 @@ use layout::Layout;
 use port::Port;
 use std::alloc::Global;
 use std::marker::Model;
-use std::sync::Wait;
 use topology::{Link, LinkEnd, Topology};
 
 /// The links and switches of a layout (PCIe 4.0, 1.3).
@@ -161,11 +160,11 @@ impl Interconnect {
 
     /// Did this direction bring nothing that may leave its receiver, whatever its class? So it is too where there is no
     /// such link.
-    pub fn has_none_received(&self, direction: Direction) -> bool
+    pub fn is_ingress_empty(&self, direction: Direction) -> bool
         ensures { result ≡ none_received_at (channels self.now) (sender_of (self.now.tree).links direction) }
     {
         match self.topology.sender(direction) {
-            Some(end) => has_none_received_at(&self.nodes, end),
+            Some(end) => is_ingress_empty_at(&self.nodes, end),
             None => true,
         }
     }
@@ -173,13 +172,13 @@ impl Interconnect {
     /// Did nothing come into this port that may leave its queue?
     /// That is asked of all classes. So it is too where there is no port of this ID, and where nothing stands
     /// at the other end of its link.
-    pub fn has_none_passing(&self, id: PortId) -> bool
+    pub fn is_input_empty(&self, id: PortId) -> bool
         ensures { result ≡ none_received_at (channels self.now) (input_of (self.now.tree).places id) }
     {
         let Some(end) = self.input(id) else {
             return true;
         };
-        has_none_received_at(&self.nodes, end)
+        is_ingress_empty_at(&self.nodes, end)
     }
 
     /// Where the packets that come into the port of this ID are sent from. None where there is no such port, and
@@ -192,14 +191,14 @@ impl Interconnect {
         self.topology.places()[index].input
     }
 
-    /// What the port of this ID is about to lose, if anything.
+    /// What the port of this ID is about to misroute, if anything.
     /// That is the eligible packet of a class that came into it and that it has no case for. None where the
     /// packet goes on or is stopped by the port, where no packet is eligible, and where there is no such port
     /// or nothing comes into it.
-    pub fn lost_at(&mut self, id: PortId, class: Class) -> Option<Lost>
-        ensures value { result ≡ lost_at self.old id class }
-        ensures input { IfSome result (λ lost. IsEnd (self.old.tree).outputs lost.input) }
-        ensures own { IfSome result (λ lost. IsEnd (self.old.tree).outputs lost.own) }
+    pub fn misrouted_at(&mut self, id: PortId, class: Class) -> Option<Misrouted>
+        ensures value { result ≡ misrouted_at self.old id class }
+        ensures input { IfSome result (λ misrouted. IsEnd (self.old.tree).outputs misrouted.input) }
+        ensures own { IfSome result (λ misrouted. IsEnd (self.old.tree).outputs misrouted.own) }
         ensures same { channels self.new ≡ channels self.old }
         ensures rest { IsSameRest self.old self.new }
     {
@@ -209,15 +208,14 @@ impl Interconnect {
         let Some(head) = head_at(&mut self.nodes, input, class) else {
             return None;
         };
-        lost_by(&self.ports[index], &self.bridge, place.node, input, &head)
+        misrouted_by(&self.ports[index], &self.bridge, place.node, input, &head)
     }
 
     /// The turn of the port of this ID, as `Port::turn` does it.
     /// Packets come into it from the receiver of the direction that leads there, and go into the senders of its
     /// switch. `Idle` where there is no such port, and where nothing stands at the other end of its link.
-    pub fn pass<W: Wait, D: Desk, R: Reporter>(
+    pub fn pass<D: Desk, R: Reporter>(
         &mut self,
-        rt: &W,
         id: PortId,
         class: Class,
         desk: &mut D,
@@ -234,7 +232,6 @@ impl Interconnect {
         };
         turn_at(
             &mut self.ports[index],
-            rt,
             class,
             &self.bridge,
             &mut self.nodes,

@@ -4,7 +4,7 @@
 mod credits;
 mod ends;
 mod interconnect;
-mod lost;
+mod misrouted;
 mod node;
 mod outputs;
 mod pass;
@@ -13,4 +13,4 @@ mod waits;
 
 pub use credits::first_credits;
 pub use interconnect::Interconnect;
-pub use lost::Lost;
+pub use misrouted::Misrouted;

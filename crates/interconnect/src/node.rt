@@ -3,7 +3,7 @@
 use link::Simplex;
 use std::marker::Model;
 
-/// The root complex, a switch or a function, with the directions of links that lead out of it, by output.
+/// The host, a switch or a function, with the directions of links that lead out of it, by output.
 #[derive(Drop)]
 pub(crate) struct Node {
     /// The directions that lead out of it, by the number of the output.

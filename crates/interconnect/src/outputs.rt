@@ -101,12 +101,12 @@ pub(crate) fn home_received_at(nodes: &[Node], end: LinkEnd, class: Class) -> Op
 }
 
 /// May no packet leave the receiver of an end, whatever its class?
-pub(crate) fn has_none_received_at(nodes: &[Node], end: LinkEnd) -> bool
+pub(crate) fn is_ingress_empty_at(nodes: &[Node], end: LinkEnd) -> bool
     requires { IsEnd (map length nodes.now) end }
     ensures { result ≡ none_received_at (channels_of nodes.now) (Some end) }
 {
     let node = &nodes[end.node];
-    node.outputs[end.output].has_none_received()
+    node.outputs[end.output].is_ingress_empty()
 }
 
 /// Can nothing happen on the direction of an end by itself?

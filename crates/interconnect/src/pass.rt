@@ -13,7 +13,6 @@ use fab_types::{Class, Outcome, PortId};
 use lane::{Desk, Reporter};
 use link::Simplex;
 use port::{Port, TurnParts};
-use std::sync::Wait;
 use topology::{LinkEnd, Topology};
 
 /// Which of the ports has this ID.
@@ -25,9 +24,8 @@ pub(crate) fn index_of(topology: &Topology, id: PortId) -> Option<usize>
 }
 
 /// The turn of a port between a direction that leads into it and those that lead out of its switch.
-fn turn_between<'a, W: Wait, D: Desk, R: Reporter>(
+fn turn_between<'a, D: Desk, R: Reporter>(
     port: &mut Port,
-    rt: &W,
     class: Class,
     bridge: &'a Bridge,
     input: &'a mut Simplex,
@@ -49,13 +47,12 @@ fn turn_between<'a, W: Wait, D: Desk, R: Reporter>(
         desk,
         reporter,
     };
-    port.turn(rt, class, &mut parts)
+    port.turn(class, &mut parts)
 }
 
 /// The same between two nodes.
-fn turn_nodes<'a, W: Wait, D: Desk, R: Reporter>(
+fn turn_nodes<'a, D: Desk, R: Reporter>(
     port: &mut Port,
-    rt: &W,
     class: Class,
     bridge: &'a Bridge,
     from: &'a mut Node,
@@ -70,7 +67,6 @@ fn turn_nodes<'a, W: Wait, D: Desk, R: Reporter>(
 {
     turn_between(
         port,
-        rt,
         class,
         bridge,
         &mut from.outputs[output],
@@ -82,9 +78,8 @@ fn turn_nodes<'a, W: Wait, D: Desk, R: Reporter>(
 
 /// The turn of a port at a node.
 /// Packets come into it that are sent from an end of another node.
-pub(crate) fn turn_at<'a, W: Wait, D: Desk, R: Reporter>(
+pub(crate) fn turn_at<'a, D: Desk, R: Reporter>(
     port: &mut Port,
-    rt: &W,
     class: Class,
     bridge: &'a Bridge,
     nodes: &'a mut [Node],
@@ -107,7 +102,6 @@ pub(crate) fn turn_at<'a, W: Wait, D: Desk, R: Reporter>(
         let (front, back) = nodes.split_at_mut(node);
         turn_nodes(
             port,
-            rt,
             class,
             bridge,
             &mut front[input.node],
@@ -120,7 +114,6 @@ pub(crate) fn turn_at<'a, W: Wait, D: Desk, R: Reporter>(
         let (front, back) = nodes.split_at_mut(input.node);
         turn_nodes(
             port,
-            rt,
             class,
             bridge,
             &mut back[0],

@@ -5,7 +5,7 @@ ghost use Rattle.platform.specs.Tree.{is_on_bus};
 ghost use Rattle.platform.specs.Tree.{id_below};
 ghost use Rattle.topology.specs.Nodes.{ports_on};
 ghost use Rattle.port.specs.Configs.{downstream_config, upstream_config};
-ghost use Rattle.interconnect.specs.Starts.{function_outputs, idle_port, nodes_of, ports_of, root_outputs, switch_outputs, unused_below};
+ghost use Rattle.interconnect.specs.Starts.{function_outputs, idle_port, nodes_of, ports_of, host_outputs, switch_outputs, unused_below};
 
 use crate::credits::first_credits;
 use crate::node::Node;
@@ -24,14 +24,14 @@ fn unused_below(alloc: Global, layout: &Layout, lower: Bdf) -> Result<Simplex, N
     Simplex::new(alloc, first_credits(layout, lower))
 }
 
-/// The root complex.
-fn root_node(alloc: Global, layout: &Layout) -> Result<Node, NoMemory>
-    ensures { IfOk result (λ node. node ≡ root_outputs layout.now) }
+/// The host.
+fn host_node(alloc: Global, layout: &Layout) -> Result<Node, NoMemory>
+    ensures { IfOk result (λ node. node ≡ host_outputs layout.now) }
 {
     function_node(alloc, layout, Bdf::from_bits(0x0100))
 }
 
-/// A function, or the root complex, above the link with this lower end.
+/// A function, or the host, above the link with this lower end.
 fn function_node(alloc: Global, layout: &Layout, lower: Bdf) -> Result<Node, NoMemory>
     ensures { IfOk result (λ node. node ≡ unused_below layout.now lower ∷ []) }
 {
@@ -82,12 +82,12 @@ fn add_functions(alloc: Global, layout: &Layout, nodes: &mut Vec<Node>) -> Resul
     Ok(())
 }
 
-/// The root complex, the switches and the functions, on whose links nothing was sent.
+/// The host, the switches and the functions, on whose links nothing was sent.
 pub(crate) fn nodes_of(alloc: Global, layout: &Layout) -> Result<Vec<Node>, NoMemory>
     ensures { IfOk result (λ nodes. nodes.items ≡ nodes_of layout.now) }
 {
     let mut nodes = Vec::new(alloc);
-    nodes.push(root_node(alloc, layout)?)?;
+    nodes.push(host_node(alloc, layout)?)?;
     add_switches(alloc, layout, &mut nodes)?;
     add_functions(alloc, layout, &mut nodes)?;
     Ok(nodes)

@@ -16,7 +16,6 @@ use layout::Start;
 use std::alloc::{AllocError, Global};
 use std::io;
 use std::io::{ErrorKind, Write};
-use std::sync::Wait;
 
 /// Writes the journal of a domain.
 /// It has a line for each entry, behind it a comment on the packet that it made, and last what is in flight.
@@ -25,12 +24,7 @@ use std::sync::Wait;
 /// # Errors
 ///
 /// Those of the writer, and `OutOfMemory` where memory was refused.
-pub fn write_journal<R: Wait, W: Write>(
-    rt: &R,
-    alloc: Global,
-    out: &mut W,
-    domain: &Domain,
-) -> io::Result<()>
+pub fn write_journal<W: Write>(alloc: Global, out: &mut W, domain: &Domain) -> io::Result<()>
     ensures written { OnOk result (Appends (W.contents out.old) (W.contents out.new) (journal_text domain.now.share domain.now.journal)) }
     // A text of at most 16,777,216 lines is read as the same entries.
     ensures read_back { OnOk result (2 * length domain.now.journal + 1 ≤ 16777216 → IsReadBack domain.now.share domain.now.journal) }
@@ -39,27 +33,26 @@ pub fn write_journal<R: Wait, W: Write>(
     // for the proof: a domain's number is 1 to 31
     let _ = share.domain().get();
     // What a packet was is told by the domain's state when it was made.
-    let mut machine = at_start(rt, alloc, share)?;
+    let mut machine = at_start(alloc, share)?;
     for entry in domain.journal() {
-        write_step(rt, alloc, out, &mut machine, entry)?;
+        write_step(alloc, out, &mut machine, entry)?;
     }
     let numbers = in_flight(alloc, &machine)?;
     write_in_flight(out, &numbers)
 }
 
 /// A domain before its first entry.
-fn at_start<R: Wait>(rt: &R, alloc: Global, start: &Start) -> io::Result<Domain>
+fn at_start(alloc: Global, start: &Start) -> io::Result<Domain>
     ensures { IfOk result (λ domain. (domain.share ≡ start.now) × (domain.state ≡ start_state start.now)) }
 {
-    match Domain::replay(rt, alloc, start, &[]) {
+    match Domain::replay(alloc, start, &[]) {
         Ok(domain) => Ok(domain),
         Err(_) => Err(io::Error::from(ErrorKind::OutOfMemory)),
     }
 }
 
 /// Writes an entry, and what it makes of this domain.
-fn write_step<R: Wait, W: Write>(
-    rt: &R,
+fn write_step<W: Write>(
     alloc: Global,
     out: &mut W,
     machine: &mut Domain,
@@ -72,7 +65,7 @@ fn write_step<R: Wait, W: Write>(
     entry_fits(entry);
     let number = machine.made();
     write_entry(alloc, out, machine.start().domain(), entry)?;
-    match machine.apply(rt, entry) {
+    match machine.apply(entry) {
         Ok(()) => {}
         Err(EntryFault::NoMemory) => return Err(io::Error::from(ErrorKind::OutOfMemory)),
         Err(EntryFault::Illegal) => unreachable!(),

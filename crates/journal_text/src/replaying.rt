@@ -10,7 +10,6 @@ use crate::read::JournalLine;
 use domain::{Domain, EntryFault};
 use layout::Start;
 use std::alloc::Global;
-use std::sync::Wait;
 
 /// Why lines were not replayed.
 #[derive(Clone, Copy, Debug, PartialEq, Eq)]
@@ -27,22 +26,17 @@ pub enum LineFault {
 ///
 /// `Illegal` and the number of the first line whose entry is illegal after those before it, or `NoMemory` where memory
 /// was refused.
-pub fn replay<R: Wait>(
-    rt: &R,
-    alloc: Global,
-    start: &Start,
-    lines: &[JournalLine],
-) -> Result<Domain, LineFault>
+pub fn replay(alloc: Global, start: &Start, lines: &[JournalLine]) -> Result<Domain, LineFault>
     ensures state { IfOk result (λ domain. machine.replay start.now (entries_of lines.now) ≡ Some domain.state) }
     ensures journal { IfOk result (λ domain. (domain.journal ≡ entries_of lines.now) × (domain.share ≡ start.now)) }
     ensures illegal { (number : ℕ) → result ≡ Err (LineFault.Illegal number) → IsFirstIllegalLine start.now lines.now number }
     ensures legal { (s : Alone) → machine.replay start.now (entries_of lines.now) ≡ Some s → IsOkUnless result LineFault.NoMemory }
 {
-    let Ok(mut domain) = Domain::replay(rt, alloc, start, &[]) else {
+    let Ok(mut domain) = Domain::replay(alloc, start, &[]) else {
         return Err(LineFault::NoMemory);
     };
     for line in lines {
-        match domain.apply(rt, &line.entry) {
+        match domain.apply(&line.entry) {
             Ok(()) => {}
             Err(EntryFault::Illegal) => return Err(LineFault::Illegal(line.number)),
             Err(EntryFault::NoMemory) => return Err(LineFault::NoMemory),

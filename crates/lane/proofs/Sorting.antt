@@ -60,8 +60,8 @@ both None = refl
 both (Some r) = refl
 
 -- and whether there is one
-pub leaving_found : (c : Class) (ws : List (Class × Descriptor)) → IsSorted ws → is_some (head_of c ws) ≡ is_some (eligible c (frames_of ws))
-leaving_found c ws all = both (taken_of c ws) ∙ ap (is_some {T = Descriptor × List Descriptor}) (sym (eligible_of c ws all))
+pub eligible_classes_found : (c : Class) (ws : List (Class × Descriptor)) → IsSorted ws → is_some (head_of c ws) ≡ is_some (eligible c (frames_of ws))
+eligible_classes_found c ws all = both (taken_of c ws) ∙ ap (is_some {T = Descriptor × List Descriptor}) (sym (eligible_of c ws all))
 
 pub none_taken : (c : Class) (ws : List (Class × Descriptor)) → IsSorted ws → taken_of c ws ≡ None → eligible c (frames_of ws) ≡ None
 none_taken c ws all e = eligible_of c ws all ∙ ap (option_map of_taken) e

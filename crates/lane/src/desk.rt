@@ -7,7 +7,6 @@ ghost use Rattle.frame_log.specs.declared.fault.FrameFault.TheVariants as fault;
 
 use fab_types::PortId;
 use frame_log::{Frame, FrameFault};
-use std::sync::Wait;
 
 /// The domains whose packets a port refuses.
 pub trait Desk {
@@ -29,12 +28,7 @@ pub trait Desk {
     /// Has the domain that made the packet refuse it. A non-posted request is answered by the port with
     /// a completion for its sender, whose frame is the result. `Stray`: the domain doesn't know the
     /// packet. `NoMemory`: memory was refused. Then nothing changes, and the frame is given back.
-    fn refuse<W: Wait>(
-        &mut self,
-        rt: &W,
-        frame: Frame,
-        port: PortId,
-    ) -> Result<Option<Frame>, FrameFault>
+    fn refuse(&mut self, frame: Frame, port: PortId) -> Result<Option<Frame>, FrameFault>
         ensures refused { MatchResult result (λ answer. refuses (known self.old) frame port answer (known self.new)) (λ fault. fault_frame fault ≡ frame) }
         ensures stray { IfErr result (λ f. f ≡ fault.Stray frame → unknown (known self.old) frame port) }
         ensures memory { IfErr result (λ f. f ≡ fault.NoMemory frame → wants (known self.old) frame port) }

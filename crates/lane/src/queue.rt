@@ -2,7 +2,7 @@
 
 ghost use Rattle.std.specs.Prelude.{◌≡◌, ◌≢◌, ◌<◌, ◌^◌, ◌==◌, ◌++◌, ◌∷◌, ℕ, [], None, IfOk, IsTrue, MatchBool, MatchResult, ◌↔◌, false, is_some, length, map, option_map, true};
 ghost use Rattle.std.specs.List.Sorted.{IsPermutation};
-ghost use Rattle.port_queue.specs.Leaving.{has};
+ghost use Rattle.port_queue.specs.EligibleClasses.{has};
 ghost use Rattle.port_queue.specs.Queue.{count_of};
 ghost use Rattle.lane.specs.Lanes.{Class, class_of, eligible};
 ghost use Rattle.lane.specs.Queues.{frames_of, frames_restored, IsSorted};
@@ -10,7 +10,7 @@ ghost use Rattle.lane.specs.Queues.{frames_of, frames_restored, IsSorted};
 use crate::lane_in::LaneIn;
 use fab_types::{Class, DomainId, Head, NoMemory};
 use frame_log::Frame;
-use port_queue::{LeavingClasses, PortQueue};
+use port_queue::{EligibleClasses, PortQueue};
 use std::alloc::Global;
 use std::marker::Model;
 
@@ -102,10 +102,10 @@ impl<const CAP: usize> FrameQueue<CAP> {
     }
 
     /// Of which classes a packet may leave (PCIe 4.0, 2.4.1).
-    pub fn leaving(&self) -> LeavingClasses
+    pub fn eligible_classes(&self) -> EligibleClasses
         ensures { (class : Class) → has result class ≡ is_some (eligible class (frames_of self.now.queue.waiting)) }
     {
-        self.queue.leaving()
+        self.queue.eligible_classes()
     }
 
     /// The domain that made the eligible packet of a class (PCIe 4.0, 2.4.1).

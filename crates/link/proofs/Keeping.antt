@@ -79,15 +79,15 @@ spent-counted s limit cost before after more room kept = record {
     spent_ahead k l h =
         ap (λ m. distance (size_of k) m l) (at-counted s.credits_consumed cost k (kept.range k).counter) ∙ distance-spent (size_of k) (at s.credits_consumed k) l (cost_of cost k) (kept.range k).counter h
 
--- the receiver's limits can be told
+-- the receiver's limits can be advertised
 pub counted-update : (s : Ledger) (limit : Counters) (behind : List Descriptor) → IsCounted s limit behind → IsUpdate s limit
 counted-update s limit behind kept k =
     let covered = kept.covered k in
     let freed = kept.freed k in
     (omega arith, omega arith)
 
-pub told-counted : (s : Ledger) (limit : Counters) (behind : List Descriptor) → IsCounted s limit behind → IsCounted (record s { credit_limit = limit }) limit behind
-told-counted s limit behind kept = record {
+pub advertised-counted : (s : Ledger) (limit : Counters) (behind : List Descriptor) → IsCounted s limit behind → IsCounted (record s { credit_limit = limit }) limit behind
+advertised-counted s limit behind kept = record {
   range = update-in_range s limit kept.range (counted-update s limit behind kept);
   covered = λ k. let freed = kept.freed k in omega arith;
   freed = kept.freed;

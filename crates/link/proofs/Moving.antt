@@ -8,7 +8,7 @@ use Rattle.credit.specs.declared.counters.Counters.{Counters}
 use Rattle.credit.proofs.Counting.{at-counted, covers-all}
 use Rattle.credit.proofs.Distances.{distance-spent, distance-same}
 use Rattle.lane.specs.Lanes.{eligible}
-use Rattle.link.specs.Channels.{Channel, has_room, spent, unspent, same_counters, total, sent_on, send, received_of, deliver, told_of, update_fc}
+use Rattle.link.specs.Channels.{Channel, has_room, spent, unspent, same_counters, total, sent_on, send, received_of, deliver, advertised_of, update_fc}
 use Rattle.link.specs.Simplexes.{IsCounted}
 use Rattle.link.specs.Steps.{IsStuck, Delivers, Transmits}
 use Rattle.link.proofs.Credits.{at-left, same-at, at-spent, at-unspent, both-true, true-both, true-same, same-self}
@@ -45,8 +45,8 @@ left_spent s cost range room = same-at (spent (left_counters s.credits_consumed 
     ∙ sym (at-left (counted s.credits_consumed cost) s.credit_limit k)))))
 
 -- the receiver's limits leave the start without what travels and waits
-told_left : (s : Ledger) (limit : Counters) (behind : List Descriptor) → IsCounted s limit behind → left_counters s.credits_consumed limit ≡ unspent s.start behind
-told_left s limit behind kept = same-at (left_counters s.credits_consumed limit) (unspent s.start behind)
+advertised_left : (s : Ledger) (limit : Counters) (behind : List Descriptor) → IsCounted s limit behind → left_counters s.credits_consumed limit ≡ unspent s.start behind
+advertised_left s limit behind kept = same-at (left_counters s.credits_consumed limit) (unspent s.start behind)
     (λ k. let freed = kept.freed k in
     let left : distance (size_of k) (at s.credits_consumed k) (at limit k) ≡ at s.start k - total k behind = omega arith in
     at-left s.credits_consumed limit k ∙ (left ∙ sym (at-unspent s.start behind k)))
@@ -95,8 +95,8 @@ deliver-none s egress wire ingress e = ap (λ (w : List Descriptor). received_of
 
 -- ---- update_fc
 
-told_at : (c : Channel) (most : Counters) (b : Bool) → same_counters c.left most ≡ b → told_of c most ≡ cond b None (Some (record { start = c.start; left = most; egress = c.egress; wire = c.wire; ingress = c.ingress }))
-told_at c most b is = ap (λ (x : Bool). cond x None (Some (record { start = c.start; left = most; egress = c.egress; wire = c.wire; ingress = c.ingress }))) is
+advertised_at : (c : Channel) (most : Counters) (b : Bool) → same_counters c.left most ≡ b → advertised_of c most ≡ cond b None (Some (record { start = c.start; left = most; egress = c.egress; wire = c.wire; ingress = c.ingress }))
+advertised_at c most b is = ap (λ (x : Bool). cond x None (Some (record { start = c.start; left = most; egress = c.egress; wire = c.wire; ingress = c.ingress }))) is
 
 -- limits that leave as much are the same
 limits_same : (s : Ledger) (limit : Counters) (behind : List Descriptor) → IsCounted s limit behind → same_counters (left_counters s.credits_consumed s.credit_limit) (left_counters s.credits_consumed limit) ≡ true → limit ≡ s.credit_limit
@@ -108,20 +108,20 @@ differs : (b : Bool) → (b ≡ true → ⊥) → b ≡ false
 differs true never = absurd (never refl)
 differs false never = refl
 
-told_limit : (s : Ledger) (limit : Counters) (egress wire ingress : List Descriptor) → IsCounted s limit (wire ++ ingress) → limit ≢ s.credit_limit
-    → told_of (link_of s egress wire ingress) (left_counters s.credits_consumed limit) ≡ Some (link_of (record s { credit_limit = limit }) egress wire ingress)
-told_limit s limit egress wire ingress kept other =
-    told_at (link_of s egress wire ingress) (left_counters s.credits_consumed limit) false
+advertised_limit : (s : Ledger) (limit : Counters) (egress wire ingress : List Descriptor) → IsCounted s limit (wire ++ ingress) → limit ≢ s.credit_limit
+    → advertised_of (link_of s egress wire ingress) (left_counters s.credits_consumed limit) ≡ Some (link_of (record s { credit_limit = limit }) egress wire ingress)
+advertised_limit s limit egress wire ingress kept other =
+    advertised_at (link_of s egress wire ingress) (left_counters s.credits_consumed limit) false
     (differs (same_counters (left_counters s.credits_consumed s.credit_limit) (left_counters s.credits_consumed limit)) (λ h. other (limits_same s limit (wire ++ ingress) kept h)))
 
 pub update_fc-some : (s s' : Ledger) (limit : Counters) (egress wire ingress : List Descriptor) → IsCounted s limit (wire ++ ingress) → s' ≡ record s { credit_limit = limit } → limit ≢ s.credit_limit
     → update_fc (link_of s egress wire ingress) ≡ Some (link_of s' egress wire ingress)
 update_fc-some s s' limit egress wire ingress kept new other =
-    ap (told_of (link_of s egress wire ingress)) (sym (told_left s limit (wire ++ ingress) kept))
-    ∙ (told_limit s limit egress wire ingress kept other ∙ ap (λ (t : Ledger). Some (link_of t egress wire ingress)) (sym new))
+    ap (advertised_of (link_of s egress wire ingress)) (sym (advertised_left s limit (wire ++ ingress) kept))
+    ∙ (advertised_limit s limit egress wire ingress kept other ∙ ap (λ (t : Ledger). Some (link_of t egress wire ingress)) (sym new))
 
 pub update_fc-none : (s : Ledger) (limit : Counters) (egress wire ingress : List Descriptor) → IsCounted s limit (wire ++ ingress) → limit ≡ s.credit_limit → update_fc (link_of s egress wire ingress) ≡ None
 update_fc-none s limit egress wire ingress kept same =
-    ap (told_of (link_of s egress wire ingress)) (sym (told_left s limit (wire ++ ingress) kept))
-    ∙ (ap (λ (l : Counters). told_of (link_of s egress wire ingress) (left_counters s.credits_consumed l)) same
-    ∙ told_at (link_of s egress wire ingress) (left_counters s.credits_consumed s.credit_limit) true (same-self (left_counters s.credits_consumed s.credit_limit)))
+    ap (advertised_of (link_of s egress wire ingress)) (sym (advertised_left s limit (wire ++ ingress) kept))
+    ∙ (ap (λ (l : Counters). advertised_of (link_of s egress wire ingress) (left_counters s.credits_consumed l)) same
+    ∙ advertised_at (link_of s egress wire ingress) (left_counters s.credits_consumed s.credit_limit) true (same-self (left_counters s.credits_consumed s.credit_limit)))

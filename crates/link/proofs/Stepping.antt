@@ -15,7 +15,7 @@ use Rattle.link.specs.Simplexes.{IsCounted, has_place}
 use Rattle.link.specs.Steps.{IsStuck, Delivers, Transmits}
 use Rattle.link.proofs.Totals.{count_in-total, total-append, total-sent, total-delivered, total-taken, total-restored}
 use Rattle.link.proofs.Credits.{at-left, both-true, true-both}
-use Rattle.link.proofs.Keeping.{counted-places, start-counted, moved-counted, spent-counted, told-counted, freed-counted, reclaimed-counted}
+use Rattle.link.proofs.Keeping.{counted-places, start-counted, moved-counted, spent-counted, advertised-counted, freed-counted, reclaimed-counted}
 use Rattle.link.proofs.Moving.{link_of, send-some, send-none, deliver-some, deliver-none, update_fc-some, update_fc-none}
 
 -- ---- the start
@@ -79,13 +79,13 @@ sent-kept class false s s' limit egress egress' wire wire' ingress kept went res
     let r = rests refl in
     subst (λ (t : Ledger). IsCounted t limit (wire' ++ ingress)) (sym r.1) (subst (λ (x : List Descriptor). IsCounted s limit (x ++ ingress)) (sym r.2) kept)
 
--- what the sender was told last stays as it sends
-pub sent-told : (class : Class) (answer : Bool) (s s' : Ledger) (egress egress' wire wire' : List Descriptor)
+-- what was advertised to the sender last stays as it sends
+pub sent-advertised : (class : Class) (answer : Bool) (s s' : Ledger) (egress egress' wire wire' : List Descriptor)
     → (answer ≡ true → Transmits class egress s wire egress' s' wire')
     → (answer ≡ false → (egress' ≡ egress) × (s' ≡ s) × (wire' ≡ wire))
     → s'.credit_limit ≡ s.credit_limit
-sent-told class true s s' egress egress' wire wire' went rests = ap (λ (l : Ledger). l.credit_limit) (went refl).sends.spends
-sent-told class false s s' egress egress' wire wire' went rests = ap (λ (l : Ledger). l.credit_limit) (rests refl).1
+sent-advertised class true s s' egress egress' wire wire' went rests = ap (λ (l : Ledger). l.credit_limit) (went refl).sends.spends
+sent-advertised class false s s' egress egress' wire wire' went rests = ap (λ (l : Ledger). l.credit_limit) (rests refl).1
 
 -- ---- what arrives
 
@@ -116,43 +116,43 @@ delivered-kept false s limit wire wire' ingress ingress' kept went rests =
     moved-counted s limit (wire ++ ingress) (wire' ++ ingress')
     (λ k. ap (λ (x : List Descriptor). total k (x ++ ingress')) (r.1 ∙ sym r.0) ∙ ap (λ (x : List Descriptor). total k (wire ++ x)) r.2) kept
 
--- ---- what is told
+-- ---- what is advertised
 
-pub accepted : (answer : Bool) (s s' : Ledger) (limit told : Counters) (egress wire ingress : List Descriptor) → IsCounted s limit (wire ++ ingress) → told ≡ limit
-    → (answer ≡ true → (s' ≡ record s { credit_limit = told }) × (told ≢ s.credit_limit))
-    → (answer ≡ false → (s' ≡ s) × (told ≡ s.credit_limit))
+pub accepted : (answer : Bool) (s s' : Ledger) (limit advertised : Counters) (egress wire ingress : List Descriptor) → IsCounted s limit (wire ++ ingress) → advertised ≡ limit
+    → (answer ≡ true → (s' ≡ record s { credit_limit = advertised }) × (advertised ≢ s.credit_limit))
+    → (answer ≡ false → (s' ≡ s) × (advertised ≡ s.credit_limit))
     → MatchBool answer (update_fc (link_of s egress wire ingress) ≡ Some (link_of s' egress wire ingress))
     ((update_fc (link_of s egress wire ingress) ≡ None) × (link_of s' egress wire ingress ≡ link_of s egress wire ingress))
-accepted true s s' limit told egress wire ingress kept is new known =
+accepted true s s' limit advertised egress wire ingress kept is new known =
     let n = new refl in
-    update_fc-some s s' told egress wire ingress (subst (λ (l : Counters). IsCounted s l (wire ++ ingress)) (sym is) kept) n.0 n.1
-accepted false s s' limit told egress wire ingress kept is new known =
+    update_fc-some s s' advertised egress wire ingress (subst (λ (l : Counters). IsCounted s l (wire ++ ingress)) (sym is) kept) n.0 n.1
+accepted false s s' limit advertised egress wire ingress kept is new known =
     let k = known refl in
     (update_fc-none s limit egress wire ingress kept (sym is ∙ k.1), ap (λ (t : Ledger). link_of t egress wire ingress) k.0)
 
-pub accepted-kept : (answer : Bool) (s s' : Ledger) (limit told : Counters) (behind : List Descriptor) → IsCounted s limit behind → told ≡ limit
-    → (answer ≡ true → (s' ≡ record s { credit_limit = told }) × (told ≢ s.credit_limit))
-    → (answer ≡ false → (s' ≡ s) × (told ≡ s.credit_limit))
+pub accepted-kept : (answer : Bool) (s s' : Ledger) (limit advertised : Counters) (behind : List Descriptor) → IsCounted s limit behind → advertised ≡ limit
+    → (answer ≡ true → (s' ≡ record s { credit_limit = advertised }) × (advertised ≢ s.credit_limit))
+    → (answer ≡ false → (s' ≡ s) × (advertised ≡ s.credit_limit))
     → IsCounted s' limit behind
-accepted-kept true s s' limit told behind kept is new known =
-    subst (λ (t : Ledger). IsCounted t limit behind) (sym ((new refl).0 ∙ ap (λ (l : Counters). record s { credit_limit = l }) is)) (told-counted s limit behind kept)
-accepted-kept false s s' limit told behind kept is new known =
+accepted-kept true s s' limit advertised behind kept is new known =
+    subst (λ (t : Ledger). IsCounted t limit behind) (sym ((new refl).0 ∙ ap (λ (l : Counters). record s { credit_limit = l }) is)) (advertised-counted s limit behind kept)
+accepted-kept false s s' limit advertised behind kept is new known =
     subst (λ (t : Ledger). IsCounted t limit behind) (sym (known refl).0) kept
 
--- a sender that knows the limit is told nothing
--- once the sender was told, it knows the receiver's limit
-pub accepted-told : (answer : Bool) (s s' : Ledger) (limit told : Counters) → told ≡ limit
-    → (answer ≡ true → (s' ≡ record s { credit_limit = told }) × (told ≢ s.credit_limit))
-    → (answer ≡ false → (s' ≡ s) × (told ≡ s.credit_limit))
+-- to a sender that knows the limit nothing is advertised
+-- once the limits were advertised, it knows the receiver's limit
+pub accepted-advertised : (answer : Bool) (s s' : Ledger) (limit advertised : Counters) → advertised ≡ limit
+    → (answer ≡ true → (s' ≡ record s { credit_limit = advertised }) × (advertised ≢ s.credit_limit))
+    → (answer ≡ false → (s' ≡ s) × (advertised ≡ s.credit_limit))
     → limit ≡ s'.credit_limit
-accepted-told true s s' limit told is went rests = sym is ∙ sym (ap (λ (l : Ledger). l.credit_limit) (went refl).0)
-accepted-told false s s' limit told is went rests = sym is ∙ ((rests refl).1 ∙ sym (ap (λ (l : Ledger). l.credit_limit) (rests refl).0))
+accepted-advertised true s s' limit advertised is went rests = sym is ∙ sym (ap (λ (l : Ledger). l.credit_limit) (went refl).0)
+accepted-advertised false s s' limit advertised is went rests = sym is ∙ ((rests refl).1 ∙ sym (ap (λ (l : Ledger). l.credit_limit) (rests refl).0))
 
-pub knows-told : (answer : Bool) (s : Ledger) (limit told : Counters) (egress wire ingress : List Descriptor) → IsCounted s limit (wire ++ ingress) → told ≡ limit
-    → MatchBool answer (told ≡ s.credit_limit) (told ≢ s.credit_limit) → answer ≡ is_none (update_fc (link_of s egress wire ingress))
-knows-told true s limit told egress wire ingress kept is known = ap is_none (sym (update_fc-none s limit egress wire ingress kept (sym is ∙ known)))
-knows-told false s limit told egress wire ingress kept is other =
-    ap is_none (sym (update_fc-some s (record s { credit_limit = told }) told egress wire ingress (subst (λ (l : Counters). IsCounted s l (wire ++ ingress)) (sym is) kept) refl other))
+pub knows-advertised : (answer : Bool) (s : Ledger) (limit advertised : Counters) (egress wire ingress : List Descriptor) → IsCounted s limit (wire ++ ingress) → advertised ≡ limit
+    → MatchBool answer (advertised ≡ s.credit_limit) (advertised ≢ s.credit_limit) → answer ≡ is_none (update_fc (link_of s egress wire ingress))
+knows-advertised true s limit advertised egress wire ingress kept is known = ap is_none (sym (update_fc-none s limit egress wire ingress kept (sym is ∙ known)))
+knows-advertised false s limit advertised egress wire ingress kept is other =
+    ap is_none (sym (update_fc-some s (record s { credit_limit = advertised }) advertised egress wire ingress (subst (λ (l : Counters). IsCounted s l (wire ++ ingress)) (sym is) kept) refl other))
 
 -- ---- what leaves, and comes back
 

@@ -96,10 +96,10 @@ abbrev pub deliver : Channel → Option Channel
 deliver c = received_of c c.wire
 
 -- the sender learns what it may have; nothing happens where it knows
-abbrev pub told_of : Channel → Counters → Option Channel
-told_of c most =
+abbrev pub advertised_of : Channel → Counters → Option Channel
+advertised_of c most =
     if same_counters c.left most then None
     else Some (record { start = c.start; left = most; egress = c.egress; wire = c.wire; ingress = c.ingress })
 
 abbrev pub update_fc : Channel → Option Channel
-update_fc c = told_of c (unspent c.start (c.wire ++ c.ingress))
+update_fc c = advertised_of c (unspent c.start (c.wire ++ c.ingress))

@@ -55,7 +55,7 @@ pub record IsCounted (sender : Ledger) (limit : Counters) (behind : List Descrip
   pub known : (k : Kind) → at sender.credit_limit k < size_of k
   pub bounded : (k : Kind) → at limit k < size_of k
 
--- and where the receiver freed nothing since the sender was told, the sender knows its limit
+-- and where the receiver freed nothing since its limits were advertised, the sender knows its limit
 pub record IsSimplex (s : Inside) : Type 0 where
   pub counted : IsCounted s.egress.sender s.ingress.receiver.credits_allocated (s.wire ++ frames_of s.ingress.queue.queue.waiting)
-  pub told : s.is_told ≡ true → s.ingress.receiver.credits_allocated ≡ s.egress.sender.credit_limit
+  pub advertised : s.is_advertised ≡ true → s.ingress.receiver.credits_allocated ≡ s.egress.sender.credit_limit

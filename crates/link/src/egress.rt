@@ -4,18 +4,18 @@ ghost use Rattle.std.specs.Prelude.{◌≡◌, ◌≢◌, ◌==◌, ◌++◌, �
 ghost use Rattle.std.specs.List.Sorted.{IsPermutation};
 ghost use Rattle.credit.specs.Limits.{IsUpdate, MayStart, left_counters, zero_counters};
 ghost use Rattle.lane.specs.Lanes.{Class, class_of, eligible};
-ghost use Rattle.port_queue.specs.Leaving.{has};
+ghost use Rattle.port_queue.specs.EligibleClasses.{has};
 ghost use Rattle.lane.specs.Queues.{frames_of};
 ghost use Rattle.link.specs.Channels.{count_in};
 ghost use Rattle.link.specs.Quiet.{none_eligible};
 ghost use Rattle.link.specs.Steps.{IsStuck, Sends};
 
-use crate::steps::has_none_eligible;
+use crate::steps::is_queue_empty;
 use credit::{Limits, Sender};
 use fab_types::{Class, DomainId, NoMemory};
 use frame_log::Frame;
 use lane::{FrameQueue, LaneIn};
-use port_queue::LeavingClasses;
+use port_queue::EligibleClasses;
 use std::alloc::Global;
 use std::marker::Model;
 
@@ -96,17 +96,17 @@ impl Egress {
         Some(frame)
     }
 
-    /// Are these the limits that the sender was told last?
+    /// Are these the limits that were advertised to the sender last?
     pub fn knows(&self, limits: &Limits) -> bool
         ensures { MatchBool result (limits.now ≡ self.now.sender.credit_limit) (limits.now ≢ self.now.sender.credit_limit) }
     {
         *limits == self.sender.credit_limit()
     }
 
-    /// Tells the sender the receiver's limits. Limits that take back what was told, or give more than the start, are
+    /// Advertises the receiver's limits to the sender. Limits that take back what was advertised, or give more than the start, are
     /// refused by false, and nothing changes.
     pub fn update(&mut self, limits: Limits) -> bool
-        ensures told { IsUpdate self.old.sender limits → (result ≡ true) × (self.new.sender ≡ record self.old.sender { credit_limit = limits }) }
+        ensures advertised { IsUpdate self.old.sender limits → (result ≡ true) × (self.new.sender ≡ record self.old.sender { credit_limit = limits }) }
         ensures refused { (IsUpdate self.old.sender limits → ⊥) → (result ≡ false) × (self.new.sender ≡ self.old.sender) }
         ensures queue { self.new.queue ≡ self.old.queue }
     {
@@ -135,16 +135,16 @@ impl Egress {
     }
 
     /// Of which classes a packet may leave (PCIe 4.0, 2.4.1), whatever the credits.
-    pub fn leaving(&self) -> LeavingClasses
+    pub fn eligible_classes(&self) -> EligibleClasses
         ensures { (class : Class) → has result class ≡ is_some (eligible class (frames_of self.now.queue.queue.waiting)) }
     {
-        self.queue.leaving()
+        self.queue.eligible_classes()
     }
 
     /// May no packet leave, whatever its class and the credits?
-    pub fn has_none_eligible(&self) -> bool
+    pub fn is_empty(&self) -> bool
         ensures { result ≡ none_eligible (frames_of self.now.queue.queue.waiting) }
     {
-        has_none_eligible(&self.queue)
+        is_queue_empty(&self.queue)
     }
 }

@@ -4,17 +4,17 @@ ghost use Rattle.std.specs.Prelude.{◌≡◌, ◌≢◌, ◌==◌, ◌++◌, �
 ghost use Rattle.std.specs.List.Sorted.{IsPermutation};
 ghost use Rattle.credit.specs.Limits.{counted, uncounted, zero_counters};
 ghost use Rattle.lane.specs.Lanes.{Class, class_of, eligible};
-ghost use Rattle.port_queue.specs.Leaving.{has};
+ghost use Rattle.port_queue.specs.EligibleClasses.{has};
 ghost use Rattle.lane.specs.Queues.{frames_of, frames_restored};
 ghost use Rattle.link.specs.Channels.{count_in};
 ghost use Rattle.link.specs.Quiet.{none_eligible};
 
-use crate::steps::has_none_eligible;
+use crate::steps::is_queue_empty;
 use credit::{Limits, Receiver};
 use fab_types::{Class, DomainId, Head, NoMemory};
 use frame_log::Frame;
 use lane::{FrameQueue, LaneIn};
-use port_queue::LeavingClasses;
+use port_queue::EligibleClasses;
 use std::alloc::Global;
 use std::marker::Model;
 
@@ -105,7 +105,7 @@ impl Ingress {
         self.queue.put_back(frame);
     }
 
-    /// The limits that the sender may be told.
+    /// The limits that may be advertised to the sender.
     pub fn advert(&self) -> Limits
         ensures { result ≡ self.now.receiver.credits_allocated }
     {
@@ -127,17 +127,17 @@ impl Ingress {
     }
 
     /// Of which classes a packet may leave (PCIe 4.0, 2.4.1), whatever the credits.
-    pub fn leaving(&self) -> LeavingClasses
+    pub fn eligible_classes(&self) -> EligibleClasses
         ensures { (class : Class) → has result class ≡ is_some (eligible class (frames_of self.now.queue.queue.waiting)) }
     {
-        self.queue.leaving()
+        self.queue.eligible_classes()
     }
 
     /// May no packet leave, whatever its class?
-    pub fn has_none_eligible(&self) -> bool
+    pub fn is_empty(&self) -> bool
         ensures { result ≡ none_eligible (frames_of self.now.queue.queue.waiting) }
     {
-        has_none_eligible(&self.queue)
+        is_queue_empty(&self.queue)
     }
 }
 

@@ -5,7 +5,7 @@ ghost use Rattle.std.specs.List.Sorted.{IsPermutation};
 ghost use Rattle.fab_types.specs.declared.class.Class.{Class};
 ghost use Rattle.credit.specs.Kinds.{Kind};
 ghost use Rattle.credit.specs.Limits.{MayStart, at};
-ghost use Rattle.port_queue.specs.Leaving.{has};
+ghost use Rattle.port_queue.specs.EligibleClasses.{has};
 ghost use Rattle.lane.specs.Lanes.{class_of, eligible};
 ghost use Rattle.lane.specs.Queues.{frames_of};
 ghost use Rattle.link.specs.Channels.{IsCovered, count_in, deliver, is_full, send, update_fc, with_egress};
@@ -19,7 +19,7 @@ use credit::Limits;
 use fab_types::{Class, DomainId, Head, NoMemory};
 use frame_log::Frame;
 use lane::LaneIn;
-use port_queue::{LeavingClasses, Ring};
+use port_queue::{EligibleClasses, Ring};
 use std::alloc::Global;
 use std::marker::Model;
 
@@ -33,8 +33,8 @@ pub struct Simplex {
     wire: Ring<Frame, 381>,
     ingress: Ingress,
 
-    /// Has the receiver freed no credits since the sender was told?
-    is_told: bool,
+    /// Has the receiver freed no credits since its limits were advertised?
+    is_advertised: bool,
 }
 
 impl Model for Simplex {
@@ -65,7 +65,7 @@ impl Simplex {
             egress: Egress::new(alloc, start)?,
             wire: Ring::new(alloc)?,
             ingress: Ingress::new(alloc, limits)?,
-            is_told: true,
+            is_advertised: true,
         })
     }
 
@@ -141,17 +141,17 @@ impl Simplex {
     }
 
     /// Of which classes a packet may leave the sender (PCIe 4.0, 2.4.1), whatever the credits.
-    pub fn leaving_sender(&self) -> LeavingClasses
+    pub fn eligible_at_sender(&self) -> EligibleClasses
         ensures { (class : Class) → has result class ≡ is_some (eligible class (channel self.now).egress) }
     {
-        self.egress.leaving()
+        self.egress.eligible_classes()
     }
 
     /// Of which classes a packet may leave the receiver (PCIe 4.0, 2.4.1).
-    pub fn leaving_receiver(&self) -> LeavingClasses
+    pub fn eligible_at_receiver(&self) -> EligibleClasses
         ensures { (class : Class) → has result class ≡ is_some (eligible class (channel self.now).ingress) }
     {
-        self.ingress.leaving()
+        self.ingress.eligible_classes()
     }
 
     /// The domain that made the eligible packet of a class at the sender.
@@ -183,26 +183,26 @@ impl Simplex {
     pub fn update_fc(&mut self) -> bool
         ensures { MatchBool result (update_fc (channel self.old) ≡ Some (channel self.new)) ((update_fc (channel self.old) ≡ None) × (channel self.new ≡ channel self.old)) }
     {
-        if self.is_told {
+        if self.is_advertised {
             return false;
         }
-        self.is_told = true;
+        self.is_advertised = true;
         let limits = self.ingress.advert();
         accept_update(&mut self.egress, limits)
     }
 
     /// Does the sender know the receiver's present limits, so that `update_fc` changes nothing?
-    fn is_told(&self) -> bool
+    fn has_limits(&self) -> bool
         ensures { result ≡ is_none (update_fc (channel self.now)) }
     {
-        self.is_told || self.egress.knows(&self.ingress.advert())
+        self.is_advertised || self.egress.knows(&self.ingress.advert())
     }
 
     /// May no packet leave the receiver, whatever its class?
-    pub fn has_none_received(&self) -> bool
+    pub fn is_ingress_empty(&self) -> bool
         ensures { result ≡ none_eligible (channel self.now).ingress }
     {
-        self.ingress.has_none_eligible()
+        self.ingress.is_empty()
     }
 
     /// Can nothing happen on this direction by itself?
@@ -211,7 +211,7 @@ impl Simplex {
     pub fn is_quiet(&self) -> bool
         ensures { result ≡ is_quiet (channel self.now) }
     {
-        self.egress.has_none_eligible() && self.wire.front().is_none() && self.is_told()
+        self.egress.is_empty() && self.wire.front().is_none() && self.has_limits()
     }
 }
 
@@ -233,12 +233,12 @@ impl LaneIn for Simplex {
     }
 
     fn take(&mut self, class: Class) -> Option<Frame> {
-        self.is_told = false;
+        self.is_advertised = false;
         self.ingress.release(class)
     }
 
     fn put_back(&mut self, frame: Frame) {
-        self.is_told = false;
+        self.is_advertised = false;
         self.ingress.give_back(frame);
     }
 }

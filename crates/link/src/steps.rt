@@ -19,7 +19,7 @@ use lane::FrameQueue;
 use port_queue::Ring;
 
 /// May no packet of the queue leave, whatever its class? The oldest always may, so then none waits.
-pub(crate) fn has_none_eligible<const CAP: usize>(queue: &FrameQueue<CAP>) -> bool
+pub(crate) fn is_queue_empty<const CAP: usize>(queue: &FrameQueue<CAP>) -> bool
     ensures { result ≡ none_eligible (frames_of queue.now.queue.waiting) }
 {
     queue.is_empty()
@@ -53,10 +53,10 @@ pub(crate) fn deliver_oldest(wire: &mut Ring<Frame, 381>, ingress: &mut Ingress)
     true
 }
 
-/// Tells the sender these limits, if it doesn't know them.
+/// Advertises these limits to the sender, if it doesn't know them.
 pub(crate) fn accept_update(egress: &mut Egress, limits: Limits) -> bool
     requires { IsUpdate egress.old.sender limits }
-    ensures told { result ≡ true → (egress.new.sender ≡ record egress.old.sender { credit_limit = limits }) × (limits ≢ egress.old.sender.credit_limit) }
+    ensures advertised { result ≡ true → (egress.new.sender ≡ record egress.old.sender { credit_limit = limits }) × (limits ≢ egress.old.sender.credit_limit) }
     ensures known { result ≡ false → (egress.new.sender ≡ egress.old.sender) × (limits ≡ egress.old.sender.credit_limit) }
     ensures queue { egress.new.queue ≡ egress.old.queue }
 {

@@ -2,13 +2,13 @@
 
 ghost use Rattle.std.specs.Prelude.{◌≡◌, ◌==◌, IfOk, IsTrue, MatchOption, None, OnErr, OnOk, Some, is_some, length, map, option_map};
 ghost use Rattle.std.specs.List.Sorted.{IsPermutation};
-ghost use Rattle.port_queue.specs.Leaving.{has};
+ghost use Rattle.port_queue.specs.EligibleClasses.{has};
 ghost use Rattle.lane.specs.Lanes.{Class, class_of, eligible};
 ghost use Rattle.outboxes.specs.Outboxes.{empty_box, takes, waiting, with_more, with_put, with_queue};
 
 use fab_types::{Class, DomainId, Head, NoMemory, Origin};
 use frame_log::Frame;
-use port_queue::{LeavingClasses, Outbox};
+use port_queue::{EligibleClasses, Outbox};
 use std::alloc::Global;
 use std::marker::Model;
 
@@ -63,10 +63,10 @@ impl OriginBox {
     }
 
     /// Of which classes a packet may leave (PCIe 4.0, 2.4.1).
-    pub fn leaving(&self) -> LeavingClasses
+    pub fn eligible_classes(&self) -> EligibleClasses
         ensures { (class : Class) → has result class ≡ is_some (eligible class (waiting self.now)) }
     {
-        self.outbox.leaving()
+        self.outbox.eligible_classes()
     }
 
     /// What ports read of the eligible packet of a class.

@@ -2,7 +2,7 @@
 
 ghost use Rattle.std.specs.Prelude.{◌≡◌, ◌==◌, ◌<◌, IfOk, IfSome, IsTrue, MatchOption, None, OnErr, OnOk, Some, is_some, length, map, option_map};
 ghost use Rattle.std.specs.List.Sorted.{IsPermutation};
-ghost use Rattle.port_queue.specs.Leaving.{has};
+ghost use Rattle.port_queue.specs.EligibleClasses.{has};
 ghost use Rattle.lane.specs.Lanes.{Class, class_of, eligible};
 ghost use Rattle.outboxes.specs.Outboxes.{AreFound, box_place, boxes_of, changed, has_place, queue_of, waiting_of, with_more, with_put, with_queue};
 
@@ -14,7 +14,7 @@ use crate::starts::boxes_of;
 use fab_types::{Class, DomainId, NoMemory, Origin};
 use frame_log::Frame;
 use layout::Layout;
-use port_queue::LeavingClasses;
+use port_queue::EligibleClasses;
 use std::alloc::{AllocError, Global};
 use std::marker::Model;
 
@@ -111,12 +111,12 @@ impl Outboxes {
     }
 
     /// Of which classes a packet of this origin may leave (PCIe 4.0, 2.4.1). Where there is no such origin, of none.
-    pub fn leaving(&self, origin: Origin) -> LeavingClasses
+    pub fn eligible_classes(&self, origin: Origin) -> EligibleClasses
         ensures { (class : Class) → has result class ≡ is_some (eligible class (waiting_of self.now origin)) }
     {
         match self.place(origin) {
-            Some(place) => self.boxes[place].leaving(),
-            None => LeavingClasses::NONE,
+            Some(place) => self.boxes[place].eligible_classes(),
+            None => EligibleClasses::NONE,
         }
     }
 

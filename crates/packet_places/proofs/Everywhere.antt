@@ -23,7 +23,7 @@ use Rattle.topology.specs.Links.{link_at, sending_end}
 use Rattle.topology.specs.declared.links.Link.{Link}
 use Rattle.interconnect.specs.Moves.{channel_at}
 use Rattle.packet_places.specs.Standing.{channel_in, down, egress_of, ingress_of, standing_in, up, wire_of}
-use Rattle.packet_places.specs.Whereabouts.{all_places, places_of_link}
+use Rattle.packet_places.specs.PacketPlaces.{all_packet_places, places_of_link}
 
 or_first : (a b : Bool) → a ≡ true → (a || b) ≡ true
 or_first true b h = refl
@@ -99,7 +99,7 @@ module _ (links : List Link) (channels : List (List Channel)) (boxes : List Outb
       ap (λ (o : Option Link). part (option_map (channel_at channels) (option_map (sending_end direction.way) o))) is ∙ none in
       let never : false ≡ true = sym empty ∙ (ap test (sym nothing) ∙ h) in absurd cc
 
-  pub somewhere : (place : Place) → passes place ≡ true → list_any passes (all_places links boxes) ≡ true
+  pub somewhere : (place : Place) → passes place ≡ true → list_any passes (all_packet_places links boxes) ≡ true
   somewhere (place.Outbox origin) h =
       list_any-append passes outboxes of_all_links ∙ or_first (list_any passes outboxes) (list_any passes of_all_links) (waiting origin (outbox_place boxes origin) refl h h)
   somewhere (Ingress d) h =

@@ -11,7 +11,7 @@ use Rattle.link.specs.Channels.{Channel}
 use Rattle.topology.specs.declared.links.Link.{Link}
 use Rattle.packet_places.specs.Noted.{AreNoted, Note, with_place}
 use Rattle.packet_places.specs.Standing.{is_numbered, standing_in, up}
-use Rattle.packet_places.specs.Whereabouts.{AreWhereabouts, Whereabout, all_places, is_named, stands_at}
+use Rattle.packet_places.specs.PacketPlaces.{ArePacketPlaces, PacketPlace, all_packet_places, is_named, stands_at}
 use Rattle.packet_places.proofs.Everywhere.{somewhere}
 
 module _ (all : List Place) (other : Place) where
@@ -19,7 +19,7 @@ module _ (all : List Place) (other : Place) where
   numbers [] = refl
   numbers (note ∷ notes) = ap (λ (ns : List ℕ). note.0 ∷ ns) (numbers notes)
 
-  all_listed : (test : Whereabout → Bool) (notes : List Note) → list_all test (map (with_place all other) notes) ≡ list_all (λ note. test (with_place all other note)) notes
+  all_listed : (test : PacketPlace → Bool) (notes : List Note) → list_all test (map (with_place all other) notes) ≡ list_all (λ note. test (with_place all other note)) notes
   all_listed test [] = refl
   all_listed test (note ∷ notes) = ap (λ (b : Bool). test (with_place all other note) && b) (all_listed test notes)
 
@@ -28,14 +28,14 @@ module _ (all : List Place) (other : Place) where
   named_listed n (note ∷ notes) = ap (λ (b : Bool). (note.0 == n) || b) (named_listed n notes)
 
 module _ (links : List Link) (channels : List (List Channel)) (boxes : List Outbox) (domain : ℕ) where
-  pub listed : (all : List Place) (notes : List Note) (named : List Whereabout) → all ≡ all_places links boxes → IsStrictlySortedBy nat_cmp (map (λ one. one.0) notes) → AreNoted (standing_in links channels boxes) domain all all notes
-      → ((other : Place) → named ≡ map (with_place all other) notes) → AreWhereabouts (standing_in links channels boxes) domain named
+  pub listed : (all : List Place) (notes : List Note) (named : List PacketPlace) → all ≡ all_packet_places links boxes → IsStrictlySortedBy nat_cmp (map (λ one. one.0) notes) → AreNoted (standing_in links channels boxes) domain all all notes
+      → ((other : Place) → named ≡ map (with_place all other) notes) → ArePacketPlaces (standing_in links channels boxes) domain named
   listed all notes named each rising noted is =
       let some : Place = Wire (up 0) in record {
-        rising = subst (IsStrictlySortedBy nat_cmp) (numbers all some notes ∙ sym (ap (map (λ (one : Whereabout). one.0)) (is some))) rising;
-        there = ap (list_all (λ (one : Whereabout). stands_at (standing_in links channels boxes) domain one.0 one.1)) (is some)
+        rising = subst (IsStrictlySortedBy nat_cmp) (numbers all some notes ∙ sym (ap (map (λ (one : PacketPlace). one.0)) (is some))) rising;
+        there = ap (list_all (λ (one : PacketPlace). stands_at (standing_in links channels boxes) domain one.0 one.1)) (is some)
             ∙ (all_listed all some (λ one. stands_at (standing_in links channels boxes) domain one.0 one.1) notes ∙ noted.there some);
         all = λ n place h.
-            ap (λ (ones : List Whereabout). is_named ones n) (is some) ∙ (named_listed all some n notes ∙ (noted.named n
+            ap (λ (ones : List PacketPlace). is_named ones n) (is some) ∙ (named_listed all some n notes ∙ (noted.named n
             ∙ (ap (list_any (stands_at (standing_in links channels boxes) domain n)) each ∙ somewhere links channels boxes (list_any (is_numbered domain n)) refl place h)));
       }

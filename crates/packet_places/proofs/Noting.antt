@@ -7,7 +7,7 @@ use Rattle.std.specs.Ordering.{nat_cmp}
 use Rattle.frame_log.specs.Descriptor.{Descriptor}
 use Rattle.packet_places.specs.Standing.{is_numbered}
 use Rattle.packet_places.specs.Noted.{Note, Notes}
-use Rattle.packet_places.specs.Whereabouts.{is_named}
+use Rattle.packet_places.specs.PacketPlaces.{is_named}
 use Rattle.packet_places.proofs.Inserted.{first_of, inserted_all, inserted_named}
 
 or_false : (a : Bool) → a ≡ (a || false)

@@ -11,7 +11,7 @@ use Rattle.fab_types.specs.declared.place.Place.{Place}
 use Rattle.frame_log.specs.Descriptor.{Descriptor}
 use Rattle.packet_places.specs.Standing.{is_numbered}
 use Rattle.packet_places.specs.Noted.{AreNoted, Note, Notes, is_below}
-use Rattle.packet_places.specs.Whereabouts.{stands_at}
+use Rattle.packet_places.specs.PacketPlaces.{stands_at}
 use Rattle.packet_places.proofs.Inserted.{both, first_of, second_of}
 
 or_true : (a : Bool) → (a || true) ≡ true

@@ -1,3 +1,3 @@
 pub mod Standing
-pub mod Whereabouts
+pub mod PacketPlaces
 pub mod Noted

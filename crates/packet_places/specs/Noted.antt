@@ -4,7 +4,7 @@ use Rattle.std.specs.List.{list_all, list_any}
 use Rattle.fab_types.specs.declared.place.Place.{Place}
 use Rattle.frame_log.specs.Descriptor.{Descriptor}
 use Rattle.packet_places.specs.Standing.{is_numbered}
-use Rattle.packet_places.specs.Whereabouts.{Whereabout, is_named, stands_at}
+use Rattle.packet_places.specs.PacketPlaces.{PacketPlace, is_named, stands_at}
 
 -- a packet's number, and that of its place
 abbrev pub Note : Type 0
@@ -14,7 +14,7 @@ abbrev pub is_below : List Place → Note → Bool
 is_below places note = nat_lt note.1 (length places)
 
 -- the place in place of its number
-abbrev pub with_place : List Place → Place → Note → Whereabout
+abbrev pub with_place : List Place → Place → Note → PacketPlace
 with_place places other note = (note.0, slice_index_or places note.1 other)
 
 -- of packets at a place those that a domain made are noted, beside or in place of what was noted before

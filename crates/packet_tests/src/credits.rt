@@ -69,8 +69,11 @@ fn counters_that_wrapped_tell_the_same_as_totals(rt: HostRuntime) -> Result<(), 
     );
     assert_eq!(rt; (header.value(), payload.value()), (44, 704));
     assert_eq!(rt; receiver.credits_received(), sender.credits_consumed());
-    let told = sender.credit_limit().posted;
-    assert_eq!(rt; (told.headers.value(), told.payload.value()), (47, 752));
+    let advertised = sender.credit_limit().posted;
+    assert_eq!(rt;
+        (advertised.headers.value(), advertised.payload.value()),
+        (47, 752)
+    );
     assert_eq!(rt; sender.credit_limit(), receiver.advert());
     Ok(())
 }
@@ -98,7 +101,7 @@ fn limits_that_take_something_back_are_refused(rt: HostRuntime) {
 }
 
 #[test]
-fn what_is_reclaimed_is_not_told(rt: HostRuntime) -> Result<(), Fail> {
+fn what_is_reclaimed_is_not_advertised(rt: HostRuntime) -> Result<(), Fail> {
     let start = limits(&rt, (3, 48), (16, 16));
     let mut receiver = Receiver::new(start);
     let mut sender = Sender::new(limits(&rt, (3, 48), (16, 16)));

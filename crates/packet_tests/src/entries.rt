@@ -1,6 +1,5 @@
 use fab_types::{Bdf, Class, Cost, DomainId, Head, Header, Parties};
 use frame_log::Log;
-use std::sync::Wait;
 use std::test::Fail;
 
 /// A write of 03:00.0.
@@ -16,9 +15,9 @@ fn head() -> Head {
     }
 }
 
-fn emit_more<R: Wait>(rt: &R, log: &Log, domain: DomainId) -> bool {
+fn emit_more(log: &Log, domain: DomainId) -> bool {
     for number in 0..1000 {
-        if log.emit(rt, domain, number, head(), &WRITE[..12]).is_err() {
+        if log.emit(domain, number, head(), &WRITE[..12]).is_err() {
             return false;
         }
     }
@@ -29,11 +28,11 @@ fn emit_more<R: Wait>(rt: &R, log: &Log, domain: DomainId) -> bool {
 fn an_entry_is_read_after_its_token_was_dropped(rt: HostRuntime) -> Result<(), Fail> {
     let domain = DomainId::new(1).ok_or("a domain")?;
     let log = Log::new(rt.alloc())?;
-    let (frame, token) = log.emit(&rt, domain, 7, head(), &WRITE)?;
+    let (frame, token) = log.emit(domain, 7, head(), &WRITE)?;
     let entry = log.lend(&token);
     drop(token);
     drop(frame);
-    assert!(rt; emit_more(&rt, &log, domain));
+    assert!(rt; emit_more(&log, domain));
     assert_eq!(rt; entry.domain, domain);
     assert_eq!(rt; entry.number, 7);
     assert_eq!(rt; entry.bytes.as_slice(), &WRITE[..]);

@@ -145,27 +145,27 @@ where
             out.write_all(help.as_bytes())?;
             Ok(ExitStatus::Done)
         }
-        Request::First { packet } => done(first(rt, alloc, packet, out)),
-        Request::Run { files: names } => done(run(rt, alloc, files, names, out)),
+        Request::First { packet } => done(first(alloc, packet, out)),
+        Request::Run { files: names } => done(run(alloc, files, names, out)),
         Request::Alone {
             files: names,
             domain,
-        } => done(alone(rt, alloc, files, names, domain, out)),
+        } => done(alone(alloc, files, names, domain, out)),
         Request::Journal {
             files: names,
             domain,
-        } => done(journal(rt, alloc, files, names, domain, out)),
+        } => done(journal(alloc, files, names, domain, out)),
         Request::Replay {
             layout,
             journal: text,
             domain,
-        } => done(replay(rt, alloc, files, layout, text, domain, out)),
+        } => done(replay(alloc, files, layout, text, domain, out)),
         Request::Threads {
             files: names,
             turns,
         } => done(threads(rt, alloc, files, names, turns, out)),
         Request::Draw { layout } => done(draw(alloc, files, layout, out)),
-        Request::Explain { asked } => explain(rt, alloc, files, asked, scripts, out),
+        Request::Explain { asked } => explain(alloc, files, asked, scripts, out),
         Request::Import { asked } => {
             let made = import_layout(alloc, files, asked, out)?;
             *imported = Some(made);

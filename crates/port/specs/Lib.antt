@@ -1,6 +1,6 @@
 pub mod Configs
 pub mod Courses
-pub mod Losses
+pub mod Misroutes
 pub mod Steps
 pub mod Reports
 pub mod Turns

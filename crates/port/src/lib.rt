@@ -4,7 +4,7 @@
 
 mod config;
 mod course;
-mod loss;
+mod misroute;
 mod port;
 mod reports;
 mod slots;
@@ -13,7 +13,7 @@ mod turn;
 
 pub use config::Exit;
 pub use course::Forwarding;
-pub use loss::Loss;
+pub use misroute::Misroute;
 pub use port::Port;
 pub use reports::Reports;
 pub use turn::TurnParts;

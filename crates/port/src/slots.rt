@@ -12,7 +12,6 @@ use bridge::Bridge;
 use fab_types::{Class, Outcome, PortId};
 use frame_log::Frame;
 use lane::{Desk, LaneIn};
-use std::sync::Wait;
 use switch_output::{LaneOut, VettedFrame};
 
 /// Puts the answer that was kept, if there is one, into this lane.
@@ -71,8 +70,7 @@ pub(crate) fn answer_waits_at<O: LaneOut>(outs: &mut [O], own: usize, class: Cla
 }
 
 /// Has the eligible packet of a class refused, with its answer into this lane.
-pub(crate) fn refuse_at<W: Wait, I: LaneIn, O: LaneOut, D: Desk>(
-    rt: &W,
+pub(crate) fn refuse_at<I: LaneIn, O: LaneOut, D: Desk>(
     input: &mut I,
     outs: &mut [O],
     own: usize,
@@ -97,7 +95,6 @@ pub(crate) fn refuse_at<W: Wait, I: LaneIn, O: LaneOut, D: Desk>(
     ensures lanes { map O.lane outs.new ≡ map O.lane outs.old }
 {
     refuse(
-        rt,
         input,
         &mut outs[own],
         desk,

@@ -11,7 +11,6 @@ use bridge::Bridge;
 use fab_types::{Class, NoMemory, Outcome, PortId, Violation};
 use frame_log::{Frame, FrameFault};
 use lane::{Desk, LaneIn, Reporter};
-use std::sync::Wait;
 use switch_output::{LaneOut, VettedFrame};
 
 /// Reports what there was no place for before.
@@ -191,8 +190,7 @@ pub(crate) enum Refusal {
 
 /// Has the eligible packet of a class refused by the domain that made it. The answer is put into the
 /// port's own lane; one that the lane gives back is kept.
-pub(crate) fn refuse<W: Wait, I: LaneIn, O: LaneOut, D: Desk>(
-    rt: &W,
+pub(crate) fn refuse<I: LaneIn, O: LaneOut, D: Desk>(
     input: &mut I,
     back: &mut O,
     desk: &mut D,
@@ -219,7 +217,7 @@ pub(crate) fn refuse<W: Wait, I: LaneIn, O: LaneOut, D: Desk>(
         let _ = input.head(class);
         return Refusal::Idle;
     };
-    match desk.refuse(rt, frame, port) {
+    match desk.refuse(frame, port) {
         Ok(None) => Refusal::Refused,
         Ok(Some(answer)) => {
             if let Err(answer) = back.push(VettedFrame::of_completion(answer, bridge)) {

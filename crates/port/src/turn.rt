@@ -15,7 +15,6 @@ use crate::steps::{Refusal, prepare, report_or_hold, stray, tell};
 use bridge::Bridge;
 use fab_types::{Class, Outcome, Violation};
 use lane::{Desk, LaneIn, Reporter};
-use std::sync::Wait;
 use switch_output::LaneOut;
 
 /// All that a turn reaches.
@@ -36,9 +35,8 @@ pub struct TurnParts<'a, I, O, D, R> {
 }
 
 /// Has the eligible packet refused, and a violation reported.
-fn stop<W: Wait, I: LaneIn, O: LaneOut, D: Desk, R: Reporter>(
+fn stop<I: LaneIn, O: LaneOut, D: Desk, R: Reporter>(
     port: &mut Port,
-    rt: &W,
     class: Class,
     report: Option<Violation>,
     bridge: &Bridge,
@@ -71,7 +69,6 @@ fn stop<W: Wait, I: LaneIn, O: LaneOut, D: Desk, R: Reporter>(
         return Outcome::NoMemory;
     }
     match refuse_at(
-        rt,
         input,
         outs,
         port.own,
@@ -93,9 +90,8 @@ fn stop<W: Wait, I: LaneIn, O: LaneOut, D: Desk, R: Reporter>(
 }
 
 /// Moves the eligible packet as its course says, where nothing was held or kept.
-fn proceed<W: Wait, I: LaneIn, O: LaneOut, D: Desk, R: Reporter>(
+fn proceed<I: LaneIn, O: LaneOut, D: Desk, R: Reporter>(
     port: &mut Port,
-    rt: &W,
     class: Class,
     bridge: &Bridge,
     input: &mut I,
@@ -124,17 +120,14 @@ fn proceed<W: Wait, I: LaneIn, O: LaneOut, D: Desk, R: Reporter>(
     };
     match port.course(bridge, &head) {
         Forwarding::To(lane) => { forward_at(input, outs, lane, &mut port.strays, bridge, class) }
-        Forwarding::Stop(report) => stop(
-            port, rt, class, report, bridge, input, outs, desk, reporter,
-        ),
+        Forwarding::Stop(report) => stop(port, class, report, bridge, input, outs, desk, reporter),
         Forwarding::NoCase => stray(input, &mut port.strays, class),
     }
 }
 
 /// Tries what was held and kept, and then moves the eligible packet.
-fn advance<W: Wait, I: LaneIn, O: LaneOut, D: Desk, R: Reporter>(
+fn advance<I: LaneIn, O: LaneOut, D: Desk, R: Reporter>(
     port: &mut Port,
-    rt: &W,
     class: Class,
     bridge: &Bridge,
     input: &mut I,
@@ -163,7 +156,7 @@ fn advance<W: Wait, I: LaneIn, O: LaneOut, D: Desk, R: Reporter>(
     if !settle_at(outs, port.own, &mut port.kept) {
         return Outcome::Idle;
     }
-    proceed(port, rt, class, bridge, input, outs, desk, reporter)
+    proceed(port, class, bridge, input, outs, desk, reporter)
 }
 
 impl Port {
@@ -178,9 +171,8 @@ impl Port {
     /// report, keeps an answer only where the port's own lane has no place for its class, and is `Idle` exactly
     /// where it is blocked: no packet of the class is eligible, the lane that its course names has no place for
     /// it, or the port's own lane has none for the answer to a non-posted request that it stops.
-    pub fn turn<W: Wait, I: LaneIn, O: LaneOut, D: Desk, R: Reporter>(
+    pub fn turn<I: LaneIn, O: LaneOut, D: Desk, R: Reporter>(
         &mut self,
-        rt: &W,
         class: Class,
         parts: &mut TurnParts<'_, I, O, D, R>,
     ) -> Outcome
@@ -213,7 +205,6 @@ impl Port {
     {
         advance(
             self,
-            rt,
             class,
             parts.bridge,
             parts.input,

@@ -1,6 +1,6 @@
 pub mod Arrivals
 pub mod PerClass
-pub mod Leaving
+pub mod EligibleClasses
 pub mod Lending
 pub mod Outgoing
 pub mod Queue

@@ -8,12 +8,12 @@ ghost use Rattle.fab_types.specs.declared.class.Class.TheVariants.{Posted};
 ghost use Rattle.port_queue.specs.PerClass.{at_class};
 ghost use Rattle.port_queue.specs.Arrivals.{may_leave, AreClassQueues, IsLeast, number_or_last_of, waiting_of};
 ghost use Rattle.port_queue.specs.Queue.{Queue, count_of, taken_of, head_of, restored};
-ghost use Rattle.port_queue.specs.Leaving.{has};
+ghost use Rattle.port_queue.specs.EligibleClasses.{has};
 ghost use Rattle.port_queue.specs.Renumbering.{firsts_of, others_of};
 
+use crate::eligible_classes::EligibleClasses;
 use crate::entry::{Entry, Gap};
 use crate::items::items_of;
-use crate::leaving_classes::LeavingClasses;
 use crate::per_class::{PerClass, may_leave_beside};
 use crate::ring::Ring;
 use fab_types::{Class, NoMemory};
@@ -103,10 +103,10 @@ impl<T: Drop, const CAP: usize> PortQueue<T, CAP> {
 
     /// Of which classes an item may leave.
     /// That is the oldest of the class, unless an older posted one waits that it may not pass.
-    pub fn leaving(&self) -> LeavingClasses
+    pub fn eligible_classes(&self) -> EligibleClasses
         ensures { (class : Class) → has result class ≡ is_some (head_of class self.now.waiting) }
     {
-        LeavingClasses::of(
+        EligibleClasses::of(
             self.head(Class::Posted).is_some(),
             self.head(Class::NonPosted).is_some(),
             self.head(Class::Completion).is_some(),

@@ -11,17 +11,17 @@
 
 mod anew;
 mod bounded;
+mod eligible_classes;
 mod entry;
 mod items;
-mod leaving_classes;
 mod per_class;
 mod reserved;
 mod ring;
 
 pub use bounded::PortQueue;
+pub use eligible_classes::EligibleClasses;
 #[doc(hidden)]
 pub use entry::{Entry, Gap};
-pub use leaving_classes::LeavingClasses;
 #[doc(hidden)]
 pub use per_class::PerClass;
 pub use reserved::Outbox;

@@ -6,16 +6,16 @@ ghost use Rattle.std.specs.Bool.{OnFalse};
 ghost use Rattle.std.specs.VecDeque.{deque_capacity};
 ghost use Rattle.fab_types.specs.declared.class.Class.{Class};
 ghost use Rattle.fab_types.specs.declared.class.Class.TheVariants.{Posted};
-ghost use Rattle.port_queue.specs.Leaving.{has};
+ghost use Rattle.port_queue.specs.EligibleClasses.{has};
 ghost use Rattle.port_queue.specs.PerClass.{at_class, with_class};
 ghost use Rattle.port_queue.specs.Arrivals.{may_leave};
 ghost use Rattle.port_queue.specs.Queue.{Queue, taken_of, head_of, restored};
 ghost use Rattle.port_queue.specs.Outgoing.{Outgoing, entries_of};
 
 use crate::anew::{pop_oldest, push_oldest};
+use crate::eligible_classes::EligibleClasses;
 use crate::entry::{Entry, Gap};
 use crate::items::items_of;
-use crate::leaving_classes::LeavingClasses;
 use crate::per_class::{PerClass, may_leave_beside};
 use fab_types::{Class, NoMemory};
 use std::alloc::Global;
@@ -121,10 +121,10 @@ impl<T: Drop> Outbox<T> {
 
     /// Of which classes an item may leave.
     /// That is the oldest of the class, unless an older posted one waits that it may not pass.
-    pub fn leaving(&self) -> LeavingClasses
+    pub fn eligible_classes(&self) -> EligibleClasses
         ensures { (class : Class) → has result class ≡ is_some (head_of class self.now.queue.waiting) }
     {
-        LeavingClasses::of(
+        EligibleClasses::of(
             self.head(Class::Posted).is_some(),
             self.head(Class::NonPosted).is_some(),
             self.head(Class::Completion).is_some(),

@@ -18,7 +18,8 @@ use Rattle.fab_types.proofs.violation.Violation.TheSendSync as violation
 use Rattle.frame_log.proofs.frame.Frame.TheSendSync as frame
 use Rattle.frame_log.specs.contracts.frame.Frame as Frame
 use Rattle.thread_workers.proofs.link_side.LinkSide.TheSendSync as side
-use Rattle.thread_domains.proofs.desk.LockedDesk.TheSendSync as desk
+use Rattle.thread_domains.proofs.locks.Locks.TheSendSync as locks
+use Rattle.thread_domains.specs.contracts.locks.Locks as Locks
 use Rattle.monitor.proofs.queue_reporter.QueueReporter.TheSendSync as reporter
 use Rattle.platform.proofs.parts.DownstreamPort.TheSendSync as line
 use Rattle.port.proofs.config.Exit.TheSendSync as exit
@@ -70,6 +71,12 @@ port_work_send =
       port_send,
       (
         arc.the_send Bridge.the_row Global.the_row allocator.ghosts bridge.the_send global.the_send bridge.the_sync global.the_sync heap.the_frees,
-        (side.the_send, (desk.the_field_send, (reporter.the_send, tt))),
+        (
+          side.the_send,
+          (
+            arc.the_send Locks.the_row Global.the_row allocator.ghosts locks.the_send global.the_send locks.the_sync global.the_sync heap.the_frees,
+            (reporter.the_send, tt),
+          ),
+        ),
       ),
     )))

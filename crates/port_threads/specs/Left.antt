@@ -11,7 +11,7 @@ use Rattle.thread_rings.specs.Wired.{numbered, table_of}
 use Rattle.thread_rings.specs.declared.laid.Laid.{Laid}
 use Rattle.thread_rings.specs.declared.wire.Wire.{Wire}
 use Rattle.port_threads.specs.declared.stopped.Stopped.{Stopped}
-use Rattle.port_threads.specs.declared.told_table.ToldTable.{ToldTable}
+use Rattle.port_threads.specs.declared.ring_tallies.RingTallies.{RingTallies}
 use Rattle.thread_totals.specs.Balance.{AreBalanced}
 use Rattle.thread_totals.specs.Standing.{frames_left}
 
@@ -19,9 +19,9 @@ use Rattle.thread_totals.specs.Standing.{frames_left}
 
 module _ {T : Type 0} where
   -- all rings that were laid for these wires have come back, the last first
-  pub record AreBack (wires : List Wire) (made : List (Laid T)) (told : ToldTable T) : Type 0 where
-    pub count : vec_len told.rings ≡ length wires
-    pub rows : map row_of told.rings.items ≡ reverse (numbered (table_of made))
+  pub record AreBack (wires : List Wire) (made : List (Laid T)) (tallies : RingTallies T) : Type 0 where
+    pub count : vec_len tallies.rings ≡ length wires
+    pub rows : map row_of tallies.rings.items ≡ reverse (numbered (table_of made))
 
 -- ---- reports
 

@@ -18,7 +18,7 @@ use thread_plan::Plan;
 use thread_rings::Laid;
 
 /// The fabric of a layout whose workers run.
-/// Each port, each function, the root complex and the monitor runs in a thread of its own. The value can't be
+/// Each port, each function, the host and the monitor runs in a thread of its own. The value can't be
 /// let go but by `stop`, so that no thread is left. A contract sees a `FabricView`.
 pub struct Running {
     pub(crate) plan: Plan,

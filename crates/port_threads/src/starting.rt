@@ -67,7 +67,7 @@ where
 
 impl Running {
     /// Starts the fabric of a layout.
-    /// Each port, each function, the root complex and the monitor make their turns in a thread of their own, at
+    /// Each port, each function, the host and the monitor make their turns in a thread of their own, at
     /// most `turns` of them. All ask this gate before each turn. Nothing has been begun, and no packet is
     /// anywhere.
     ///

@@ -4,7 +4,7 @@ ghost use Rattle.std.specs.Prelude.{◌≡◌, map};
 ghost use Rattle.thread_totals.specs.Counts.{totals_of};
 ghost use Rattle.thread_totals.specs.Standing.{frames_left};
 
-use crate::told_table::ToldTable;
+use crate::ring_tallies::RingTallies;
 use credit::Limits;
 use domain::Domain;
 use fab_types::DomainId;
@@ -21,11 +21,11 @@ pub struct Stopped {
     /// The domains, by rising number.
     pub domains: Vec<Domain>,
     /// The rings of packets on links.
-    pub links: ToldTable<Frame>,
+    pub links: RingTallies<Frame>,
     /// The rings of credits.
-    pub credits: ToldTable<Limits>,
+    pub credits: RingTallies<Limits>,
     /// The rings between the ports of switches.
-    pub pairs: ToldTable<VettedFrame>,
+    pub pairs: RingTallies<VettedFrame>,
     /// All violations that were reported.
     pub list: Vec<Report>,
     /// The ports' ends of the queue of violations, for contracts alone.

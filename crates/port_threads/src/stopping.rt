@@ -14,7 +14,7 @@ use crate::joining::{Pieces, apart};
 use crate::resting::Resting;
 use crate::running::Running;
 use crate::stopped::Stopped;
-use crate::telling::told;
+use crate::tallying::tallied;
 use domain::Domain;
 use fab_types::{NoMemory, StopFault};
 use std::alloc::Global;
@@ -99,9 +99,9 @@ fn left_of<R: Wait>(rt: &R, alloc: Global, fabric: Resting) -> Result<Stopped, N
         credits,
         pairs,
     } = apart(alloc, workers)?;
-    let links = told(alloc, &made_links, plan.links(), links)?;
-    let credits = told(alloc, &made_credits, plan.credits(), credits)?;
-    let pairs = told(alloc, &made_pairs, plan.pairs(), pairs)?;
+    let links = tallied(alloc, &made_links, plan.links(), links)?;
+    let credits = tallied(alloc, &made_credits, plan.credits(), credits)?;
+    let pairs = tallied(alloc, &made_pairs, plan.pairs(), pairs)?;
     let AllRemains { remains, reporters } = remains_of(alloc, posts)?;
     let Reported { list, ports } = closed(rt, alloc, monitor.watch, reporters)?;
     let domains = unlocked(alloc, locks)?;

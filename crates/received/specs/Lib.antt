@@ -1,2 +1,2 @@
-pub mod Receipts
+pub mod Received
 pub mod Receivers

@@ -7,7 +7,7 @@ use std::alloc::Global;
 use std::sync::{Arc, Wait};
 use std::thread::Threads;
 
-/// Domain 1 has function 03:00.0, domain 2 has 04:00.0. These are three ports, two functions and the root complex.
+/// Domain 1 has function 03:00.0, domain 2 has 04:00.0. These are three ports, two functions and the host.
 pub const SMALL: &str = "pciefab 1
 frames 2
 switch 01:00.0 root

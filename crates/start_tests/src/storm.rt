@@ -101,17 +101,17 @@ where
 }
 
 /// How many entries its journal has, if it replays.
-fn replayed<R: Wait>(rt: &R, alloc: Global, domain: &Domain) -> Option<usize> {
+fn replayed(alloc: Global, domain: &Domain) -> Option<usize> {
     let journal = domain.journal();
-    Domain::replay(rt, alloc, domain.start(), journal).ok()?;
+    Domain::replay(alloc, domain.start(), journal).ok()?;
     Some(journal.len())
 }
 
 /// Those of all.
-fn all_replayed<R: Wait>(rt: &R, alloc: Global, domains: &[Domain]) -> Option<usize> {
+fn all_replayed(alloc: Global, domains: &[Domain]) -> Option<usize> {
     let mut entries = 0usize;
     for domain in domains {
-        entries = entries.wrapping_add(replayed(rt, alloc, domain)?);
+        entries = entries.wrapping_add(replayed(alloc, domain)?);
     }
     Some(entries)
 }
@@ -124,7 +124,7 @@ fn no_packet_is_lost_where_turns_are_skipped_at_random(rt: HostRuntime) {
     assert_eq!(rt; answered, FUNCTIONS);
     // Each write is begun and consumed, and so is each read and its completion.
     assert_eq!(rt;
-        all_replayed(&rt, rt.alloc(), &stopped.domains),
+        all_replayed(rt.alloc(), &stopped.domains),
         Some(57 * (50 * 2 + 3))
     );
     assert_eq!(rt; stopped.list.len(), 57 * 12);

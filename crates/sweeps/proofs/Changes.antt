@@ -40,11 +40,11 @@ use Rattle.interconnect.proofs.Room.{full_left}
 use Rattle.switch_output.specs.Vetted.{may_go_on}
 use Rattle.fabric_core.specs.declared.event.Event.{Event}
 use Rattle.fabric_core.specs.declared.event.Event.TheVariants.{Arrive, Credit, Enter, Mmio, Pass, Root, Send, Submit, Take, Tick}
-use Rattle.fabric_core.specs.Receipts.{Taken, agents_by_host, arrived, arrived_by, ended, from_host, own_by_function, own_by_host, receipt_at, receipt_in, relayed, rooted, rooted_by, taken, taken_at, taken_from, to_function, to_host}
-use Rattle.received.specs.Receipts.{memory_at_function, receipt_at_host, receipt_by_function, receipt_by_host, request_at_function, request_at_host}
+use Rattle.fabric_core.specs.Arrivals.{Taken, agents_by_host, arrived, arrived_by, ended, from_host, own_by_function, own_by_host, received_at, received_in, relayed, arrived_at_host, arrived_at_host_by, taken, taken_at, taken_from, to_function, to_host}
+use Rattle.received.specs.Received.{memory_at_function, received_at_host, received_by_function, received_by_host, request_at_function, request_at_host}
 use Rattle.fabric_core.specs.Events.{effect, entered_at, link_of}
 use Rattle.fabric_core.specs.Invariant.{IsConsistent}
-use Rattle.fabric_core.specs.Losing.{pass}
+use Rattle.fabric_core.specs.Misrouting.{pass}
 use Rattle.fabric_core.specs.Passing.{Site, answer_waits, answered_at, is_full_at, output_end, passed, passed_by, passed_number, refused_by, site_at, strayed}
 use Rattle.fabric_core.specs.Places.{IsFlown}
 use Rattle.fabric_core.specs.Soundness.{IsGuardedFabric}
@@ -318,13 +318,13 @@ module _ (Free Bring Touch : LinkEnd → Type 0) (Fill : Origin → Type 0) wher
       request_emits (Downward function) = tt
       request_emits (Answer answerer addressee) = tt
 
-      host_emits : (domain : ℕ) (parties : Parties) (head : Header) → IfSome (own_by_host agents frame (receipt_by_host domain parties head)) (Emits agents)
+      host_emits : (domain : ℕ) (parties : Parties) (head : Header) → IfSome (own_by_host agents frame (received_by_host domain parties head)) (Emits agents)
       host_emits domain parties header.Malformed = tt
       host_emits domain parties (header.Memory requester address_type address) = request_emits parties
       host_emits domain parties (header.OtherRequest requester) = request_emits parties
       host_emits domain parties (header.Completion target relaxed_ordering) =
-          of_either (λ receipt. IfSome (own_by_host agents frame receipt) (Emits agents)) (bus_of target == 0) _ _
-          (of_either (λ receipt. IfSome (own_by_host agents frame receipt) (Emits agents)) (target == host_of domain) _ _ (silent agents (made agents.domains frame.domain (entry.Deliver frame.number))) tt) tt
+          of_either (λ received. IfSome (own_by_host agents frame received) (Emits agents)) (bus_of target == 0) _ _
+          (of_either (λ received. IfSome (own_by_host agents frame received) (Emits agents)) (target == host_of domain) _ _ (silent agents (made agents.domains frame.domain (entry.Deliver frame.number))) tt) tt
 
     module _ (function : ℕ) (fill : Fill (origin.Function function)) where
       carry_emits : IfSome (emitted_if agents (origin.Function function) (cond (is_function_of agents.domains function frame.domain) (made agents.domains frame.domain (entry.Carry frame.number)) None)) (Emits agents)
@@ -337,54 +337,54 @@ module _ (Free Bring Touch : LinkEnd → Type 0) (Fill : Origin → Type 0) wher
 
       memory_emits : (ports : List DownstreamPort) (address : ℕ) (parties : Parties) → IfSome (own_by_function agents function frame (memory_at_function ports function address parties)) (Emits agents)
       memory_emits ports address (Upward sender) =
-          of_either (λ receipt. IfSome (own_by_function agents function frame receipt) (Emits agents)) (goes_directly ports sender address function) _ _ carry_emits tt
+          of_either (λ received. IfSome (own_by_function agents function frame received) (Emits agents)) (goes_directly ports sender address function) _ _ carry_emits tt
       memory_emits ports address (Downward completer) = own_request_emits (Downward completer)
       memory_emits ports address (Answer answerer addressee) = own_request_emits (Answer answerer addressee)
 
-      taken_emits : (ports : List DownstreamPort) (parties : Parties) (head : Header) → IfSome (own_by_function agents function frame (receipt_by_function ports function parties head)) (Emits agents)
+      taken_emits : (ports : List DownstreamPort) (parties : Parties) (head : Header) → IfSome (own_by_function agents function frame (received_by_function ports function parties head)) (Emits agents)
       taken_emits ports parties header.Malformed = tt
       taken_emits ports parties (header.Memory requester address_type address) = memory_emits ports address parties
       taken_emits ports parties (header.OtherRequest requester) = own_request_emits parties
       taken_emits ports parties (header.Completion target relaxed_ordering) = silent agents (made agents.domains frame.domain (entry.Deliver frame.number))
 
-      function_emits : (ports : List DownstreamPort) → IfSome (own_by_function agents function frame (receipt_in ports agents.domains function frame)) (Emits agents)
+      function_emits : (ports : List DownstreamPort) → IfSome (own_by_function agents function frame (received_in ports agents.domains function frame)) (Emits agents)
       function_emits ports =
-          of_either (λ receipt. IfSome (own_by_function agents function frame receipt) (Emits agents)) (is_function_of agents.domains function frame.domain) _ _ (taken_emits ports frame.head.parties frame.head.header) tt
+          of_either (λ received. IfSome (own_by_function agents function frame received) (Emits agents)) (is_function_of agents.domains function frame.domain) _ _ (taken_emits ports frame.head.parties frame.head.header) tt
 
   ended_changes : (w : World) (t : Taken) (o : Option AgentsView) → Linked w.channels t.channels → IfSome o (Emits w.agents) → Changes w (ended w t o)
   ended_changes w t None links emits = record { links = links; boxes = boxes_same w.agents.outboxes }
   ended_changes w t (Some agents) links emits = record { links = links; boxes = emits }
 
   module _ (w : World) (g : IsGuardedFabric w) where
-    at_host : (class : Class) (t : Taken) → IsTaken w.channels class t → Fill (origin.Host t.frame.domain) → Changes w (ended w t (agents_by_host w.routes.ports w.agents t.frame (receipt_at_host t.frame)))
+    at_host : (class : Class) (t : Taken) → IsTaken w.channels class t → Fill (origin.Host t.frame.domain) → Changes w (ended w t (agents_by_host w.routes.ports w.agents t.frame (received_at_host t.frame)))
     at_host class t is fill =
-        subst (λ (o : Option AgentsView). Changes w (ended w t o)) (sym (home_at_host w g t.frame (receipt_at_host t.frame)))
-        (ended_changes w t (own_by_host w.agents t.frame (receipt_at_host t.frame)) is.links (host_emits w.agents t.frame fill t.frame.domain t.frame.head.parties t.frame.head.header))
+        subst (λ (o : Option AgentsView). Changes w (ended w t o)) (sym (home_at_host w g t.frame (received_at_host t.frame)))
+        (ended_changes w t (own_by_host w.agents t.frame (received_at_host t.frame)) is.links (host_emits w.agents t.frame fill t.frame.domain t.frame.head.parties t.frame.head.header))
 
     module _ (class : Class) (t : Taken) (is : IsTaken w.channels class t) (touch : (end : LinkEnd) → sender_of w.tree.links from_host ≡ Some end → Touch end) where
-      request_changes : (parties : Parties) → Changes w (ended w t (agents_by_host w.routes.ports w.agents t.frame (request_at_host parties))) → Change w (rooted_by w class t (request_at_host parties))
+      request_changes : (parties : Parties) → Changes w (ended w t (agents_by_host w.routes.ports w.agents t.frame (request_at_host parties))) → Change w (arrived_at_host_by w class t (request_at_host parties))
       request_changes (Upward function) ended = ended
       request_changes (Downward function) ended = ended
       request_changes (Answer answerer addressee) ended = ended
 
       -- it is sent down, or it ends there
-      rooted_changes : (domain : ℕ) (parties : Parties) (head : Header) → Changes w (ended w t (agents_by_host w.routes.ports w.agents t.frame (receipt_by_host domain parties head))) → Change w (rooted_by w class t (receipt_by_host domain parties head))
-      rooted_changes domain parties header.Malformed = λ ended. ended
-      rooted_changes domain parties (header.Memory requester address_type address) = request_changes parties
-      rooted_changes domain parties (header.OtherRequest requester) = request_changes parties
-      rooted_changes domain parties (header.Completion target relaxed_ordering) =
-          of_either (λ receipt. Changes w (ended w t (agents_by_host w.routes.ports w.agents t.frame receipt)) → Change w (rooted_by w class t receipt)) (bus_of target == 0) _ _
-          (of_either (λ receipt. Changes w (ended w t (agents_by_host w.routes.ports w.agents t.frame receipt)) → Change w (rooted_by w class t receipt)) (target == host_of domain) _ _ (λ ended. ended) (λ ended. ended))
+      at_host_changes : (domain : ℕ) (parties : Parties) (head : Header) → Changes w (ended w t (agents_by_host w.routes.ports w.agents t.frame (received_by_host domain parties head))) → Change w (arrived_at_host_by w class t (received_by_host domain parties head))
+      at_host_changes domain parties header.Malformed = λ ended. ended
+      at_host_changes domain parties (header.Memory requester address_type address) = request_changes parties
+      at_host_changes domain parties (header.OtherRequest requester) = request_changes parties
+      at_host_changes domain parties (header.Completion target relaxed_ordering) =
+          of_either (λ received. Changes w (ended w t (agents_by_host w.routes.ports w.agents t.frame received)) → Change w (arrived_at_host_by w class t received)) (bus_of target == 0) _ _
+          (of_either (λ received. Changes w (ended w t (agents_by_host w.routes.ports w.agents t.frame received)) → Change w (arrived_at_host_by w class t received)) (target == host_of domain) _ _ (λ ended. ended) (λ ended. ended))
           (λ ended. sent_down w class t is (sender_of w.tree.links from_host) touch)
 
-    root_if : (class : Class) (o : Option Taken) → ((domain : ℕ) → Fill (origin.Host domain)) → ((end : LinkEnd) → sender_of w.tree.links from_host ≡ Some end → Touch end) → IfSome o (IsTaken w.channels class) → Change w (rooted w class o)
-    root_if class None fill touch is = tt
-    root_if class (Some t) fill touch is = rooted_changes class t is touch t.frame.domain t.frame.head.parties t.frame.head.header (at_host class t is (fill t.frame.domain))
+    at_host_if : (class : Class) (o : Option Taken) → ((domain : ℕ) → Fill (origin.Host domain)) → ((end : LinkEnd) → sender_of w.tree.links from_host ≡ Some end → Touch end) → IfSome o (IsTaken w.channels class) → Change w (arrived_at_host w class o)
+    at_host_if class None fill touch is = tt
+    at_host_if class (Some t) fill touch is = at_host_changes class t is touch t.frame.domain t.frame.head.parties t.frame.head.header (at_host class t is (fill t.frame.domain))
 
-    arrived_changes : (function : ℕ) (class : Class) (t : Taken) → Fill (origin.Function function) → IsTaken w.channels class t → Changes w (arrived_by w function t (receipt_at w function t.frame))
+    arrived_changes : (function : ℕ) (class : Class) (t : Taken) → Fill (origin.Function function) → IsTaken w.channels class t → Changes w (arrived_by w function t (received_at w function t.frame))
     arrived_changes function class t fill is =
-        subst (λ (o : Option AgentsView). Changes w (ended w t o)) (sym (home_at_function w g function t.frame (receipt_at w function t.frame)))
-        (ended_changes w t (own_by_function w.agents function t.frame (receipt_at w function t.frame)) is.links (function_emits w.agents t.frame function fill w.routes.ports))
+        subst (λ (o : Option AgentsView). Changes w (ended w t o)) (sym (home_at_function w g function t.frame (received_at w function t.frame)))
+        (ended_changes w t (own_by_function w.agents function t.frame (received_at w function t.frame)) is.links (function_emits w.agents t.frame function fill w.routes.ports))
 
     arrive_if : (function : ℕ) (class : Class) (b : Bool) (o : Option Taken) → Fill (origin.Function function) → IfSome o (IsTaken w.channels class) → Change w (cond b (arrived w function o) None)
     arrive_if function class false o fill is = tt
@@ -460,8 +460,8 @@ receive_becomes tree direction end c from = by c.wire
     by [] = tt
     by (frame ∷ frames) = record { full = λ k full. inr full; ingress = inl from }
 
-told_becomes : (tree : Tree) (direction : Direction) (end : LinkEnd) (c : Channel) → IfSome (update_fc c) (Becomes (Frees tree (Credit direction)) (Brings tree (Credit direction)) (Touches tree (Credit direction)) end c)
-told_becomes tree direction end c = by (same_counters c.left most)
+updated_becomes : (tree : Tree) (direction : Direction) (end : LinkEnd) (c : Channel) → IfSome (update_fc c) (Becomes (Frees tree (Credit direction)) (Brings tree (Credit direction)) (Touches tree (Credit direction)) end c)
+updated_becomes tree direction end c = by (same_counters c.left most)
   where
     most : Counters
     most = unspent c.start (c.wire ++ c.ingress)
@@ -510,10 +510,10 @@ module _ (w : World) (kept : IsConsistent w) (g : IsGuardedFabric w) where
       on_link (Frees w.tree event) (Brings w.tree event) (Touches w.tree event) (Fills event) w (sender_of w.tree.links direction) deliver (λ end at. at) (λ end c at. receive_becomes w.tree direction end c at)
   event_changes (Credit direction) =
       let event = Credit direction in
-      on_link (Frees w.tree event) (Brings w.tree event) (Touches w.tree event) (Fills event) w (sender_of w.tree.links direction) update_fc (λ end at. at) (λ end c at. told_becomes w.tree direction end c)
+      on_link (Frees w.tree event) (Brings w.tree event) (Touches w.tree event) (Fills event) w (sender_of w.tree.links direction) update_fc (λ end at. at) (λ end c at. updated_becomes w.tree direction end c)
   event_changes (Root class) =
       let event = Root class in
-      root_if (Frees w.tree event) (Brings w.tree event) (Touches w.tree event) (Fills event) w g class (taken w to_host class) (λ domain. (domain, refl)) (λ end at. inr at)
+      at_host_if (Frees w.tree event) (Brings w.tree event) (Touches w.tree event) (Fills event) w g class (taken w to_host class) (λ domain. (domain, refl)) (λ end at. inr at)
       (is_taken (Frees w.tree event) (Brings w.tree event) (Touches w.tree event) (Fills event) w.channels class (sender_of w.tree.links to_host) (λ end at. inl at) (λ end at. at))
   event_changes (Arrive function class) =
       let event = Arrive function class in

@@ -7,7 +7,7 @@ use Rattle.std.proofs.lemmas.Option.{get_or_from_slice_get, same_Some, slice_get
 use Rattle.topology.proofs.Members.{nothing_contained}
 use Rattle.fab_types.proofs.Taking.{take_all}
 use Rattle.sweeps.specs.declared.moves.Moves.{Moves}
-use Rattle.sweeps.specs.declared.stop.Stop.{Stop}
+use Rattle.sweeps.specs.declared.watchpoint.Watchpoint.{Watchpoint}
 use Rattle.sweeps.specs.Asleep.{AreWoken, IsSettledAt, IsUnblocked, IsUnwoken, Nowhere, has_moved}
 
 -- ---- woken
@@ -33,28 +33,28 @@ module _ (IsSpared : ℕ → Type 0) where
 
 -- ---- settled
 
-module _ (stop : Stop) (place : ℕ) (moves : Moves) (may_sleep : Bool) (blocked old a b c d : List Bool) (first : AreWoken Nowhere moves.taken stop.by_taking.items old a) (second : AreWoken (IsUnblocked blocked) moves.taken stop.by_freeing.items a b)
-    (third : AreWoken Nowhere moves.received stop.by_receiving.items b c) (fourth : AreWoken Nowhere moves.told stop.by_telling.items c d) where
-  unwoken : (q : ℕ) → slice_get d q ≡ Some false → (slice_get old q ≡ Some false) × IsUnwoken stop moves blocked q
+module _ (watchpoint : Watchpoint) (place : ℕ) (moves : Moves) (may_sleep : Bool) (blocked old a b c d : List Bool) (first : AreWoken Nowhere moves.taken watchpoint.by_taking.items old a) (second : AreWoken (IsUnblocked blocked) moves.taken watchpoint.by_freeing.items a b)
+    (third : AreWoken Nowhere moves.received watchpoint.by_receiving.items b c) (fourth : AreWoken Nowhere moves.updated watchpoint.by_updating.items c d) where
+  unwoken : (q : ℕ) → slice_get d q ≡ Some false → (slice_get old q ≡ Some false) × IsUnwoken watchpoint moves blocked q
   unwoken q is =
       let z = fourth.still q is in
       let y = third.still q z.0 in
       let x = second.still q y.0 in
       let w = first.still q x.0 in
-      (w.0, record { taking = w.1; freeing = x.1; receiving = y.1; telling = z.1 })
+      (w.0, record { taking = w.1; freeing = x.1; receiving = y.1; updating = z.1 })
 
   -- what stays asleep: nothing moved, and it may sleep
   fell_asleep : (may some : Bool) → (not may || some) ≡ false → (some ≡ false) × (may ≡ true)
   fell_asleep true some is = (is, refl)
   fell_asleep false some is = absurd (false≢true (sym is))
 
-  pub settled_by : (awake : Bool) (new : List Bool) → awake ≡ (not may_sleep || has_moved moves) → new ≡ set d place awake → IsSettledAt stop place moves may_sleep blocked old new
+  pub settled_by : (awake : Bool) (new : List Bool) → awake ≡ (not may_sleep || has_moved moves) → new ≡ set d place awake → IsSettledAt watchpoint place moves may_sleep blocked old new
   settled_by awake new is made = record {
     all = ap (length {A = Bool}) made ∙ (length-set d place awake ∙ (fourth.all ∙ (third.all ∙ (second.all ∙ first.all))));
     still = λ q asleep. go q (placed d place q awake false (ap (λ (flags : List Bool). slice_get flags q) (sym made) ∙ asleep));
   }
     where
-      go : (q : ℕ) → ((q ≡ place) × (awake ≡ false)) ⊎ ((q ≡ place → ⊥) × (slice_get d q ≡ Some false)) → ((q ≡ place) × (has_moved moves ≡ false) × (may_sleep ≡ true)) ⊎ ((q ≡ place → ⊥) × (slice_get old q ≡ Some false) × IsUnwoken stop moves blocked q)
+      go : (q : ℕ) → ((q ≡ place) × (awake ≡ false)) ⊎ ((q ≡ place → ⊥) × (slice_get d q ≡ Some false)) → ((q ≡ place) × (has_moved moves ≡ false) × (may_sleep ≡ true)) ⊎ ((q ≡ place → ⊥) × (slice_get old q ≡ Some false) × IsUnwoken watchpoint moves blocked q)
       go q (inl own) = let both = fell_asleep may_sleep (has_moved moves) (sym is ∙ own.1) in inl (own.0, both.0, both.1)
       go q (inr was) = let before = unwoken q was.1 in inr (was.0, before.0, before.1)
 
@@ -88,13 +88,13 @@ all_filled n flags is = ap (length {A = Bool}) is ∙ length-replicate n true
 pub none_filled : (n : ℕ) (flags : List Bool) → flags ≡ replicate n true → (j : ℕ) → slice_get flags j ≡ Some false → ⊥
 none_filled n flags is j at = filled_none n j (ap (λ (bs : List Bool). slice_get bs j) (sym is) ∙ at)
 
-mapped_none : (stops : List Stop) (j : ℕ) → slice_get (map (λ (stop : Stop). true) stops) j ≡ Some false → ⊥
+mapped_none : (watchpoints : List Watchpoint) (j : ℕ) → slice_get (map (λ (watchpoint : Watchpoint). true) watchpoints) j ≡ Some false → ⊥
 mapped_none [] j is = absurd cc
-mapped_none (stop ∷ stops) zero is = false≢true (sym (same_Some true false is))
-mapped_none (stop ∷ stops) (suc j) is = mapped_none stops j is
+mapped_none (watchpoint ∷ watchpoints) zero is = false≢true (sym (same_Some true false is))
+mapped_none (watchpoint ∷ watchpoints) (suc j) is = mapped_none watchpoints j is
 
-pub all_mapped : (stops : List Stop) (flags : List Bool) → flags ≡ map (λ (stop : Stop). true) stops → length flags ≡ length stops
-all_mapped stops flags is = ap (length {A = Bool}) is ∙ length-map stops (λ (stop : Stop). true)
+pub all_mapped : (watchpoints : List Watchpoint) (flags : List Bool) → flags ≡ map (λ (watchpoint : Watchpoint). true) watchpoints → length flags ≡ length watchpoints
+all_mapped watchpoints flags is = ap (length {A = Bool}) is ∙ length-map watchpoints (λ (watchpoint : Watchpoint). true)
 
-pub none_mapped : (stops : List Stop) (flags : List Bool) → flags ≡ map (λ (stop : Stop). true) stops → (j : ℕ) → slice_get flags j ≡ Some false → ⊥
-none_mapped stops flags is j at = mapped_none stops j (ap (λ (bs : List Bool). slice_get bs j) (sym is) ∙ at)
+pub none_mapped : (watchpoints : List Watchpoint) (flags : List Bool) → flags ≡ map (λ (watchpoint : Watchpoint). true) watchpoints → (j : ℕ) → slice_get flags j ≡ Some false → ⊥
+none_mapped watchpoints flags is j at = mapped_none watchpoints j (ap (λ (bs : List Bool). slice_get bs j) (sym is) ∙ at)

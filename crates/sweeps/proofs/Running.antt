@@ -14,7 +14,7 @@ use Rattle.fabric_core.specs.declared.station.Station.{Station}
 use Rattle.fabric_core.specs.Events.{StepsTo}
 use Rattle.fabric_core.specs.Runs.{Run}
 use Rattle.fab_types.specs.declared.class.Class.{Class}
-use Rattle.fabric_core.specs.Leaving.{AreLeaving, LeavingClasses, has}
+use Rattle.fabric_core.specs.EligibleClasses.{AreEligible, EligibleClasses, has}
 use Rattle.fabric_core.proofs.effect.QuietStations.{none_leaves}
 use Rattle.fabric_core.specs.Stations.{events_at, taking}
 use Rattle.fabric_core.specs.World.{World}
@@ -67,8 +67,8 @@ sweep_then w v u es fs m n first second = record {
 }
 
 -- a class of which no packet may leave
-pub none_may : (w : World) (s : Station) (class : Class) (leaving : LeavingClasses) → AreLeaving w s leaving → has leaving class ≡ false → Sweeps (taking s class ∷ []) w false w
-none_may w s class leaving are none = one_event w w (taking s class) Idle false (refl, refl) (none_leaves w s class (sym (are class) ∙ none))
+pub none_may : (w : World) (s : Station) (class : Class) (eligible_classes : EligibleClasses) → AreEligible w s eligible_classes → has eligible_classes class ≡ false → Sweeps (taking s class ∷ []) w false w
+none_may w s class eligible_classes are none = one_event w w (taking s class) Idle false (refl, refl) (none_leaves w s class (sym (are class) ∙ none))
 
 -- a class of which the packet waits for a place; to ask that changed nothing
 pub none_goes_on : (w v : World) (s : Station) (class : Class) → v ≡ w → StepsTo w (taking s class) Idle w → Sweeps (taking s class ∷ []) w false v

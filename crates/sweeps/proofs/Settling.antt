@@ -157,8 +157,8 @@ module _ (p : Places) (domains : List DomainView) where
   link_in : (s : Station) → Contains links s → Contains (stations_of p domains) s
   link_in s there = to_links_in s (Contains-append_right to_ports links s there)
 
-  root_in : Contains (stations_of p domains) station.Host
-  root_in = to_host_in station.Host (Contains-append_right to_links (station.Host ∷ []) station.Host (here station.Host []))
+  host_is_in : Contains (stations_of p domains) station.Host
+  host_is_in = to_host_in station.Host (Contains-append_right to_links (station.Host ∷ []) station.Host (here station.Host []))
 
 way_of_both : (direction : Direction) → Contains (both_ways direction.lower) (station.Link direction)
 way_of_both direction = go direction.way refl
@@ -183,7 +183,7 @@ module _ (platform : Platform) (events : List Event) (sweep : IsSweep platform (
   visited (station.Link direction) listed =
       link_in sweep.places (world_of platform).agents.domains (station.Link direction)
       (within_flat both_ways sweep.places.links direction.lower (station.Link direction) (risen _ _ direction.lower sweep.links listed) (way_of_both direction))
-  visited station.Host listed = root_in sweep.places (world_of platform).agents.domains
+  visited station.Host listed = host_is_in sweep.places (world_of platform).agents.domains
   visited (station.Function function) listed =
       function_in sweep.places (world_of platform).agents.domains (station.Function function) (mapped station.Function sweep.places.functions function (risen _ _ function sweep.functions listed))
 

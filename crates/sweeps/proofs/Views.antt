@@ -36,10 +36,10 @@ use Rattle.fabric_core.specs.declared.event.Event.TheVariants.{Credit, Send, Tak
 use Rattle.fabric_core.specs.declared.station.Station.{Station}
 use Rattle.fabric_core.specs.declared.station.Station.TheVariants as station
 use Rattle.fabric_core.specs.Events.{effect, enter, entered_at, link_of}
-use Rattle.fabric_core.specs.Losing.{pass}
+use Rattle.fabric_core.specs.Misrouting.{pass}
 use Rattle.fabric_core.specs.Passing.{Site, answer_waits, is_full_at, output_end, passed, passed_at, passed_by, passed_number, port_number, site_at, turned}
-use Rattle.fabric_core.specs.Receipts.{Taken, arrive, arrived, from_host, relayed, root, rooted, rooted_by, taken, taken_at, taken_from, to_function, to_host}
-use Rattle.received.specs.Receipts.{receipt_at_host, receipt_by_host, request_at_host}
+use Rattle.fabric_core.specs.Arrivals.{Taken, arrive, arrived, from_host, relayed, arrive_at_host, arrived_at_host, arrived_at_host_by, taken, taken_at, taken_from, to_function, to_host}
+use Rattle.received.specs.Received.{received_at_host, received_by_host, request_at_host}
 use Rattle.fabric_core.specs.Soundness.{config_of}
 use Rattle.fabric_core.specs.Stations.{classes, events_at, taking}
 use Rattle.fabric_core.specs.Still.{IsIdleAt}
@@ -162,31 +162,31 @@ module _ (w v : World) where
     sent_down_stays : relayed w one class (sender_of w.tree.links from_host) ≡ None → relayed v other class (sender_of v.tree.links from_host) ≡ None
     sent_down_stays idle = ap (λ (t : Tree). relayed v other class (sender_of t.links from_host)) tree ∙ relay_stays class one other (sender_of w.tree.links from_host) full idle
 
-    request_stays : (parties : Parties) → rooted_by w class one (request_at_host parties) ≡ None → rooted_by v class other (request_at_host parties) ≡ None
+    request_stays : (parties : Parties) → arrived_at_host_by w class one (request_at_host parties) ≡ None → arrived_at_host_by v class other (request_at_host parties) ≡ None
     request_stays (Upward function) idle = absurd cc
     request_stays (Downward function) idle = absurd cc
     request_stays (Answer answerer addressee) idle = absurd cc
 
-    rooted_stays : (domain : ℕ) (parties : Parties) (head : Header) → rooted_by w class one (receipt_by_host domain parties head) ≡ None → rooted_by v class other (receipt_by_host domain parties head) ≡ None
-    rooted_stays domain parties header.Malformed = λ idle. absurd cc
-    rooted_stays domain parties (header.Memory requester address_type address) = request_stays parties
-    rooted_stays domain parties (header.OtherRequest requester) = request_stays parties
-    rooted_stays domain parties (header.Completion target relaxed_ordering) =
-        of_either (λ receipt. rooted_by w class one receipt ≡ None → rooted_by v class other receipt ≡ None) (bus_of target == 0) _ _
-        (of_either (λ receipt. rooted_by w class one receipt ≡ None → rooted_by v class other receipt ≡ None) (target == host_of domain) _ _ (λ idle. absurd cc) (λ idle. absurd cc)) sent_down_stays
+    at_host_stays : (domain : ℕ) (parties : Parties) (head : Header) → arrived_at_host_by w class one (received_by_host domain parties head) ≡ None → arrived_at_host_by v class other (received_by_host domain parties head) ≡ None
+    at_host_stays domain parties header.Malformed = λ idle. absurd cc
+    at_host_stays domain parties (header.Memory requester address_type address) = request_stays parties
+    at_host_stays domain parties (header.OtherRequest requester) = request_stays parties
+    at_host_stays domain parties (header.Completion target relaxed_ordering) =
+        of_either (λ received. arrived_at_host_by w class one received ≡ None → arrived_at_host_by v class other received ≡ None) (bus_of target == 0) _ _
+        (of_either (λ received. arrived_at_host_by w class one received ≡ None → arrived_at_host_by v class other received ≡ None) (target == host_of domain) _ _ (λ idle. absurd cc) (λ idle. absurd cc)) sent_down_stays
 
   -- what the host takes
-  as_taken : (x : World) (class : Class) (o : Option Taken) → rooted x class o ≡ option_and_then (λ (t : Taken). rooted_by x class t (receipt_at_host t.frame)) o
+  as_taken : (x : World) (class : Class) (o : Option Taken) → arrived_at_host x class o ≡ option_and_then (λ (t : Taken). arrived_at_host_by x class t (received_at_host t.frame)) o
   as_taken x class None = refl
   as_taken x class (Some t) = refl
 
-  root_stays : v.tree ≡ w.tree → (class : Class) → ((end : LinkEnd) → sender_of w.tree.links to_host ≡ Some end → SameIngress w v end) → ((end : LinkEnd) → sender_of w.tree.links from_host ≡ Some end → StaysFull w v end) → root w class ≡ None → root v class ≡ None
-  root_stays tree class same full idle =
+  host_stays : v.tree ≡ w.tree → (class : Class) → ((end : LinkEnd) → sender_of w.tree.links to_host ≡ Some end → SameIngress w v end) → ((end : LinkEnd) → sender_of w.tree.links from_host ≡ Some end → StaysFull w v end) → arrive_at_host w class ≡ None → arrive_at_host v class ≡ None
+  host_stays tree class same full idle =
       let found = sender_of w.tree.links to_host in
-      ap (λ (t : Tree). rooted v class (taken_at v.channels class (sender_of t.links to_host))) tree
+      ap (λ (t : Tree). arrived_at_host v class (taken_at v.channels class (sender_of t.links to_host))) tree
       ∙ (as_taken v class (taken_at v.channels class found)
-      ∙ taken_stays class found (λ (t : Taken). rooted_by w class t (receipt_at_host t.frame)) (λ (t : Taken). rooted_by v class t (receipt_at_host t.frame)) same
-      (λ end t. rooted_stays tree class (taken_from w.channels end t) (taken_from v.channels end t) full t.0.domain t.0.head.parties t.0.head.header) (sym (as_taken w class (taken_at w.channels class found)) ∙ idle))
+      ∙ taken_stays class found (λ (t : Taken). arrived_at_host_by w class t (received_at_host t.frame)) (λ (t : Taken). arrived_at_host_by v class t (received_at_host t.frame)) same
+      (λ end t. at_host_stays tree class (taken_from w.channels end t) (taken_from v.channels end t) full t.0.domain t.0.head.parties t.0.head.header) (sym (as_taken w class (taken_at w.channels class found)) ∙ idle))
 
   -- ---- at functions
 
@@ -274,12 +274,12 @@ module _ (w v : World) (plan : SamePlan w v) where
       let s = station.Link direction in
       let sent : (class : Class) → Idle v (Send direction class) = λ class. step_stays w v plan.tree direction (send class) sees.sends (was s (Send direction class) idle (taking_at s class)) in
       let received : Idle v (Take direction) = step_stays w v plan.tree direction deliver sees.sends (was s (Take direction) idle (3, omega arith, refl)) in
-      let told : Idle v (Credit direction) = step_stays w v plan.tree direction update_fc sees.sends (was s (Credit direction) idle (4, omega arith, refl)) in
+      let updated : Idle v (Credit direction) = step_stays w v plan.tree direction update_fc sees.sends (was s (Credit direction) idle (4, omega arith, refl)) in
       All-append (Idle v) (map (taking s) classes) (Take direction ∷ Credit direction ∷ []) (for_each v s sent)
-      (All-cons (Idle v) (Take direction) (Credit direction ∷ []) received (All-cons (Idle v) (Credit direction) [] told (All-nil (Idle v))))
+      (All-cons (Idle v) (Take direction) (Credit direction ∷ []) received (All-cons (Idle v) (Credit direction) [] updated (All-nil (Idle v))))
   still_idle station.Host sees idle =
       let s = station.Host in
-      for_each v s (λ class. root_stays w v plan.tree class sees.takes (λ end is. sees.puts end (ap (option_map (λ (e : LinkEnd). e.node)) is)) (was s (taking s class) idle (taking_at s class)))
+      for_each v s (λ class. host_stays w v plan.tree class sees.takes (λ end is. sees.puts end (ap (option_map (λ (e : LinkEnd). e.node)) is)) (was s (taking s class) idle (taking_at s class)))
   still_idle (station.Function function) sees idle =
       let s = station.Function function in
       for_each v s (λ class. arrive_stays w v plan.tree class function (plan.functions function) sees.takes (was s (taking s class) idle (taking_at s class)))

@@ -26,15 +26,15 @@ use Rattle.fabric_core.specs.declared.station.Station.{Station}
 use Rattle.fabric_core.specs.declared.station.Station.TheVariants as station
 use Rattle.fabric_core.specs.Events.{effect}
 use Rattle.fabric_core.specs.Invariant.{IsFabric}
-use Rattle.fabric_core.specs.Losing.{passed_unless}
-use Rattle.fabric_core.specs.Receipts.{to_function, to_host}
+use Rattle.fabric_core.specs.Misrouting.{passed_unless}
+use Rattle.fabric_core.specs.Arrivals.{to_function, to_host}
 use Rattle.fabric_core.specs.Stations.{is_quiet}
 use Rattle.sweeps.specs.Waking.{LeavesQuiet, WakesNoOther, changes, changes_by_taking, changes_outbox, frees, is_at_node, is_changed_by_taking, is_same_end, node_of, outbox_of, reach_of}
 use Rattle.fabric_core.specs.World.{World, is_guarded}
 use Rattle.fabric_core.proofs.invariant.Keeping.{kept_after}
 use Rattle.fabric_core.proofs.progress.Starts.{steps_stay}
 use Rattle.fabric_core.proofs.runs.Begun.{function_same, step_grow}
-use Rattle.fabric_core.proofs.soundness.GuardedAliens.{none_lost}
+use Rattle.fabric_core.proofs.soundness.GuardedAliens.{none_misrouted}
 use Rattle.sweeps.proofs.Changes.{Brings, Changes, Fills, Frees, Touches, event_changes}
 use Rattle.sweeps.proofs.Views.{SameIngress, SamePlan, Sees, box_of, still_idle}
 
@@ -52,7 +52,7 @@ nodes_meet one other end first second none =
 -- a station isn't changed by what is taken at another
 record AreApart (one other : Reach) : Type 0 where
   takes : is_same_end one.takes other.takes ≡ false
-  tells : is_same_end one.takes other.sends ≡ false
+  updates : is_same_end one.takes other.sends ≡ false
   sends : is_same_end one.sends other.sends ≡ false
   puts : is_at_node one.puts other.sends ≡ false
 
@@ -61,7 +61,7 @@ apart one other none =
     let a = or_parts _ _ none in
     let b = or_parts _ _ a.1 in
     let c = or_parts _ _ b.1 in
-    record { takes = a.0; tells = b.0; sends = c.0; puts = c.1 }
+    record { takes = a.0; updates = b.0; sends = c.0; puts = c.1 }
 
 module _ (tree : Tree) (t : Station) where
   taking_apart : (s : Station) → changes_by_taking tree s t ≡ false → AreApart (reach_of tree s) (reach_of tree t)
@@ -104,14 +104,14 @@ module _ (tree : Tree) (t : Station) where
   touches_none (Tick function) end none sends touches = touches
   touches_none (Mmio domain access) end none sends touches = touches
   touches_none (Enter from class) end none sends touches = entered_none from class end none sends touches
-  touches_none (Pass port class) end none sends (inl from) = ends_meet _ _ end from sends (taking_apart (station.Port port) none).tells
+  touches_none (Pass port class) end none sends (inl from) = ends_meet _ _ end from sends (taking_apart (station.Port port) none).updates
   touches_none (Pass port class) end none sends (inr node) = nodes_meet _ _ end node sends (taking_apart (station.Port port) none).puts
   touches_none (Send direction class) end none sends touches = ends_meet _ _ end touches sends (taking_apart (station.Link direction) none).sends
   touches_none (Take direction) end none sends touches = ends_meet _ _ end touches sends (or_parts _ _ none).0
   touches_none (Credit direction) end none sends touches = ends_meet _ _ end touches sends none
-  touches_none (Root class) end none sends (inl from) = ends_meet _ _ end from sends (taking_apart station.Host none).tells
+  touches_none (Root class) end none sends (inl from) = ends_meet _ _ end from sends (taking_apart station.Host none).updates
   touches_none (Root class) end none sends (inr to) = nodes_meet _ _ end (ap (option_map node_of) to) sends (taking_apart station.Host none).puts
-  touches_none (Arrive function class) end none sends touches = ends_meet _ _ end touches sends (taking_apart (station.Function function) none).tells
+  touches_none (Arrive function class) end none sends touches = ends_meet _ _ end touches sends (taking_apart (station.Function function) none).updates
 
   -- ---- outboxes
 
@@ -216,8 +216,8 @@ module _ (w v : World) (event : Event) (fabric : IsFabric w) (controls : is_guar
         routes = stays.routes;
         configs = stays.configs;
         functions = function_same w.agents.domains v.agents.domains (step_grow w v event Moved is).shares;
-        turns_before = λ port class. ap (passed_unless w port class) (none_lost w fabric.kept controls port class);
-        turns_after = λ port class. ap (passed_unless v port class) (none_lost v kept still port class);
+        turns_before = λ port class. ap (passed_unless w port class) (none_misrouted w fabric.kept controls port class);
+        turns_after = λ port class. ap (passed_unless v port class) (none_misrouted v kept still port class);
       }
 
   changes_of : ChangesOf w event v

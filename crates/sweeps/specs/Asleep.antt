@@ -10,18 +10,18 @@ use Rattle.fabric_core.specs.Stations.{classes, is_quiet, taking}
 use Rattle.fabric_core.specs.Still.{IsIdleAt}
 use Rattle.sweeps.specs.Waking.{changes_outbox, is_changed_by_credits, is_changed_by_receiving, is_changed_by_taking, is_freed_by_sending, reach_of}
 use Rattle.fabric_core.specs.World.{World, is_guarded}
-use Rattle.sweeps.specs.declared.awake.Awake.{Awake}
+use Rattle.sweeps.specs.declared.wakeful.Wakeful.{Wakeful}
 use Rattle.sweeps.specs.declared.moves.Moves.{Moves}
 use Rattle.sweeps.specs.declared.site.How.{How}
-use Rattle.sweeps.specs.declared.site.How.TheVariants.{Taking, Freeing, Receiving, Telling}
+use Rattle.sweeps.specs.declared.site.How.TheVariants.{Taking, Freeing, Receiving, Updating}
 use Rattle.sweeps.specs.declared.site.Site.{Site}
-use Rattle.sweeps.specs.declared.stop.Stop.{Stop}
+use Rattle.sweeps.specs.declared.watchpoint.Watchpoint.{Watchpoint}
 use Rattle.sweeps.specs.Sweeps.{Sweeps}
 
--- ---- the stops of a sweep
+-- ---- the watchpoints of a sweep
 
-abbrev pub station_of : Stop → Station
-station_of stop = stop.station
+abbrev pub station_of : Watchpoint → Station
+station_of watchpoint = watchpoint.station
 
 abbrev pub site_of : Tree → Station → Site
 site_of tree s = record { station = s; reach = reach_of tree s }
@@ -31,63 +31,63 @@ abbrev pub wakes_by : How → Site → Site → Bool
 wakes_by Taking one other = changes_outbox one.station other.station || is_changed_by_taking one.reach other.reach
 wakes_by Freeing one other = is_freed_by_sending one.reach other.reach
 wakes_by Receiving one other = is_changed_by_receiving one.reach other.reach
-wakes_by Telling one other = is_changed_by_credits one.reach other.reach
+wakes_by Updating one other = is_changed_by_credits one.reach other.reach
 
 -- the place of each that may be woken is among these
 abbrev pub AreListed : How → Site → List Site → List ℕ → Type 0
 AreListed how site sites places = (other : ℕ) (s : Site) → slice_get sites other ≡ Some s → wakes_by how site s ≡ true → Contains places other
 
--- those that are listed are stops
-pub record AreWithin (most : ℕ) (stop : Stop) : Type 0 where
-  pub taking : All (λ place. place < most) stop.by_taking.items
-  pub freeing : All (λ place. place < most) stop.by_freeing.items
-  pub receiving : All (λ place. place < most) stop.by_receiving.items
-  pub telling : All (λ place. place < most) stop.by_telling.items
+-- those that are listed are watchpoints
+pub record AreWithin (most : ℕ) (watchpoint : Watchpoint) : Type 0 where
+  pub taking : All (λ place. place < most) watchpoint.by_taking.items
+  pub freeing : All (λ place. place < most) watchpoint.by_freeing.items
+  pub receiving : All (λ place. place < most) watchpoint.by_receiving.items
+  pub updating : All (λ place. place < most) watchpoint.by_updating.items
 
--- the stop of a site among these
-pub record IsStop (site : Site) (sites : List Site) (stop : Stop) : Type 0 where
-  pub station : stop.station ≡ site.station
-  pub taking : AreListed Taking site sites stop.by_taking.items
-  pub freeing : AreListed Freeing site sites stop.by_freeing.items
-  pub receiving : AreListed Receiving site sites stop.by_receiving.items
-  pub telling : AreListed Telling site sites stop.by_telling.items
-  pub within : AreWithin (length sites) stop
+-- the watchpoint of a site among these
+pub record IsWatchpoint (site : Site) (sites : List Site) (watchpoint : Watchpoint) : Type 0 where
+  pub station : watchpoint.station ≡ site.station
+  pub taking : AreListed Taking site sites watchpoint.by_taking.items
+  pub freeing : AreListed Freeing site sites watchpoint.by_freeing.items
+  pub receiving : AreListed Receiving site sites watchpoint.by_receiving.items
+  pub updating : AreListed Updating site sites watchpoint.by_updating.items
+  pub within : AreWithin (length sites) watchpoint
 
 abbrev pub site_station : Site → Station
 site_station site = site.station
 
--- it is the stop of the site at its place
-pub record HasSite (sites : List Site) (place : ℕ) (stop : Stop) : Type 0 where
+-- it is the watchpoint of the site at its place
+pub record HasSite (sites : List Site) (place : ℕ) (watchpoint : Watchpoint) : Type 0 where
   pub site : Site
   pub at : slice_get sites place ≡ Some site
-  pub is : IsStop site sites stop
+  pub is : IsWatchpoint site sites watchpoint
 
 -- each station that an event at this one may wake is listed by its place
-pub record Wakes (tree : Tree) (stop other : Stop) (place : ℕ) : Type 0 where
-  pub taking : wakes_by Taking (site_of tree stop.station) (site_of tree other.station) ≡ true → Contains stop.by_taking.items place
-  pub freeing : wakes_by Freeing (site_of tree stop.station) (site_of tree other.station) ≡ true → Contains stop.by_freeing.items place
-  pub receiving : wakes_by Receiving (site_of tree stop.station) (site_of tree other.station) ≡ true → Contains stop.by_receiving.items place
-  pub telling : wakes_by Telling (site_of tree stop.station) (site_of tree other.station) ≡ true → Contains stop.by_telling.items place
+pub record Wakes (tree : Tree) (watchpoint other : Watchpoint) (place : ℕ) : Type 0 where
+  pub taking : wakes_by Taking (site_of tree watchpoint.station) (site_of tree other.station) ≡ true → Contains watchpoint.by_taking.items place
+  pub freeing : wakes_by Freeing (site_of tree watchpoint.station) (site_of tree other.station) ≡ true → Contains watchpoint.by_freeing.items place
+  pub receiving : wakes_by Receiving (site_of tree watchpoint.station) (site_of tree other.station) ≡ true → Contains watchpoint.by_receiving.items place
+  pub updating : wakes_by Updating (site_of tree watchpoint.station) (site_of tree other.station) ≡ true → Contains watchpoint.by_updating.items place
 
-abbrev pub AreStops : Tree → List Stop → Type 0
-AreStops tree stops = (place other : ℕ) (stop s : Stop) → slice_get stops place ≡ Some stop → slice_get stops other ≡ Some s → Wakes tree stop s other
+abbrev pub AreWatchpoints : Tree → List Watchpoint → Type 0
+AreWatchpoints tree watchpoints = (place other : ℕ) (watchpoint s : Watchpoint) → slice_get watchpoints place ≡ Some watchpoint → slice_get watchpoints other ≡ Some s → Wakes tree watchpoint s other
 
 -- ---- who is asleep
 
--- where stations may sleep: in a guarded fabric, by stops that list whom they wake
-pub record MaySleep (stops : List Stop) (w : World) : Type 0 where
+-- where stations may sleep: in a guarded fabric, by watchpoints that list whom they wake
+pub record MaySleep (watchpoints : List Watchpoint) (w : World) : Type 0 where
   pub controls : is_guarded w ≡ true
   pub fabric : IsFabric w
-  pub wake : AreStops w.tree stops
+  pub wake : AreWatchpoints w.tree watchpoints
 
 -- a station that isn't awake is idle, and quiet unless something was tried there in vain
-pub record AreAsleep (stops : List Stop) (w : World) (awake : Awake) : Type 0 where
-  pub all : length awake.flags.items ≡ length stops
-  pub blocked : length awake.blocked.items ≡ length stops
-  pub may : awake.may_sleep ≡ true → MaySleep stops w
+pub record AreAsleep (watchpoints : List Watchpoint) (w : World) (awake : Wakeful) : Type 0 where
+  pub all : length awake.flags.items ≡ length watchpoints
+  pub blocked : length awake.blocked.items ≡ length watchpoints
+  pub may : awake.may_sleep ≡ true → MaySleep watchpoints w
   pub asleep : (place : ℕ) → slice_get awake.flags.items place ≡ Some false → awake.may_sleep ≡ true
-  pub idle : (place : ℕ) (stop : Stop) → slice_get stops place ≡ Some stop → slice_get awake.flags.items place ≡ Some false → IsIdleAt w stop.station
-  pub quiet : (place : ℕ) (stop : Stop) → slice_get stops place ≡ Some stop → slice_get awake.flags.items place ≡ Some false → slice_get awake.blocked.items place ≡ Some false → is_quiet w stop.station ≡ true
+  pub idle : (place : ℕ) (watchpoint : Watchpoint) → slice_get watchpoints place ≡ Some watchpoint → slice_get awake.flags.items place ≡ Some false → IsIdleAt w watchpoint.station
+  pub quiet : (place : ℕ) (watchpoint : Watchpoint) → slice_get watchpoints place ≡ Some watchpoint → slice_get awake.flags.items place ≡ Some false → slice_get awake.blocked.items place ≡ Some false → is_quiet w watchpoint.station ≡ true
 
 -- ---- a visit
 
@@ -95,21 +95,21 @@ abbrev pub receiving_at : Station → List Event
 receiving_at (station.Link direction) = Take direction ∷ []
 receiving_at s = []
 
-abbrev pub telling_at : Station → List Event
-telling_at (station.Link direction) = Credit direction ∷ []
-telling_at s = []
+abbrev pub updating_at : Station → List Event
+updating_at (station.Link direction) = Credit direction ∷ []
+updating_at s = []
 
 -- the events of a station were made in turn: what moved of those that take a packet, and whether one was received and credits
--- were told
+-- were returned
 pub record IsVisit (s : Station) (w : World) (moves : Moves) (v : World) : Type 0 where
   pub after_taking : World
   pub after_receiving : World
   pub taken : Sweeps (map (taking s) classes) w moves.taken after_taking
   pub received : Sweeps (receiving_at s) after_taking moves.received after_receiving
-  pub told : Sweeps (telling_at s) after_receiving moves.told v
+  pub updated : Sweeps (updating_at s) after_receiving moves.updated v
 
 abbrev pub has_moved : Moves → Bool
-has_moved moves = (moves.taken || moves.received) || moves.told
+has_moved moves = (moves.taken || moves.received) || moves.updated
 
 -- was something tried in vain?
 abbrev pub are_blocked : Moves → Bool
@@ -129,17 +129,17 @@ pub record AreWoken (IsSpared : ℕ → Type 0) (moved : Bool) (places : List �
   pub still : (place : ℕ) → slice_get new place ≡ Some false → (slice_get old place ≡ Some false) × (moved ≡ true → Contains places place → IsSpared place)
 
 -- none of these moved something that wakes the place
-pub record IsUnwoken (stop : Stop) (moves : Moves) (blocked : List Bool) (place : ℕ) : Type 0 where
-  pub taking : moves.taken ≡ true → Contains stop.by_taking.items place → ⊥
-  pub freeing : moves.taken ≡ true → Contains stop.by_freeing.items place → IsUnblocked blocked place
-  pub receiving : moves.received ≡ true → Contains stop.by_receiving.items place → ⊥
-  pub telling : moves.told ≡ true → Contains stop.by_telling.items place → ⊥
+pub record IsUnwoken (watchpoint : Watchpoint) (moves : Moves) (blocked : List Bool) (place : ℕ) : Type 0 where
+  pub taking : moves.taken ≡ true → Contains watchpoint.by_taking.items place → ⊥
+  pub freeing : moves.taken ≡ true → Contains watchpoint.by_freeing.items place → IsUnblocked blocked place
+  pub receiving : moves.received ≡ true → Contains watchpoint.by_receiving.items place → ⊥
+  pub updating : moves.updated ≡ true → Contains watchpoint.by_updating.items place → ⊥
 
 -- where nothing moved at this place it fell asleep, if any may; all others that are asleep were so, and weren't woken
-pub record IsSettledAt (stop : Stop) (place : ℕ) (moves : Moves) (may_sleep : Bool) (blocked old new : List Bool) : Type 0 where
+pub record IsSettledAt (watchpoint : Watchpoint) (place : ℕ) (moves : Moves) (may_sleep : Bool) (blocked old new : List Bool) : Type 0 where
   pub all : length new ≡ length old
   pub still : (other : ℕ) → slice_get new other ≡ Some false
-      → ((other ≡ place) × (has_moved moves ≡ false) × (may_sleep ≡ true)) ⊎ ((other ≡ place → ⊥) × (slice_get old other ≡ Some false) × IsUnwoken stop moves blocked other)
+      → ((other ≡ place) × (has_moved moves ≡ false) × (may_sleep ≡ true)) ⊎ ((other ≡ place → ⊥) × (slice_get old other ≡ Some false) × IsUnwoken watchpoint moves blocked other)
 
 -- ---- a begin
 
@@ -150,23 +150,23 @@ outbox_begun (Tick function) = Some (station.FunctionOutbox function)
 outbox_begun (Mmio domain access) = Some (station.HostOutbox domain)
 outbox_begun event = None
 
--- the stop at the place is the outbox that what happens at the station changes
-pub record IsOutboxAt (stops : List Stop) (s : Station) (place : ℕ) : Type 0 where
-  pub stop : Stop
-  pub at : slice_get stops place ≡ Some stop
-  pub changes : changes_outbox s stop.station ≡ true
+-- the watchpoint at the place is the outbox that what happens at the station changes
+pub record IsOutboxAt (watchpoints : List Watchpoint) (s : Station) (place : ℕ) : Type 0 where
+  pub watchpoint : Watchpoint
+  pub at : slice_get watchpoints place ≡ Some watchpoint
+  pub changes : changes_outbox s watchpoint.station ≡ true
 
-pub record IsBegunAt (stops : List Stop) (event : Event) (place : ℕ) : Type 0 where
+pub record IsBegunAt (watchpoints : List Watchpoint) (event : Event) (place : ℕ) : Type 0 where
   pub outbox : Station
   pub begun : outbox_begun event ≡ Some outbox
-  pub found : IsOutboxAt stops outbox place
+  pub found : IsOutboxAt watchpoints outbox place
 
 -- those were woken that what is taken from the outbox of a begin wakes
-pub record IsWokenByBegin (stops : List Stop) (event : Event) (old new : List Bool) : Type 0 where
+pub record IsWokenByBegin (watchpoints : List Watchpoint) (event : Event) (old new : List Bool) : Type 0 where
   pub place : ℕ
-  pub begun : IsBegunAt stops event place
-  pub woken : AreWoken Nowhere true begun.found.stop.by_taking.items old new
+  pub begun : IsBegunAt watchpoints event place
+  pub woken : AreWoken Nowhere true begun.found.watchpoint.by_taking.items old new
 
 -- or all were
-abbrev pub AreWokenBy : List Stop → Event → List Bool → List Bool → Type 0
-AreWokenBy stops event old new = IsWokenByBegin stops event old new ⊎ (new ≡ replicate (length old) true)
+abbrev pub AreWokenBy : List Watchpoint → Event → List Bool → List Bool → Type 0
+AreWokenBy watchpoints event old new = IsWokenByBegin watchpoints event old new ⊎ (new ≡ replicate (length old) true)

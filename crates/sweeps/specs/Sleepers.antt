@@ -5,8 +5,8 @@ use Rattle.sweeps.specs.Asleep.{AreAsleep, AreWithin, station_of}
 use Rattle.sweeps.specs.Swept.{Swept}
 
 abbrev pub swept_of : Inside → Swept
-swept_of s = record { world = s.fabric; stations = map station_of s.stops.items }
+swept_of s = record { world = s.fabric; stations = map station_of s.watchpoints.items }
 
 pub record IsSweeper (s : Inside) : Type 0 where
-  pub within : All (AreWithin (length s.stops.items)) s.stops.items
-  pub asleep : AreAsleep s.stops.items s.fabric s.awake
+  pub within : All (AreWithin (length s.watchpoints.items)) s.watchpoints.items
+  pub asleep : AreAsleep s.watchpoints.items s.fabric s.awake

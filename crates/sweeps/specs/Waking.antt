@@ -1,5 +1,5 @@
 -- Which stations an event may wake: those where nothing could move before it, and something may after it. A packet that goes
--- on is there for who takes it, gives its link credits to tell, and leaves a place for those that put packets there.
+-- on is there for who takes it, gives its link credits to return, and leaves a place for those that put packets there.
 use Rattle.std.specs.Prelude.{◌≡◌, ℕ, ◌==◌, Bool, true, false, ◌&&◌, ◌||◌, List, Option, Some, None, option_map, slice_index_or}
 use Rattle.fab_types.specs.declared.origin.Origin.{Origin}
 use Rattle.fab_types.specs.declared.origin.Origin.TheVariants as origin
@@ -14,7 +14,7 @@ use Rattle.sweeps.specs.declared.reach.Reach.{Reach}
 use Rattle.fabric_core.specs.declared.station.Station.{Station}
 use Rattle.fabric_core.specs.declared.station.Station.TheVariants as station
 use Rattle.fabric_core.specs.Events.{link_of}
-use Rattle.fabric_core.specs.Receipts.{from_host, to_function, to_host}
+use Rattle.fabric_core.specs.Arrivals.{from_host, to_function, to_host}
 use Rattle.fabric_core.specs.Stations.{is_quiet}
 use Rattle.fabric_core.specs.Still.{IsIdleAt}
 use Rattle.fabric_core.specs.World.{World}
@@ -59,7 +59,7 @@ is_changed_by_taking one other =
 abbrev pub is_changed_by_receiving : Reach → Reach → Bool
 is_changed_by_receiving one other = is_same_end one.sends other.sends || is_same_end one.sends other.takes
 
--- where the sender of a direction is told credits
+-- where the sender of a direction gets credits back
 abbrev pub is_changed_by_credits : Reach → Reach → Bool
 is_changed_by_credits one other = is_same_end one.sends other.sends
 

@@ -2,17 +2,17 @@
 //! something may move where nothing could.
 #![tactic(auto)]
 
-mod awake;
 mod moves;
 mod order;
 mod reach;
 mod site;
-mod stop;
 mod sweep;
 mod sweep_laws;
 mod sweeper;
 mod visit;
+mod wakeful;
 mod waking_laws;
+mod watchpoint;
 
 pub use order::stations;
 pub use sweep::sweeps;

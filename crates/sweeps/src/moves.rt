@@ -10,8 +10,8 @@ pub(crate) struct Moves {
     pub(crate) taken: bool,
     /// The receiver of a direction got one.
     pub(crate) received: bool,
-    /// The sender of a direction was told credits.
-    pub(crate) told: bool,
+    /// The sender of a direction got credits back.
+    pub(crate) updated: bool,
     /// The station was quiet, so that nothing was tried.
     pub(crate) was_quiet: bool,
 }
@@ -20,14 +20,14 @@ impl Moves {
     pub(crate) const NONE: Moves = Moves {
         taken: false,
         received: false,
-        told: false,
+        updated: false,
         was_quiet: true,
     };
 
     pub(crate) fn any(self) -> bool
         ensures { result ≡ has_moved self }
     {
-        self.taken || self.received || self.told
+        self.taken || self.received || self.updated
     }
 
     /// Was something tried in vain?

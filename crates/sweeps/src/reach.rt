@@ -133,8 +133,8 @@ impl Reach {
             || is_at_node(self.puts, other.sends)
     }
 
-    /// May credits that this reach's sender is told change what stands at the other?
-    pub(crate) fn changes_by_telling(&self, other: &Reach) -> bool
+    /// May credits that this reach's sender gets back change what stands at the other?
+    pub(crate) fn changes_by_updating(&self, other: &Reach) -> bool
         ensures { result ≡ is_changed_by_credits self.now other.now }
     {
         is_same_end(self.sends, other.sends)

@@ -25,8 +25,8 @@ pub(crate) enum How {
     Freeing,
     /// The receiver of the direction gets one.
     Receiving,
-    /// Its sender is told credits.
-    Telling,
+    /// Its sender gets credits back.
+    Updating,
 }
 
 fn site_of(topology: &Topology, station: &Station) -> Site
@@ -64,7 +64,7 @@ fn wakes_by(how: How, one: &Site, other: &Site) -> bool
         }
         How::Freeing => one.reach.frees_by_sending(&other.reach),
         How::Receiving => one.reach.changes_by_receiving(&other.reach),
-        How::Telling => one.reach.changes_by_telling(&other.reach),
+        How::Updating => one.reach.changes_by_updating(&other.reach),
     }
 }
 

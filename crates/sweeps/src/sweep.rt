@@ -4,14 +4,13 @@ ghost use Rattle.std.specs.Prelude.{◌≡◌, ◌&&◌, ◌∷◌, [], IfOk, On
 ghost use Rattle.std.specs.List.{flat_map};
 ghost use Rattle.fab_types.specs.declared.outcome.Outcome.TheVariants.{Idle};
 ghost use Rattle.fabric_core.specs.Events.{StepsTo, takes_packet};
-ghost use Rattle.fabric_core.specs.Leaving.{AreLeaving};
+ghost use Rattle.fabric_core.specs.EligibleClasses.{AreEligible};
 ghost use Rattle.fabric_core.specs.Stations.{classes, events_at, others_at, taking};
 ghost use Rattle.fabric_core.specs.Waits.{waits};
 ghost use Rattle.sweeps.specs.Sweeps.{CutShort, Sweeps, SweepsCutShort, SweepsUpTo, is_moved, lacks_memory};
 
 use fab_types::{Class, NoMemory, Outcome};
-use fabric_core::{Event, Fabric, LeavingClasses, Station};
-use std::sync::Wait;
+use fabric_core::{EligibleClasses, Event, Fabric, Station};
 
 /// Did the event move something? `NoMemory` where it was refused memory.
 fn has_moved(outcome: Outcome) -> Result<bool, NoMemory>
@@ -26,19 +25,15 @@ fn has_moved(outcome: Outcome) -> Result<bool, NoMemory>
 }
 
 /// Makes the event. Did it move something? It answers `NoMemory` where it was refused memory.
-pub(crate) fn make<R: Wait>(rt: &R, fabric: &mut Fabric, event: &Event) -> Result<bool, NoMemory>
+pub(crate) fn make(fabric: &mut Fabric, event: &Event) -> Result<bool, NoMemory>
     ensures made { IfOk result (λ moved. Sweeps (event.now ∷ []) fabric.old moved fabric.new) }
     ensures cut_short { OnErr result (CutShort (event.now ∷ []) fabric.old fabric.new) }
 {
-    has_moved(fabric.step(rt, event))
+    has_moved(fabric.step(event))
 }
 
 /// Makes an event that takes a packet, if there is one for it to take.
-pub(crate) fn make_taking<R: Wait>(
-    rt: &R,
-    fabric: &mut Fabric,
-    event: &Event,
-) -> Result<bool, NoMemory>
+pub(crate) fn make_taking(fabric: &mut Fabric, event: &Event) -> Result<bool, NoMemory>
     requires { takes_packet event.now ≡ true }
     ensures made { IfOk result (λ moved. Sweeps (event.now ∷ []) fabric.old moved fabric.new) }
     ensures cut_short { OnErr result (CutShort (event.now ∷ []) fabric.old fabric.new) }
@@ -46,27 +41,26 @@ pub(crate) fn make_taking<R: Wait>(
     if fabric.home(event).is_none() {
         return Ok(false);
     }
-    make(rt, fabric, event)
+    make(fabric, event)
 }
 
 /// Makes the event by which a packet of a class is taken at a station, and asks anew what may leave there if something
 /// moved.
 #[inline(never)]
-fn take<R: Wait>(
-    rt: &R,
+fn take(
     fabric: &mut Fabric,
     station: &Station,
     class: Class,
-    leaving: &mut LeavingClasses,
+    eligible_classes: &mut EligibleClasses,
 ) -> Result<bool, NoMemory>
-    requires { AreLeaving fabric.old station.now leaving.old }
+    requires { AreEligible fabric.old station.now eligible_classes.old }
     ensures made { IfOk result (λ moved. Sweeps (taking station.now class ∷ []) fabric.old moved fabric.new) }
     ensures cut_short { OnErr result (CutShort (taking station.now class ∷ []) fabric.old fabric.new) }
-    ensures leaving { OnOk result (AreLeaving fabric.new station.now leaving.new) }
+    ensures eligible_classes { OnOk result (AreEligible fabric.new station.now eligible_classes.new) }
 {
-    let moved = make(rt, fabric, &station.taking(class))?;
+    let moved = make(fabric, &station.taking(class))?;
     if moved {
-        *leaving = fabric.leaving(station);
+        *eligible_classes = fabric.eligible_classes(station);
     }
     Ok(moved)
 }
@@ -83,31 +77,29 @@ fn still_waits(fabric: &mut Fabric, station: &Station, was_blocked: bool, class:
 /// The same, but the event isn't made where no packet of the class may leave: mostly none may. Where the station was
 /// blocked it isn't made either for one that waits for a place.
 #[inline(always)]
-fn take_leaving<R: Wait>(
-    rt: &R,
+fn take_eligible(
     fabric: &mut Fabric,
     station: &Station,
     was_blocked: bool,
     class: Class,
-    leaving: &mut LeavingClasses,
+    eligible_classes: &mut EligibleClasses,
 ) -> Result<bool, NoMemory>
-    requires { AreLeaving fabric.old station.now leaving.old }
+    requires { AreEligible fabric.old station.now eligible_classes.old }
     ensures made { IfOk result (λ moved. Sweeps (taking station.now class ∷ []) fabric.old moved fabric.new) }
     ensures cut_short { OnErr result (CutShort (taking station.now class ∷ []) fabric.old fabric.new) }
-    ensures leaving { OnOk result (AreLeaving fabric.new station.now leaving.new) }
+    ensures eligible_classes { OnOk result (AreEligible fabric.new station.now eligible_classes.new) }
 {
-    if !leaving.has(class) {
+    if !eligible_classes.has(class) {
         return Ok(false);
     }
     if still_waits(fabric, station, was_blocked, class) {
         return Ok(false);
     }
-    take(rt, fabric, station, class, leaving)
+    take(fabric, station, class, eligible_classes)
 }
 
 /// Makes the events by which a packet of each class is taken at a station.
-pub(crate) fn take_each<R: Wait>(
-    rt: &R,
+pub(crate) fn take_each(
     fabric: &mut Fabric,
     station: &Station,
     was_blocked: bool,
@@ -115,44 +107,41 @@ pub(crate) fn take_each<R: Wait>(
     ensures made { IfOk result (λ moved. Sweeps (map (taking station.now) classes) fabric.old moved fabric.new) }
     ensures cut_short { OnErr result (CutShort (map (taking station.now) classes) fabric.old fabric.new) }
 {
-    let mut leaving = fabric.leaving(station);
-    let posted = take_leaving(
-        rt,
+    let mut eligible_classes = fabric.eligible_classes(station);
+    let posted = take_eligible(
         fabric,
         station,
         was_blocked,
         Class::Posted,
-        &mut leaving,
+        &mut eligible_classes,
     )?;
-    let non_posted = take_leaving(
-        rt,
+    let non_posted = take_eligible(
         fabric,
         station,
         was_blocked,
         Class::NonPosted,
-        &mut leaving,
+        &mut eligible_classes,
     )?;
-    let completion = take_leaving(
-        rt,
+    let completion = take_eligible(
         fabric,
         station,
         was_blocked,
         Class::Completion,
-        &mut leaving,
+        &mut eligible_classes,
     )?;
     Ok(posted | non_posted | completion)
 }
 
-/// Makes the other events of a station: on a direction of a link a packet is received, and credits are told.
-fn make_others<R: Wait>(rt: &R, fabric: &mut Fabric, station: &Station) -> Result<bool, NoMemory>
+/// Makes the other events of a station: on a direction of a link a packet is received, and credits are returned.
+fn make_others(fabric: &mut Fabric, station: &Station) -> Result<bool, NoMemory>
     ensures made { IfOk result (λ moved. Sweeps (others_at station.now) fabric.old moved fabric.new) }
     ensures cut_short { OnErr result (CutShort (others_at station.now) fabric.old fabric.new) }
 {
     match station {
         Station::Link(direction) => {
-            let received = make_taking(rt, fabric, &Event::Take(*direction))?;
-            let told = make(rt, fabric, &Event::Credit(*direction))?;
-            Ok(received | told)
+            let received = make_taking(fabric, &Event::Take(*direction))?;
+            let updated = make(fabric, &Event::Credit(*direction))?;
+            Ok(received | updated)
         }
         Station::FunctionOutbox(_)
         | Station::HostOutbox(_)
@@ -164,27 +153,27 @@ fn make_others<R: Wait>(rt: &R, fabric: &mut Fabric, station: &Station) -> Resul
 
 /// Makes the events of a station in turn. Did any of them move something? Where the station is quiet none would, and none
 /// is tried.
-fn visit<R: Wait>(rt: &R, fabric: &mut Fabric, station: &Station) -> Result<bool, NoMemory>
+fn visit(fabric: &mut Fabric, station: &Station) -> Result<bool, NoMemory>
     ensures made { IfOk result (λ moved. Sweeps (events_at station.now) fabric.old moved fabric.new) }
     ensures cut_short { OnErr result (CutShort (events_at station.now) fabric.old fabric.new) }
 {
     if fabric.is_quiet(station) {
         return Ok(false);
     }
-    let taken = take_each(rt, fabric, station, false)?;
-    let others = make_others(rt, fabric, station)?;
+    let taken = take_each(fabric, station, false)?;
+    let others = make_others(fabric, station)?;
     Ok(taken | others)
 }
 
 /// Makes the events of these stations in turn. Did any of them move something? It answers `NoMemory` at the first event
 /// that was refused memory.
-pub fn sweep<R: Wait>(rt: &R, fabric: &mut Fabric, stations: &[Station]) -> Result<bool, NoMemory>
+pub fn sweep(fabric: &mut Fabric, stations: &[Station]) -> Result<bool, NoMemory>
     ensures made { IfOk result (λ moved. Sweeps (flat_map events_at stations.now) fabric.old moved fabric.new) }
     ensures cut_short { OnErr result (CutShort (flat_map events_at stations.now) fabric.old fabric.new) }
 {
     let mut moved = false;
     for station in stations {
-        let moves = visit(rt, fabric, station)?;
+        let moves = visit(fabric, station)?;
         moved = moved || moves;
     }
     Ok(moved)
@@ -192,17 +181,12 @@ pub fn sweep<R: Wait>(rt: &R, fabric: &mut Fabric, stations: &[Station]) -> Resu
 
 /// Makes so many sweeps, or fewer.
 /// The last one is the first in which nothing moves.
-pub fn sweeps<R: Wait>(
-    rt: &R,
-    fabric: &mut Fabric,
-    stations: &[Station],
-    most: u32,
-) -> Result<(), NoMemory>
+pub fn sweeps(fabric: &mut Fabric, stations: &[Station], most: u32) -> Result<(), NoMemory>
     ensures made { OnOk result (SweepsUpTo (flat_map events_at stations.now) most fabric.old fabric.new) }
     ensures cut_short { OnErr result (SweepsCutShort (flat_map events_at stations.now) most fabric.old fabric.new) }
 {
     for _ in 0..most {
-        let moved = sweep(rt, fabric, stations)?;
+        let moved = sweep(fabric, stations)?;
         if !moved {
             return Ok(());
         }

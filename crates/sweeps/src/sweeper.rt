@@ -11,23 +11,22 @@ ghost use Rattle.fabric_core.specs.World.{is_guarded, world_of};
 ghost use Rattle.sweeps.specs.Asleep.{AreAsleep, AreWithin, station_of};
 ghost use Rattle.sweeps.specs.Sweeps.{CutShort, IsSweep, Sweeps, SweepsCutShort, SweepsUpTo};
 
-use crate::awake::{Awake, next_awake};
-use crate::stop::{Stop, stops_in};
 use crate::visit::visit;
+use crate::wakeful::{Wakeful, next_awake};
+use crate::watchpoint::{Watchpoint, watchpoints_in};
 use fab_types::{NoMemory, Outcome};
 use fabric_core::{Event, Fabric};
 use layout::Layout;
 use std::alloc::Global;
 use std::marker::Model;
-use std::sync::Wait;
 
 /// A fabric that is swept. In a guarded layout a sweep passes over the stations that are asleep: nothing moved when they were
 /// visited last, and no event since may have woken them. A contract sees a `Swept`.
 #[derive(Drop)]
 pub struct Sweeper {
     fabric: Fabric,
-    stops: Vec<Stop>,
-    awake: Awake,
+    watchpoints: Vec<Watchpoint>,
+    awake: Wakeful,
 }
 
 impl Model for Sweeper {
@@ -44,22 +43,21 @@ impl Model for Sweeper {
 
 /// Makes the events of these stations in turn, but for those of sleeping ones, which would move nothing. Did any of them
 /// move something?
-fn sweep<R: Wait>(
-    rt: &R,
+fn sweep(
     fabric: &mut Fabric,
-    stops: &[Stop],
-    awake: &mut Awake,
+    watchpoints: &[Watchpoint],
+    awake: &mut Wakeful,
 ) -> Result<bool, NoMemory>
-    requires within { All (AreWithin (length stops.now)) stops.now }
-    requires asleep { AreAsleep stops.now fabric.old awake.old }
-    ensures made { IfOk result (λ moved. Sweeps (flat_map events_at (map station_of stops.now)) fabric.old moved fabric.new) }
-    ensures cut_short { OnErr result (CutShort (flat_map events_at (map station_of stops.now)) fabric.old fabric.new) }
-    ensures asleep { AreAsleep stops.now fabric.new awake.new }
+    requires within { All (AreWithin (length watchpoints.now)) watchpoints.now }
+    requires asleep { AreAsleep watchpoints.now fabric.old awake.old }
+    ensures made { IfOk result (λ moved. Sweeps (flat_map events_at (map station_of watchpoints.now)) fabric.old moved fabric.new) }
+    ensures cut_short { OnErr result (CutShort (flat_map events_at (map station_of watchpoints.now)) fabric.old fabric.new) }
+    ensures asleep { AreAsleep watchpoints.now fabric.new awake.new }
 {
     let mut moved = false;
     let mut place = next_awake(&awake.flags, 0);
-    while place < stops.len() {
-        let moves = visit(rt, fabric, stops, &stops[place], place, awake)?;
+    while place < watchpoints.len() {
+        let moves = visit(fabric, watchpoints, &watchpoints[place], place, awake)?;
         moved = moved || moves;
         place = next_awake(&awake.flags, place + 1);
     }
@@ -67,21 +65,20 @@ fn sweep<R: Wait>(
 }
 
 /// Makes so many sweeps, or fewer. The last one is the first in which nothing moves.
-fn sweep_up_to<R: Wait>(
-    rt: &R,
+fn sweep_up_to(
     fabric: &mut Fabric,
-    stops: &[Stop],
+    watchpoints: &[Watchpoint],
     most: u32,
-    awake: &mut Awake,
+    awake: &mut Wakeful,
 ) -> Result<(), NoMemory>
-    requires within { All (AreWithin (length stops.now)) stops.now }
-    requires asleep { AreAsleep stops.now fabric.old awake.old }
-    ensures made { OnOk result (SweepsUpTo (flat_map events_at (map station_of stops.now)) most fabric.old fabric.new) }
-    ensures cut_short { OnErr result (SweepsCutShort (flat_map events_at (map station_of stops.now)) most fabric.old fabric.new) }
-    ensures asleep { AreAsleep stops.now fabric.new awake.new }
+    requires within { All (AreWithin (length watchpoints.now)) watchpoints.now }
+    requires asleep { AreAsleep watchpoints.now fabric.old awake.old }
+    ensures made { OnOk result (SweepsUpTo (flat_map events_at (map station_of watchpoints.now)) most fabric.old fabric.new) }
+    ensures cut_short { OnErr result (SweepsCutShort (flat_map events_at (map station_of watchpoints.now)) most fabric.old fabric.new) }
+    ensures asleep { AreAsleep watchpoints.now fabric.new awake.new }
 {
     for _ in 0..most {
-        let moved = sweep(rt, fabric, stops, awake)?;
+        let moved = sweep(fabric, watchpoints, awake)?;
         if !moved {
             return Ok(());
         }
@@ -102,11 +99,11 @@ impl Sweeper {
         // for the proof: what holds of every platform
         let _ = layout.ports();
         let fabric = Fabric::new(alloc, layout)?;
-        let stops = stops_in(alloc, layout, fabric.domains())?;
-        let awake = Awake::all(alloc, &stops, layout.is_guarded())?;
+        let watchpoints = watchpoints_in(alloc, layout, fabric.domains())?;
+        let awake = Wakeful::all(alloc, &watchpoints, layout.is_guarded())?;
         Ok(Sweeper {
             fabric,
-            stops,
+            watchpoints,
             awake,
         })
     }
@@ -126,34 +123,34 @@ impl Sweeper {
     }
 
     /// Makes an event, and wakes the stations that it may have woken. After one that is no begin all are awake.
-    pub fn step<R: Wait>(&mut self, rt: &R, event: &Event) -> Outcome
+    pub fn step(&mut self, event: &Event) -> Outcome
         ensures steps { StepsTo self.old.world event.now result self.new.world }
         ensures begun { is_begin event.now ≡ true → result ≢ Idle }
         ensures stations { self.new.stations ≡ self.old.stations }
     {
-        let outcome = self.fabric.step(rt, event);
-        self.awake.wake_begun(&self.stops, event);
+        let outcome = self.fabric.step(event);
+        self.awake.wake_begun(&self.watchpoints, event);
         outcome
     }
 
     /// Makes one sweep. Did any of its events move something? It answers `NoMemory` at the first event that was refused
     /// memory: those before it were made, and it and those behind it were not.
-    pub fn sweep<R: Wait>(&mut self, rt: &R) -> Result<bool, NoMemory>
+    pub fn sweep(&mut self) -> Result<bool, NoMemory>
         ensures made { IfOk result (λ moved. Sweeps (flat_map events_at self.old.stations) self.old.world moved self.new.world) }
         ensures cut_short { OnErr result (CutShort (flat_map events_at self.old.stations) self.old.world self.new.world) }
         ensures stations { self.new.stations ≡ self.old.stations }
     {
-        sweep(rt, &mut self.fabric, &self.stops, &mut self.awake)
+        sweep(&mut self.fabric, &self.watchpoints, &mut self.awake)
     }
 
     /// Makes so many sweeps, or fewer.
     /// The last one is the first in which nothing moves. It answers `NoMemory` at the first event that was refused memory,
     /// as `sweep` does.
-    pub fn sweeps<R: Wait>(&mut self, rt: &R, most: u32) -> Result<(), NoMemory>
+    pub fn sweeps(&mut self, most: u32) -> Result<(), NoMemory>
         ensures made { OnOk result (SweepsUpTo (flat_map events_at self.old.stations) most self.old.world self.new.world) }
         ensures cut_short { OnErr result (SweepsCutShort (flat_map events_at self.old.stations) most self.old.world self.new.world) }
         ensures stations { self.new.stations ≡ self.old.stations }
     {
-        sweep_up_to(rt, &mut self.fabric, &self.stops, most, &mut self.awake)
+        sweep_up_to(&mut self.fabric, &self.watchpoints, most, &mut self.awake)
     }
 }

@@ -2,24 +2,23 @@
 
 ghost use Rattle.std.specs.Prelude.{◌≡◌, All, IfOk, OnErr, Some, length, slice_get, true};
 ghost use Rattle.fabric_core.specs.Stations.{events_at, is_quiet};
-ghost use Rattle.sweeps.specs.Asleep.{AreAsleep, AreWithin, IsVisit, receiving_at, telling_at};
+ghost use Rattle.sweeps.specs.Asleep.{AreAsleep, AreWithin, IsVisit, receiving_at, updating_at};
 ghost use Rattle.sweeps.specs.Sweeps.{CutShort, Sweeps};
 
-use crate::awake::Awake;
 use crate::moves::Moves;
-use crate::stop::Stop;
 use crate::sweep::{make, make_taking, take_each};
+use crate::wakeful::Wakeful;
+use crate::watchpoint::Watchpoint;
 use fab_types::NoMemory;
 use fabric_core::{Event, Fabric, Station};
-use std::sync::Wait;
 
 /// On a direction of a link the receiver gets the oldest packet of the wire.
-fn receive<R: Wait>(rt: &R, fabric: &mut Fabric, station: &Station) -> Result<bool, NoMemory>
+fn receive(fabric: &mut Fabric, station: &Station) -> Result<bool, NoMemory>
     ensures made { IfOk result (λ received. Sweeps (receiving_at station.now) fabric.old received fabric.new) }
     ensures cut_short { OnErr result (CutShort (receiving_at station.now) fabric.old fabric.new) }
 {
     match station {
-        Station::Link(direction) => make_taking(rt, fabric, &Event::Take(*direction)),
+        Station::Link(direction) => make_taking(fabric, &Event::Take(*direction)),
         Station::FunctionOutbox(_)
         | Station::HostOutbox(_)
         | Station::Port(_)
@@ -28,13 +27,13 @@ fn receive<R: Wait>(rt: &R, fabric: &mut Fabric, station: &Station) -> Result<bo
     }
 }
 
-/// And its sender is told credits.
-fn tell<R: Wait>(rt: &R, fabric: &mut Fabric, station: &Station) -> Result<bool, NoMemory>
-    ensures made { IfOk result (λ told. Sweeps (telling_at station.now) fabric.old told fabric.new) }
-    ensures cut_short { OnErr result (CutShort (telling_at station.now) fabric.old fabric.new) }
+/// And its sender gets credits back.
+fn send_update_fc(fabric: &mut Fabric, station: &Station) -> Result<bool, NoMemory>
+    ensures made { IfOk result (λ updated. Sweeps (updating_at station.now) fabric.old updated fabric.new) }
+    ensures cut_short { OnErr result (CutShort (updating_at station.now) fabric.old fabric.new) }
 {
     match station {
-        Station::Link(direction) => make(rt, fabric, &Event::Credit(*direction)),
+        Station::Link(direction) => make(fabric, &Event::Credit(*direction)),
         Station::FunctionOutbox(_)
         | Station::HostOutbox(_)
         | Station::Port(_)
@@ -45,12 +44,7 @@ fn tell<R: Wait>(rt: &R, fabric: &mut Fabric, station: &Station) -> Result<bool,
 
 /// Makes the events of a station in turn. What moved? Where the station is quiet nothing would, and none is tried. Where
 /// something was tried in vain at the last visit it mostly waits there still, so it is asked first what waits for a place.
-fn make_all<R: Wait>(
-    rt: &R,
-    fabric: &mut Fabric,
-    station: &Station,
-    was_blocked: bool,
-) -> Result<Moves, NoMemory>
+fn make_all(fabric: &mut Fabric, station: &Station, was_blocked: bool) -> Result<Moves, NoMemory>
     ensures made { IfOk result (λ moves. IsVisit station.now fabric.old moves fabric.new) }
     ensures quiet { IfOk result (λ moves. moves.was_quiet ≡ true → is_quiet fabric.new station.now ≡ true) }
     ensures cut_short { OnErr result (CutShort (events_at station.now) fabric.old fabric.new) }
@@ -58,37 +52,36 @@ fn make_all<R: Wait>(
     if !was_blocked && fabric.is_quiet(station) {
         return Ok(Moves::NONE);
     }
-    let taken = take_each(rt, fabric, station, was_blocked)?;
-    let received = receive(rt, fabric, station)?;
-    let told = tell(rt, fabric, station)?;
+    let taken = take_each(fabric, station, was_blocked)?;
+    let received = receive(fabric, station)?;
+    let updated = send_update_fc(fabric, station)?;
     Ok(Moves {
         taken,
         received,
-        told,
+        updated,
         was_quiet: false,
     })
 }
 
 /// Makes the events of the station at a place in turn, and wakes whom they may have woken. Did any of them move something?
 /// Where one was refused memory none falls asleep any more.
-pub(crate) fn visit<R: Wait>(
-    rt: &R,
+pub(crate) fn visit(
     fabric: &mut Fabric,
-    stops: &[Stop],
-    stop: &Stop,
+    watchpoints: &[Watchpoint],
+    watchpoint: &Watchpoint,
     place: usize,
-    awake: &mut Awake,
+    awake: &mut Wakeful,
 ) -> Result<bool, NoMemory>
-    requires stop { slice_get stops.now place ≡ Some stop.now }
-    requires within { All (AreWithin (length stops.now)) stops.now }
-    requires asleep { AreAsleep stops.now fabric.old awake.old }
-    ensures made { IfOk result (λ moved. Sweeps (events_at stop.now.station) fabric.old moved fabric.new) }
-    ensures cut_short { OnErr result (CutShort (events_at stop.now.station) fabric.old fabric.new) }
-    ensures asleep { AreAsleep stops.now fabric.new awake.new }
+    requires watchpoint { slice_get watchpoints.now place ≡ Some watchpoint.now }
+    requires within { All (AreWithin (length watchpoints.now)) watchpoints.now }
+    requires asleep { AreAsleep watchpoints.now fabric.old awake.old }
+    ensures made { IfOk result (λ moved. Sweeps (events_at watchpoint.now.station) fabric.old moved fabric.new) }
+    ensures cut_short { OnErr result (CutShort (events_at watchpoint.now.station) fabric.old fabric.new) }
+    ensures asleep { AreAsleep watchpoints.now fabric.new awake.new }
 {
-    match make_all(rt, fabric, &stop.station, awake.blocked[place]) {
+    match make_all(fabric, &watchpoint.station, awake.blocked[place]) {
         Ok(moves) => {
-            awake.settle(stop, place, moves);
+            awake.settle(watchpoint, place, moves);
             Ok(moves.any())
         }
         Err(fault) => {

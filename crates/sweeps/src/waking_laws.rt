@@ -15,7 +15,7 @@ pub fn events_wake_no_other_station()
 {}
 
 /// In a guarded fabric an event leaves each station quiet at which it changes nothing.
-/// A station is quiet where no packet may leave and no credits are to be told (`Fabric::is_quiet`). At whom an event may
+/// A station is quiet where no packet may leave and no credits are to be returned (`Fabric::is_quiet`). At whom an event may
 /// change something is said by the tree alone (`changes`): who takes what it brings, the sender of a direction on which it
 /// puts a packet, receives one or frees credits, and the outbox that it fills.
 pub fn events_leave_other_stations_quiet()

@@ -9,8 +9,8 @@ pub enum WorkerId {
     Port(PortId),
     /// The worker of a function.
     Function(Bdf),
-    /// The worker of the root complex.
-    Root,
+    /// The worker of the host.
+    Host,
     /// The worker that collects what ports report.
     Monitor,
 }

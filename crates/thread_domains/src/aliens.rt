@@ -15,8 +15,7 @@ use std::sync::Wait;
 
 /// Has a domain that is lent take an alien packet, if it is the domain of this number and may have the entry: this one
 /// step, and no other.
-fn alien_there<R: Wait>(
-    rt: &R,
+fn alien_there(
     domain: &mut Domain,
     number: DomainId,
     place: Place,
@@ -39,7 +38,7 @@ fn alien_there<R: Wait>(
     if !domain.has_alien(there, bytes) {
         return Err(FrameFault::Stray(frame));
     }
-    domain.alien(rt, place, frame, bytes)
+    domain.alien(place, frame, bytes)
 }
 
 impl Locks {
@@ -71,6 +70,6 @@ impl Locks {
             return Err(FrameFault::Stray(frame));
         };
         let mut domain = lock.lock(rt);
-        alien_there(rt, &mut domain, number, place, frame, bytes)
+        alien_there(&mut domain, number, place, frame, bytes)
     }
 }

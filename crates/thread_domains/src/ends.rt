@@ -15,8 +15,7 @@ use frame_log::{Frame, FrameFault};
 use std::sync::Wait;
 
 /// Has a domain that is lent refuse a packet: this one step, and no other.
-fn refuse_there<R: Wait>(
-    rt: &R,
+fn refuse_there(
     domain: &mut Domain,
     frame: Frame,
     port: PortId,
@@ -31,15 +30,11 @@ fn refuse_there<R: Wait>(
 {
     // for the proof: the state is the replay of the journal
     let _ = domain.journal();
-    domain.refuse(rt, frame, port)
+    domain.refuse(frame, port)
 }
 
 /// Has a domain that is lent carry a packet: this one step, and no other.
-fn carry_there<R: Wait>(
-    rt: &R,
-    domain: &mut Domain,
-    frame: Frame,
-) -> Result<Option<Frame>, FrameFault>
+fn carry_there(domain: &mut Domain, frame: Frame) -> Result<Option<Frame>, FrameFault>
     ensures made { IfOk result (λ answer. MadeThere frame.domain (Carry frame.number) answer) }
     ensures step { IfOk result (λ answer. Makes domain.old (Carry frame.number) domain.new answer) }
     ensures given { IfErr result (λ f. fault_frame f ≡ frame) }
@@ -49,7 +44,7 @@ fn carry_there<R: Wait>(
 {
     // for the proof: the state is the replay of the journal
     let _ = domain.journal();
-    domain.carry(rt, frame)
+    domain.carry(frame)
 }
 
 /// Has a domain that is lent take a completion as delivered: this one step, and no other.
@@ -92,7 +87,7 @@ impl Locks {
             return Err(FrameFault::Stray(frame));
         };
         let mut domain = lock.lock(rt);
-        refuse_there(rt, &mut domain, frame, port)
+        refuse_there(&mut domain, frame, port)
     }
 
     /// A request reached its completer.
@@ -115,7 +110,7 @@ impl Locks {
             return Err(FrameFault::Stray(frame));
         };
         let mut domain = lock.lock(rt);
-        carry_there(rt, &mut domain, frame)
+        carry_there(&mut domain, frame)
     }
 
     /// A completion reached whom it answers: its home has it delivered, as `Domain::complete`. Did it close a Tag, so

@@ -5,7 +5,7 @@ use Rattle.std.specs.List.{cons_option, position_or_len}
 use Rattle.std.proofs.lemmas.List.Elements.{All-head, All-tail}
 use Rattle.std.proofs.lemmas.List.Quantifiers.{position-Some}
 use Rattle.thread_crew.specs.declared.worker_id.WorkerId.{WorkerId}
-use Rattle.thread_crew.specs.declared.worker_id.WorkerId.TheVariants.{Port, Function, Root, Monitor}
+use Rattle.thread_crew.specs.declared.worker_id.WorkerId.TheVariants.{Port, Function, Host, Monitor}
 use Rattle.thread_rings.specs.declared.wire.Wire.{Wire}
 use Rattle.topology.proofs.Members.{listed}
 use Rattle.thread_plan.specs.declared.route.Route.{Route}
@@ -18,30 +18,30 @@ use Rattle.thread_plan.specs.Workers.{number_of, same_worker}
 pub same_itself : (worker : WorkerId) → same_worker worker worker ≡ true
 same_itself (Port id) = eq-eqb id id refl
 same_itself (Function id) = eq-eqb id id refl
-same_itself Root = refl
+same_itself Host = refl
 same_itself Monitor = refl
 
 pub same_is : (one other : WorkerId) → same_worker one other ≡ true → one ≡ other
 same_is (Port one) (Port other) e = ap Port (eqb-true one other e)
 same_is (Port one) (Function other) e = absurd cc
-same_is (Port one) Root e = absurd cc
+same_is (Port one) Host e = absurd cc
 same_is (Port one) Monitor e = absurd cc
 same_is (Function one) (Port other) e = absurd cc
 same_is (Function one) (Function other) e = ap Function (eqb-true one other e)
-same_is (Function one) Root e = absurd cc
+same_is (Function one) Host e = absurd cc
 same_is (Function one) Monitor e = absurd cc
-same_is Root (Port other) e = absurd cc
-same_is Root (Function other) e = absurd cc
-same_is Root Root e = refl
-same_is Root Monitor e = absurd cc
+same_is Host (Port other) e = absurd cc
+same_is Host (Function other) e = absurd cc
+same_is Host Host e = refl
+same_is Host Monitor e = absurd cc
 same_is Monitor (Port other) e = absurd cc
 same_is Monitor (Function other) e = absurd cc
-same_is Monitor Root e = absurd cc
+same_is Monitor Host e = absurd cc
 same_is Monitor Monitor e = refl
 
 -- the worker that has a number is the one whose number it is
-pub number_names : (workers : List WorkerId) (worker : WorkerId) (n : ℕ) → number_of workers worker ≡ Some n → get_or workers n Root ≡ worker
-number_names workers worker n e = sym (same_is worker (get_or workers n Root) (position-Some (same_worker worker) workers n Root e).1)
+pub number_names : (workers : List WorkerId) (worker : WorkerId) (n : ℕ) → number_of workers worker ≡ Some n → get_or workers n Host ≡ worker
+number_names workers worker n e = sym (same_is worker (get_or workers n Host) (position-Some (same_worker worker) workers n Host e).1)
 
 pub number_found : (workers : List WorkerId) (worker : WorkerId) → Contains workers worker → (n : ℕ) × (number_of workers worker ≡ Some n)
 number_found workers worker within = (
@@ -62,7 +62,7 @@ wire_made workers places r is =
     let to = number_found workers r.to is.to in (
       record { from = from.0; to = to.0; places = places },
       ap (λ (n : Option ℕ). wire_between places n (number_of workers r.to)) from.1 ∙ ap (λ (n : Option ℕ). wire_between places (Some from.0) n) to.1,
-      ap (λ (w : WorkerId). route w (get_or workers to.0 Root)) (number_names workers r.from from.0 from.1) ∙ ap (λ (w : WorkerId). route r.from w) (number_names workers r.to to.0 to.1),
+      ap (λ (w : WorkerId). route w (get_or workers to.0 Host)) (number_names workers r.from from.0 from.1) ∙ ap (λ (w : WorkerId). route r.from w) (number_names workers r.to to.0 to.1),
     )
 
 pub wires_named : (workers : List WorkerId) (places : ℕ) (routes : List Route) → All (IsRoute workers) routes → map (route_of workers) (wires_of workers places routes) ≡ routes

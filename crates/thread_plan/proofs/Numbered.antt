@@ -12,7 +12,7 @@ use Rattle.platform.specs.declared.parts.Switch.{Switch}
 use Rattle.platform.specs.Platform.{Platform}
 use Rattle.platform.specs.Tree.{internal_bus, is_on_bus}
 use Rattle.thread_crew.specs.declared.worker_id.WorkerId.{WorkerId}
-use Rattle.thread_crew.specs.declared.worker_id.WorkerId.TheVariants.{Root}
+use Rattle.thread_crew.specs.declared.worker_id.WorkerId.TheVariants.{Host}
 use Rattle.topology.specs.Nodes.{outputs_of_switch, ports_on}
 use Rattle.thread_rings.specs.declared.wire.Wire.{Wire}
 use Rattle.thread_plan.specs.declared.route.Route.{Route}
@@ -43,7 +43,7 @@ module _ (workers : List WorkerId) (worker : WorkerId) (n : ℕ) (number : numbe
       go false false e h = refl
       go true false e h =
           let same : m ≡ n = eqb-true m n (sym e) in
-          let one : worker ≡ other = sym (number_names workers worker n number) ∙ ap (λ (k : ℕ). get_or workers k Root) (sym same) ∙ number_names workers other m is in
+          let one : worker ≡ other = sym (number_names workers worker n number) ∙ ap (λ (k : ℕ). get_or workers k Host) (sym same) ∙ number_names workers other m is in
           let passes : same_worker worker other ≡ true = subst (λ (w : WorkerId). same_worker worker w ≡ true) one (same_itself worker) in
           absurd cc
       go false true e h =

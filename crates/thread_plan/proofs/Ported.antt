@@ -9,7 +9,7 @@ use Rattle.platform.specs.declared.parts.DownstreamPort.{DownstreamPort}
 use Rattle.platform.specs.declared.parts.Switch.{Switch}
 use Rattle.platform.specs.Platform.{Platform}
 use Rattle.thread_crew.specs.declared.worker_id.WorkerId.{WorkerId}
-use Rattle.thread_crew.specs.declared.worker_id.WorkerId.TheVariants.{Port, Root}
+use Rattle.thread_crew.specs.declared.worker_id.WorkerId.TheVariants.{Port, Host}
 use Rattle.topology.proofs.Members.{mapped_from, pair_at, pairs_appended, pairs_mapped, position_is}
 use Rattle.topology.proofs.Standing.{ids_apart}
 use Rattle.thread_plan.specs.Workers.{downstream_worker, function_worker, number_of, same_worker, upstream_worker, workers_of}
@@ -43,7 +43,7 @@ module _ (platform : Platform) (laws : IsPlatform platform) (placed : IsWellPlac
   port_at_place : (k : ℕ) (d : WorkerId) → k < length (port_workers platform) → get_or (workers_of platform) k d ≡ get_or (port_workers platform) k d
   port_at_place k d less =
       let more = length-append (port_workers platform) (map function_worker platform.functions) in
-      get_or_append_left (port_workers platform ++ map function_worker platform.functions) (Root ∷ []) d k (omega arith)
+      get_or_append_left (port_workers platform ++ map function_worker platform.functions) (Host ∷ []) d k (omega arith)
       ∙ get_or_append_left (port_workers platform) (map function_worker platform.functions) d k less
 
   pub port_number : (k : ℕ) (d : WorkerId) → k < length platform.switches + length platform.ports → number_of (workers_of platform) (get_or (workers_of platform) k d) ≡ Some k
@@ -51,7 +51,7 @@ module _ (platform : Platform) (laws : IsPlatform platform) (placed : IsWellPlac
       let many = many_ports in
       let inside : k < length (port_workers platform) = omega arith in
       let more = length-append (port_workers platform) (map function_worker platform.functions) in
-      let all = length-append (port_workers platform ++ map function_worker platform.functions) (Root ∷ []) in
+      let all = length-append (port_workers platform ++ map function_worker platform.functions) (Host ∷ []) in
       position_is (same_worker (get_or (workers_of platform) k d)) (workers_of platform) k d (omega arith) (same_itself (get_or (workers_of platform) k d))
       (λ j before. other_fails (get_or (workers_of platform) k d) (get_or (workers_of platform) j d) (λ same. two_workers (get_or (port_workers platform) k d) (get_or (port_workers platform) j d)
       (inr (pair_at are_others (port_workers platform) j k d ports_apart before inside)) (sym (port_at_place k d inside) ∙ same ∙ port_at_place j d (omega arith))))

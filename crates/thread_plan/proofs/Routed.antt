@@ -10,7 +10,7 @@ use Rattle.platform.specs.declared.parts.Switch.{Switch}
 use Rattle.platform.specs.Platform.{Platform}
 use Rattle.platform.specs.Tree.{id_below, internal_bus, is_on_bus, port_above, port_at, port_leading_to}
 use Rattle.thread_crew.specs.declared.worker_id.WorkerId.{WorkerId}
-use Rattle.thread_crew.specs.declared.worker_id.WorkerId.TheVariants.{Root}
+use Rattle.thread_crew.specs.declared.worker_id.WorkerId.TheVariants.{Host}
 use Rattle.topology.specs.Nodes.{ports_on}
 use Rattle.topology.proofs.Members.{found, here, kept_from, later, mapped}
 use Rattle.thread_plan.specs.declared.route.Route.{Route}
@@ -31,28 +31,28 @@ all_of P f xs each = All-map P f xs (λ k d less. each _ (Contains-get_or xs k d
 module _ (platform : Platform) where
   pub switch_listed : (switch : Switch) → Contains platform.switches switch → Contains (workers_of platform) (upstream_worker switch)
   switch_listed switch within =
-      Contains-append_left (map upstream_worker platform.switches ++ map downstream_worker platform.ports ++ map function_worker platform.functions) (Root ∷ []) (upstream_worker switch)
+      Contains-append_left (map upstream_worker platform.switches ++ map downstream_worker platform.ports ++ map function_worker platform.functions) (Host ∷ []) (upstream_worker switch)
       (Contains-append_left (map upstream_worker platform.switches ++ map downstream_worker platform.ports) (map function_worker platform.functions) (upstream_worker switch)
       (Contains-append_left (map upstream_worker platform.switches) (map downstream_worker platform.ports) (upstream_worker switch) (mapped upstream_worker platform.switches switch within)))
 
   pub port_listed : (port : DownstreamPort) → Contains platform.ports port → Contains (workers_of platform) (downstream_worker port)
   port_listed port within =
-      Contains-append_left (map upstream_worker platform.switches ++ map downstream_worker platform.ports ++ map function_worker platform.functions) (Root ∷ []) (downstream_worker port)
+      Contains-append_left (map upstream_worker platform.switches ++ map downstream_worker platform.ports ++ map function_worker platform.functions) (Host ∷ []) (downstream_worker port)
       (Contains-append_left (map upstream_worker platform.switches ++ map downstream_worker platform.ports) (map function_worker platform.functions) (downstream_worker port)
       (Contains-append_right (map upstream_worker platform.switches) (map downstream_worker platform.ports) (downstream_worker port) (mapped downstream_worker platform.ports port within)))
 
   pub function_listed : (function : EndpointFunction) → Contains platform.functions function → Contains (workers_of platform) (function_worker function)
   function_listed function within =
-      Contains-append_left (map upstream_worker platform.switches ++ map downstream_worker platform.ports ++ map function_worker platform.functions) (Root ∷ []) (function_worker function)
+      Contains-append_left (map upstream_worker platform.switches ++ map downstream_worker platform.ports ++ map function_worker platform.functions) (Host ∷ []) (function_worker function)
       (Contains-append_right (map upstream_worker platform.switches ++ map downstream_worker platform.ports) (map function_worker platform.functions) (function_worker function) (mapped function_worker platform.functions function within))
 
-  pub root_listed : Contains (workers_of platform) Root
-  root_listed = Contains-append_right (map upstream_worker platform.switches ++ map downstream_worker platform.ports ++ map function_worker platform.functions) (Root ∷ []) Root (here Root [])
+  pub host_listed : Contains (workers_of platform) Host
+  host_listed = Contains-append_right (map upstream_worker platform.switches ++ map downstream_worker platform.ports ++ map function_worker platform.functions) (Host ∷ []) Host (here Host [])
 
   -- ---- links
 
   above_listed : (port : Option DownstreamPort) → ((p : DownstreamPort) → port ≡ Some p → Contains platform.ports p) → Contains (workers_of platform) (worker_above port)
-  above_listed None within = root_listed
+  above_listed None within = host_listed
   above_listed (Some port) within = port_listed port (within port refl)
 
   pub over_switch : (above : Option ℕ) (p : DownstreamPort) → option_and_then (λ id. port_at platform.ports id) above ≡ Some p → Contains platform.ports p

@@ -3,7 +3,7 @@ use Rattle.std.specs.Prelude.{ℕ, ◌==◌, List, filter, length, map, slice_in
 use Rattle.std.specs.List.{filter_map}
 use Rattle.platform.specs.Platform.{Platform}
 use Rattle.thread_crew.specs.declared.worker_id.WorkerId.{WorkerId}
-use Rattle.thread_crew.specs.declared.worker_id.WorkerId.TheVariants.{Root}
+use Rattle.thread_crew.specs.declared.worker_id.WorkerId.TheVariants.{Host}
 use Rattle.thread_rings.specs.declared.wire.Wire.{Wire}
 use Rattle.thread_rings.specs.Wired.{AreWithin}
 use Rattle.thread_plan.specs.declared.plan.Plan.TheInside.{Inside}
@@ -25,7 +25,7 @@ wires_of workers places routes = filter_map (wire_of workers places) routes
 
 -- and back: the route of a wire, by the names of its workers
 abbrev pub route_of : List WorkerId → Wire → Route
-route_of workers wire = route (slice_index_or workers wire.from Root) (slice_index_or workers wire.to Root)
+route_of workers wire = route (slice_index_or workers wire.from Host) (slice_index_or workers wire.to Host)
 
 abbrev pub routes_of : Platform → List Wire → List Route
 routes_of platform wires = map (route_of (workers_of platform)) wires

@@ -8,7 +8,7 @@ use Rattle.platform.specs.Platform.{Platform}
 use Rattle.platform.specs.Tree.{internal_bus, port_above, port_leading_to}
 use Rattle.topology.specs.Nodes.{ports_on}
 use Rattle.thread_crew.specs.declared.worker_id.WorkerId.{WorkerId}
-use Rattle.thread_crew.specs.declared.worker_id.WorkerId.TheVariants.{Root}
+use Rattle.thread_crew.specs.declared.worker_id.WorkerId.TheVariants.{Host}
 use Rattle.thread_plan.specs.declared.route.Route.{Route}
 use Rattle.thread_plan.specs.Workers.{downstream_worker, function_worker, number_of, upstream_worker, workers_of}
 
@@ -23,7 +23,7 @@ back r = route r.to r.from
 
 -- what hangs below no port hangs below the root port
 abbrev pub worker_above : Option DownstreamPort → WorkerId
-worker_above None = Root
+worker_above None = Host
 worker_above (Some port) = downstream_worker port
 
 -- up the link of a switch, and up that of a function

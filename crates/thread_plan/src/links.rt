@@ -16,7 +16,7 @@ fn worker_above(port: Option<DownstreamPort>) -> WorkerId
 {
     match port {
         Some(port) => WorkerId::Port(port.id),
-        None => WorkerId::Root,
+        None => WorkerId::Host,
     }
 }
 

@@ -61,7 +61,7 @@ impl Plan {
 
     /// The workers; a worker's number is its place here.
     /// They are those of upstream ports, of downstream ports and of functions, each in the order of the
-    /// layout's lines, and that of the root complex.
+    /// layout's lines, and that of the host.
     pub fn workers(&self) -> &[WorkerId]
         ensures { result.now ≡ self.now.workers }
     {

@@ -28,13 +28,13 @@ fn add_functions(layout: &Layout, workers: &mut Vec<WorkerId>) -> Result<(), NoM
     Ok(())
 }
 
-/// Of upstream ports, of downstream ports, of functions and of the root complex.
+/// Of upstream ports, of downstream ports, of functions and of the host.
 pub(crate) fn workers_of(alloc: Global, layout: &Layout) -> Result<Vec<WorkerId>, NoMemory>
     ensures { IfOk result (λ workers. workers.items ≡ workers_of layout.now) }
 {
     let mut workers = of_ports(alloc, layout)?;
     add_functions(layout, &mut workers)?;
-    workers.push(WorkerId::Root)?;
+    workers.push(WorkerId::Host)?;
     Ok(workers)
 }
 
@@ -50,8 +50,8 @@ fn same_worker(one: WorkerId, other: WorkerId) -> bool
             WorkerId::Function(other_function) => function == other_function,
             _ => false,
         },
-        WorkerId::Root => match other {
-            WorkerId::Root => true,
+        WorkerId::Host => match other {
+            WorkerId::Host => true,
             _ => false,
         },
         WorkerId::Monitor => match other {

@@ -1,14 +1,14 @@
--- What went through ends is what their rings tell, once they are taken back.
+-- What went through ends is what their rings tally to, once they are taken back.
 use Rattle.std.proofs.Common.{◌≡◌, ℕ, zero, suc, ◌<◌, List, [], ◌∷◌, ◌++◌, map, length, set, get_or, take, drop, sym, refl, ap, ◌∙◌, arith}
 use Rattle.std.specs.Prelude.{replicate, reverse}
 use Rattle.std.proofs.lemmas.List.{reverse-append}
 use Rattle.rtrb.specs.Ring.{sent, received}
 use Rattle.thread_rings.specs.Moved.{Flow, flow_of, no_flow, with_put, with_taken, put_back, taken_back}
 use Rattle.thread_rings.specs.Names.{RingName}
-use Rattle.thread_rings.specs.Returned.{with_told, all_told}
+use Rattle.thread_rings.specs.Returned.{with_tally, all_tallied}
 use Rattle.thread_rings.specs.Wired.{Tags, no_tags, dealt, tags_of, out_tag, in_tag}
 use Rattle.thread_rings.specs.declared.ends.Ends.{Ends}
-use Rattle.thread_rings.specs.declared.told.Told.{Told}
+use Rattle.thread_rings.specs.declared.ring_tally.RingTally.{RingTally}
 use Rattle.thread_rings.specs.declared.wire.Wire.{Wire}
 
 pub moved_out : {T : Type 0} (workers : List (Ends T)) (i : ℕ) (was is : Ends T) (items : List T) → i < length workers → was ≡ get_or workers i was → flow_of was ≡ with_put (flow_of is) items
@@ -23,14 +23,14 @@ moved_in [] i was is items lt at took = absurd (omega arith)
 moved_in {T = T} (w ∷ ws) zero was is items lt at took = ap (λ (f : Flow T). f ∷ map flow_of ws) (ap flow_of (sym at) ∙ took)
 moved_in {T = T} (w ∷ ws) (suc i) was is items lt at took = ap (λ (l : List (Flow T)). flow_of w ∷ l) (moved_in ws i was is items (omega arith) at took)
 
--- one ring more tells what went through its ends
-pub flow_more : {T : Type 0} (start old new : List (Flow T)) (was is : List (Told T)) (told : Told T) (wire : Wire) (put taken : List T) → start ≡ all_told old (reverse was)
-    → old ≡ taken_back (put_back new wire.from put) wire.to taken → told.wire ≡ wire → sent told.out ≡ put → received told.taker.value ≡ taken → is ≡ was ++ told ∷ []
-    → start ≡ all_told new (reverse is)
-flow_more {T = T} start old new was is told wire put taken so moved w p t more =
-    let one : taken_back (put_back new wire.from put) wire.to taken ≡ with_told new told = λ i. taken_back (put_back new (sym w i).from (sym p i)) (sym w i).to (sym t i) in
-    let turned : reverse is ≡ told ∷ reverse was = ap reverse more ∙ reverse-append was (told ∷ []) in
-    so ∙ ap (λ (l : List (Flow T)). all_told l (reverse was)) (moved ∙ one) ∙ sym (ap (all_told new) turned)
+-- one tally more has what went through its ends
+pub flow_more : {T : Type 0} (start old new : List (Flow T)) (was is : List (RingTally T)) (tally : RingTally T) (wire : Wire) (put taken : List T) → start ≡ all_tallied old (reverse was)
+    → old ≡ taken_back (put_back new wire.from put) wire.to taken → tally.wire ≡ wire → sent tally.out ≡ put → received tally.taker.value ≡ taken → is ≡ was ++ tally ∷ []
+    → start ≡ all_tallied new (reverse is)
+flow_more {T = T} start old new was is tally wire put taken so moved w p t more =
+    let one : taken_back (put_back new wire.from put) wire.to taken ≡ with_tally new tally = λ i. taken_back (put_back new (sym w i).from (sym p i)) (sym w i).to (sym t i) in
+    let turned : reverse is ≡ tally ∷ reverse was = ap reverse more ∙ reverse-append was (tally ∷ []) in
+    so ∙ ap (λ (l : List (Flow T)). all_tallied l (reverse was)) (moved ∙ one) ∙ sym (ap (all_tallied new) turned)
 
 empty_map : {A B : Type 0} (f : A → B) (xs : List A) → map f xs ≡ [] → xs ≡ []
 empty_map f [] e = refl
@@ -53,8 +53,8 @@ no_ends {T = T} (w ∷ ws) (suc count) e =
     let f = no_end w first in let r = no_ends ws count rest in
     λ i. f i ∷ r i
 
--- once no ring is left to be taken back, the rings tell all that went through the workers' ends
-pub all_back : {T : Type 0} (workers : List (Ends T)) (start : List (Flow T)) (rings : List (Told T)) (count : ℕ) (table : List (Wire × RingName)) (k : ℕ) → start ≡ all_told (map flow_of workers) (reverse rings)
-    → map tags_of workers ≡ dealt count (take k table) → k ≡ 0 → start ≡ all_told (replicate count no_flow) (reverse rings)
+-- once no ring is left to be taken back, the tallies have all that went through the workers' ends
+pub all_back : {T : Type 0} (workers : List (Ends T)) (start : List (Flow T)) (rings : List (RingTally T)) (count : ℕ) (table : List (Wire × RingName)) (k : ℕ) → start ≡ all_tallied (map flow_of workers) (reverse rings)
+    → map tags_of workers ≡ dealt count (take k table) → k ≡ 0 → start ≡ all_tallied (replicate count no_flow) (reverse rings)
 all_back {T = T} workers start rings count table k so left none =
-    so ∙ ap (λ (l : List (Flow T)). all_told l (reverse rings)) (no_ends workers count (left ∙ ap (λ (n : ℕ). dealt count (take n table)) none))
+    so ∙ ap (λ (l : List (Flow T)). all_tallied l (reverse rings)) (no_ends workers count (left ∙ ap (λ (n : ℕ). dealt count (take n table)) none))

@@ -1,4 +1,4 @@
--- Where a ring stands in a table whose rings are numbered, and what has been told once it is taken back.
+-- Where a ring stands in a table whose rings are numbered, and what has been tallied once it is taken back.
 use Rattle.std.proofs.Common.{◌≡◌, ℕ, zero, suc, ◌+◌, ◌<◌, List, [], ◌∷◌, ◌++◌, map, length, get_or, drop, sym, refl, ap, ◌∙◌, arith}
 use Rattle.std.specs.Prelude.{reverse}
 use Rattle.std.proofs.lemmas.List.{length-map, map-append, drop_all, reverse-append}
@@ -22,19 +22,19 @@ length-numbered : (n : ℕ) (rs : List (Wire × RingName)) → length (numbered_
 length-numbered n [] = refl
 length-numbered n (r ∷ rs) = let e = length-numbered (n + 1) rs in omega (e, arith)
 
--- before any ring is taken back, none is told
-pub none_told : (table : List (Wire × RingName)) (wires : List Wire) (k : ℕ) → map (λ r. r.0) table ≡ wires → k ≡ length wires → [] ≡ reverse (drop k (numbered table))
-none_told table wires k same is =
+-- before any ring is taken back, none is tallied
+pub none_tallied : (table : List (Wire × RingName)) (wires : List Wire) (k : ℕ) → map (λ r. r.0) table ≡ wires → k ≡ length wires → [] ≡ reverse (drop k (numbered table))
+none_tallied table wires k same is =
     let lm : length (map (λ (r : Wire × RingName). r.0) table) ≡ length table = length-map table (λ (r : Wire × RingName). r.0) in
     let ls : length (map (λ (r : Wire × RingName). r.0) table) ≡ length wires = ap length same in
     let n = length-numbered 0 table in
     ap reverse (sym (drop_all k (numbered table) (omega (lm, ls, n, is, arith))))
 
--- one ring more is told
-pub told_more : {A : Type 0} (row_of : A → Row) (rows : List Row) (is was : List A) (told : A) (m k next : ℕ) (row : Row) → is ≡ was ++ told ∷ [] → row_of told ≡ row
+-- one ring more is tallied
+pub tallied_more : {A : Type 0} (row_of : A → Row) (rows : List Row) (is was : List A) (tally : A) (m k next : ℕ) (row : Row) → is ≡ was ++ tally ∷ [] → row_of tally ≡ row
     → map row_of was ≡ reverse (drop k rows) → drop m rows ≡ row ∷ drop k rows → m ≡ next → map row_of is ≡ reverse (drop next rows)
-told_more row_of rows is was told m k next row more so before at same =
-    ap (map row_of) more ∙ map-append row_of was (told ∷ [])
+tallied_more row_of rows is was tally m k next row more so before at same =
+    ap (map row_of) more ∙ map-append row_of was (tally ∷ [])
     ∙ ap (λ (t : Row). map row_of was ++ t ∷ []) so
     ∙ ap (λ (l : List Row). l ++ row ∷ []) before
     ∙ sym (reverse-append (row ∷ []) (drop k rows))

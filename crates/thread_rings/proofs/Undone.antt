@@ -4,7 +4,7 @@ use Rattle.std.specs.Prelude.{replicate, reverse, take}
 use Rattle.std.proofs.lemmas.List.{get_or-map, length-set, length-map, length-take-le, length-replicate, take_all, take_more}
 use Rattle.thread_rings.specs.Names.{RingName}
 use Rattle.thread_rings.specs.Wired.{Tag, Tags, Row, tag_of, no_tags, with_out, with_in, out_given, in_given, given, dealt_from, dealt, numbered, tags_of, table_of}
-use Rattle.thread_rings.proofs.Numbered.{drop-numbered, none_told}
+use Rattle.thread_rings.proofs.Numbered.{drop-numbered, none_tallied}
 use Rattle.thread_rings.specs.declared.wire.Wire.{Wire}
 use Rattle.thread_rings.specs.declared.laid.Laid.{Laid}
 use Rattle.thread_rings.specs.declared.ends.Ends.{Ends}
@@ -133,14 +133,14 @@ pub next_back : {T : Type 0} (count done : ℕ) (made : List (Laid T)) (wires : 
     × (drop (length wires - 1 - done) (numbered (table_of made)) ≡ row ∷ drop (length wires - done) (numbered (table_of made)))
 next_back count done made wires d same lt = last_given count (table_of made) wires (length wires - 1 - done) (length wires - done) d (wires_of made ∙ same) (omega (lt, arith)) (omega (lt, arith))
 
--- before any ring is taken back all are dealt out, and none is told
-pub none_back : {T A : Type 0} (count : ℕ) (made : List (Laid T)) (wires : List Wire) (workers : List Tags) (row_of : A → Row) (told : List A) → map (λ r. r.wire) made ≡ wires
-    → workers ≡ dealt count (table_of made) → told ≡ []
-    → (workers ≡ dealt count (take (length wires - 0) (table_of made))) × (map row_of told ≡ reverse (drop (length wires - 0) (numbered (table_of made))))
-none_back count made wires workers row_of told same dealt_out none =
+-- before any ring is taken back all are dealt out, and none is tallied
+pub none_back : {T A : Type 0} (count : ℕ) (made : List (Laid T)) (wires : List Wire) (workers : List Tags) (row_of : A → Row) (tally : List A) → map (λ r. r.wire) made ≡ wires
+    → workers ≡ dealt count (table_of made) → tally ≡ []
+    → (workers ≡ dealt count (take (length wires - 0) (table_of made))) × (map row_of tally ≡ reverse (drop (length wires - 0) (numbered (table_of made))))
+none_back count made wires workers row_of tally same dealt_out none =
     let table : List (Wire × RingName) = table_of made in
     let lm : length (map (λ (r : Wire × RingName). r.0) table) ≡ length table = length-map table (λ (r : Wire × RingName). r.0) in
     let ls : length (map (λ (r : Wire × RingName). r.0) table) ≡ length wires = ap length (wires_of made ∙ same) in
     let k : length wires - 0 ≡ length wires = omega arith in
     let all : take (length wires - 0) table ≡ table = take_all (length wires - 0) table (omega (lm, ls, arith)) in
-    (dealt_out ∙ ap (dealt count) (sym all), ap (map row_of) none ∙ none_told table wires (length wires - 0) (wires_of made ∙ same) k)
+    (dealt_out ∙ ap (dealt count) (sym all), ap (map row_of) none ∙ none_tallied table wires (length wires - 0) (wires_of made ∙ same) k)

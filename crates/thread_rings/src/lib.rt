@@ -1,4 +1,4 @@
-//! Rings for any table of wires: laid, dealt out to workers by their ends, and told once the ends are back.
+//! Rings for any table of wires: laid, dealt out to workers by their ends, and tallied once the ends are back.
 #![tactic(auto)]
 
 mod dealing;
@@ -9,7 +9,7 @@ mod laws;
 mod out_end;
 mod out_lane;
 mod ring;
-mod told;
+mod ring_tally;
 mod undoing;
 mod wire;
 
@@ -20,6 +20,6 @@ pub use laid::{Laid, lay};
 pub use laws::a_worker_has_the_ends_of_its_wires;
 pub use out_end::OutEnd;
 pub use ring::Ring;
-pub use told::Told;
+pub use ring_tally::RingTally;
 pub use undoing::undo;
 pub use wire::{Wire, are_within};

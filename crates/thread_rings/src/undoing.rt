@@ -5,14 +5,14 @@ ghost use Rattle.rtrb.specs.Ring.{IsPair, sent, received};
 ghost use Rattle.thread_rings.specs.Moved.{flow_of, no_flow, put_back, taken_back};
 ghost use Rattle.thread_rings.specs.Names.{RingName, out_name, in_name};
 ghost use Rattle.thread_rings.specs.declared.wire.Wire.{Wire};
-ghost use Rattle.thread_rings.specs.Returned.{row_of, all_told};
+ghost use Rattle.thread_rings.specs.Returned.{row_of, all_tallied};
 ghost use Rattle.thread_rings.specs.Wired.{Tag, Tags, AreWithin, no_tags, out_given, in_given, given, dealt, numbered, tags_of, out_tag, in_tag, table_of};
 
 use crate::ends::Ends;
 use crate::in_end::InEnd;
 use crate::laid::Laid;
 use crate::out_end::OutEnd;
-use crate::told::{Told, tell};
+use crate::ring_tally::{RingTally, tally_ends};
 use crate::wire::Wire;
 use std::alloc::{AllocError, Global};
 use std::snapshot::Snapshot;
@@ -67,20 +67,20 @@ fn take_both<T: Drop>(workers: &mut Vec<Ends<T>>, from: usize, to: usize) -> (Ou
     (out, input)
 }
 
-/// Takes the ends of all rings back from the workers, and tells each ring.
+/// Takes the ends of all rings back from the workers, and tallies each ring.
 /// The workers are those to which `deal` gave them, each end still in its place. Of the rings the last of the
 /// table comes first. `made` is a snapshot of the rings as they were laid, before they were dealt out. Whatever
 /// the workers put and took meanwhile, no ring is left out.
 ///
 /// It answers an error where memory was refused, for the list of rings or for what is left in one. Then all
-/// rings are let go with what is in them, those too that had been told; the table and the snapshot are as they
+/// rings are let go with what is in them, those too that had been tallied; the table and the snapshot are as they
 /// were.
 pub fn undo<T: Drop>(
     alloc: Global,
     made: &Snapshot<Vec<Laid<T>>>,
     wires: &[Wire],
     workers: Vec<Ends<T>>,
-) -> Result<Vec<Told<T>>, AllocError>
+) -> Result<Vec<RingTally<T>>, AllocError>
     requires wires { map (λ r. r.wire) made.now.value.items ≡ wires.now }
     requires within { AreWithin (vec_len workers) wires.now }
     requires dealt { map tags_of workers.items ≡ dealt (vec_len workers) (table_of made.now.value.items) }
@@ -88,16 +88,16 @@ pub fn undo<T: Drop>(
     ensures rings { IfOk result (λ rings.
         map row_of rings.items ≡ reverse (numbered (table_of made.now.value.items))) }
 
-    // What each worker had put and taken by each of its ends is what the rings tell.
+    // What each worker had put and taken by each of its ends is what the rings tally to.
     ensures moved { IfOk result (λ rings.
-        map flow_of workers.items ≡ all_told (replicate (vec_len workers) no_flow) (reverse rings.items)) }
+        map flow_of workers.items ≡ all_tallied (replicate (vec_len workers) no_flow) (reverse rings.items)) }
 {
     let mut workers = workers;
     let mut rings = Vec::with_capacity(alloc, wires.len())?;
     for done in 0..wires.len() {
         let wire = &wires[wires.len() - 1 - done];
         let (out, input) = take_both(&mut workers, wire.from, wire.to);
-        rings.push_reserved(tell(alloc, *wire, out, input)?);
+        rings.push_reserved(tally_ends(alloc, *wire, out, input)?);
     }
     Ok(rings)
 }

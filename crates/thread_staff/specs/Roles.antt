@@ -12,7 +12,7 @@ use Rattle.platform.specs.declared.parts.DownstreamPort.{DownstreamPort}
 use Rattle.platform.specs.declared.parts.EndpointFunction.{EndpointFunction}
 use Rattle.platform.specs.declared.parts.Switch.{Switch}
 use Rattle.port.specs.Configs.{Config, downstream_config, upstream_config}
-use Rattle.thread_staff.specs.Kept.{OfFunction, OfPort, OfRoot, Role}
+use Rattle.thread_staff.specs.Kept.{OfFunction, OfPort, OfHost, Role}
 
 -- the numbers of the domains, and what the layout gives each
 abbrev pub starting_numbers : Platform → List ℕ
@@ -34,14 +34,14 @@ abbrev pub function_role : Platform → EndpointFunction → Role
 function_role platform function =
     record { id = function_worker function; duty = OfFunction function.id (domain_above platform.ports function.id) (of_platform platform) (starting_numbers platform) }
 
-abbrev pub root_role : Platform → Role
-root_role platform = record {
-  id = worker.Root;
-  duty = OfRoot (record { shares = starting_shares platform; routes = of_platform platform; locks = starting_numbers platform });
+abbrev pub host_role : Platform → Role
+host_role platform = record {
+  id = worker.Host;
+  duty = OfHost (record { shares = starting_shares platform; routes = of_platform platform; locks = starting_numbers platform });
 }
 
--- upstream ports, downstream ports and functions, each in the order of the layout's lines, and the root complex
+-- upstream ports, downstream ports and functions, each in the order of the layout's lines, and the host
 abbrev pub roles_of : Platform → List Role
 roles_of platform =
     map (upstream_role platform) platform.switches ++ map (downstream_role platform) platform.ports ++ map (function_role platform) platform.functions
-    ++ (root_role platform ∷ [])
+    ++ (host_role platform ∷ [])

@@ -15,5 +15,5 @@ idle_side credits = record {
     queue = record { queue = record { waiting = []; gap = None }; misses = 0; refusals = 0 };
     receiver = record { credits_received = zero_counters; credits_allocated = credits };
   };
-  told = credits;
+  advertised = credits;
 }

@@ -9,17 +9,17 @@ use frame_log::Frame;
 use std::sync::Wait;
 use switch_output::VettedFrame;
 use thread_rings::Ends;
-use thread_workers::{FunctionWork, PortWork, RootWork};
+use thread_workers::{FunctionWork, HostWork, PortWork};
 
-/// The work of a port, of a function or of the root complex.
+/// The work of a port, of a function or of the host.
 #[derive(Drop)]
 pub enum Job {
     /// The work of a port of a switch.
     Port(PortWork),
     /// The work of a function.
     Function(FunctionWork),
-    /// The work of the root complex.
-    Root(RootWork),
+    /// The work of the host.
+    Host(HostWork),
 }
 
 impl Job {
@@ -40,7 +40,7 @@ impl Job {
         match self {
             Job::Port(work) => work.turn(rt, links, credits, pairs),
             Job::Function(work) => work.turn(rt, links, credits),
-            Job::Root(work) => work.turn(rt, links, credits),
+            Job::Host(work) => work.turn(rt, links, credits),
         }
     }
 }

@@ -2,11 +2,11 @@
 #![tactic(auto)]
 
 mod function_job;
+mod host_job;
 mod job;
 mod port_job;
 mod post;
 mod remains;
-mod root_job;
 mod shared;
 mod shares;
 mod sides;

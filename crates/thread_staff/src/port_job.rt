@@ -34,8 +34,8 @@ pub(crate) fn add_port(
 {
     let side = side_of(alloc, layout, port.direction_in().lower)?;
     let bridge = shared.bridge()?;
-    let desk = shared.desk()?;
-    staff.add_port(id, port, bridge, side, desk)?;
+    let locks = shared.locks()?;
+    staff.add_port(id, port, bridge, side, locks)?;
     Ok(())
 }
 

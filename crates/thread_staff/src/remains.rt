@@ -7,16 +7,16 @@ ghost use Rattle.thread_staff.specs.Marks.{config_in, config_left, mark_left, ma
 ghost use Rattle.thread_staff.specs.Seats.{seats_of};
 
 use crate::function_job::function_parts;
+use crate::host_job::host_parts;
 use crate::job::Job;
 use crate::port_job::port_parts;
 use crate::post::Post;
-use crate::root_job::root_parts;
 use fab_types::NoMemory;
 use monitor::QueueReporter;
 use port::Port;
 use std::alloc::Global;
 use thread_crew::WorkerId;
-use thread_workers::{FunctionParts, LinkSide, RootParts};
+use thread_workers::{FunctionParts, HostParts, LinkSide};
 
 /// What is left of a port's worker.
 /// It is the port, with its strays and what it holds, and its side of its link, with what waits there.
@@ -35,8 +35,8 @@ pub enum Parts {
     Port(PortRemains),
     /// Of a function's worker.
     Function(FunctionParts),
-    /// Of the worker of the root complex.
-    Root(RootParts),
+    /// Of the worker of the host.
+    Host(HostParts),
 }
 
 /// What is left of a worker.
@@ -71,7 +71,7 @@ fn parts_of(job: Job, reporters: &mut Vec<QueueReporter>) -> Result<Parts, NoMem
             Ok(parts)
         }
         Job::Function(work) => Ok(function_parts(work)),
-        Job::Root(work) => Ok(root_parts(work)),
+        Job::Host(work) => Ok(host_parts(work)),
     }
 }
 

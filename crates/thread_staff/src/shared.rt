@@ -7,7 +7,7 @@ use bridge::Bridge;
 use fab_types::NoMemory;
 use std::alloc::Global;
 use std::sync::Arc;
-use thread_domains::{LockedDesk, Locks};
+use thread_domains::Locks;
 
 /// The switches of the layout, which never change, and the domains, each under its lock.
 #[derive(Drop)]
@@ -31,14 +31,5 @@ impl Shared {
         ensures { IfOk result (λ locks. arc_value locks ≡ arc_value self.now.locks) }
     {
         Ok(Arc::try_clone(&self.locks)?)
-    }
-
-    /// A port's way to the domains, as `locks`.
-    pub fn desk(&self) -> Result<LockedDesk, NoMemory>
-        ensures { IfOk result (λ desk. arc_value desk.locks ≡ arc_value self.now.locks) }
-    {
-        Ok(LockedDesk {
-            locks: self.locks()?,
-        })
     }
 }

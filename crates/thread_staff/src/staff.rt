@@ -18,7 +18,7 @@ use std::alloc::Global;
 use std::marker::Model;
 use std::sync::Arc;
 use thread_crew::WorkerId;
-use thread_domains::LockedDesk;
+use thread_domains::Locks;
 use thread_workers::{LinkSide, PortWork};
 
 /// Workers without the ends of their rings, and the monitor's end.
@@ -71,7 +71,7 @@ impl Staff {
         port: Port,
         bridge: Arc<Bridge, Global>,
         side: LinkSide,
-        desk: LockedDesk,
+        locks: Arc<Locks, Global>,
     ) -> Result<(), NoMemory>
         ensures ok { OnOk result (map role_of self.new ≡ map role_of self.old ++ port_role (worker.Port id) port.config (arc_value bridge) ∷ []) }
         ensures err { OnErr result (self.new ≡ self.old) }
@@ -79,7 +79,7 @@ impl Staff {
         // Room first: a seat that was given is taken.
         self.posts.reserve(1)?;
         let reporter = self.watch.admit()?;
-        let work = PortWork::new(port, bridge, side, desk, reporter);
+        let work = PortWork::new(port, bridge, side, locks, reporter);
         self.posts.push_reserved(Post {
             id: WorkerId::Port(id),
             job: Job::Port(work),

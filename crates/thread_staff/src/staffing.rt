@@ -8,8 +8,8 @@ ghost use Rattle.thread_staff.specs.Kept.{role_of};
 ghost use Rattle.thread_staff.specs.Roles.{downstream_role, function_role, roles_of, starting_shares, upstream_role};
 
 use crate::function_job::function_post;
+use crate::host_job::host_post;
 use crate::port_job::add_port;
-use crate::root_job::root_post;
 use crate::shared::Shared;
 use crate::staff::Staff;
 use fab_types::{NoMemory, PortId};
@@ -109,7 +109,7 @@ pub fn staff_of(
     add_upstream(alloc, layout, shared, &mut staff)?;
     add_downstream(alloc, layout, shared, &mut staff)?;
     add_functions(alloc, layout, shared, boxes, &mut staff, &mut injectors)?;
-    let root = root_post(alloc, layout, shared, hosts, starts, &mut injectors)?;
-    staff.add(root)?;
+    let host = host_post(alloc, layout, shared, hosts, starts, &mut injectors)?;
+    staff.add(host)?;
     Ok((staff, injectors))
 }

@@ -14,7 +14,7 @@ fn counter(id: WorkerId, all: &Arc<AtomicU64, Global>) -> Option<Counter> {
 
 fn two(alloc: Global, all: &Arc<AtomicU64, Global>) -> Option<Vec<Counter>> {
     let mut workers = Vec::new(alloc);
-    workers.push(counter(WorkerId::Root, all)?).ok()?;
+    workers.push(counter(WorkerId::Host, all)?).ok()?;
     workers.push(counter(WorkerId::Monitor, all)?).ok()?;
     Some(workers)
 }
@@ -72,13 +72,13 @@ where
 #[test]
 fn a_gate_skips_turns_and_workers_come_back_in_their_order(rt: HostRuntime) {
     let made = ran(rt, rt.alloc(), OddTurns, false, 7);
-    assert_eq!(rt; made, Some(((WorkerId::Root, 3), (WorkerId::Monitor, 3))));
+    assert_eq!(rt; made, Some(((WorkerId::Host, 3), (WorkerId::Monitor, 3))));
 }
 
 #[test]
 fn a_stop_flag_that_is_set_leaves_no_turn(rt: HostRuntime) {
     let made = ran(rt, rt.alloc(), OddTurns, true, 7);
-    assert_eq!(rt; made, Some(((WorkerId::Root, 0), (WorkerId::Monitor, 0))));
+    assert_eq!(rt; made, Some(((WorkerId::Host, 0), (WorkerId::Monitor, 0))));
 }
 
 #[test]
@@ -88,7 +88,7 @@ fn workers_run_at_the_same_time(rt: HostRuntime) {
         come: AtomicU64::new(0),
     };
     let made = ran(rt, rt.alloc(), gate, false, 1);
-    assert_eq!(rt; made, Some(((WorkerId::Root, 1), (WorkerId::Monitor, 1))));
+    assert_eq!(rt; made, Some(((WorkerId::Host, 1), (WorkerId::Monitor, 1))));
 }
 
 #[test]

@@ -3,7 +3,6 @@
 use crate::injector_scenes::{Scene, function, host, started, too_long, write};
 use fab_types::{BeginFault, SubmitFault};
 use std::alloc::Global;
-use std::sync::Wait;
 
 /// How many writes go into a ring that nobody serves, 20,000 at most.
 fn filled(scene: &mut Scene) -> u32 {
@@ -49,31 +48,31 @@ fn a_host_neither_ticks_nor_submits(rt: HostRuntime) {
 }
 
 /// Serves once more where memory was refused: is the begin held meanwhile, and the domain as it was?
-fn again<R: Wait>(rt: &R, scene: &mut Scene) -> bool {
+fn again(scene: &mut Scene) -> bool {
     let is_held = scene.ends.begins.holds_begin() && scene.counts() == (0, 0, 0);
-    is_held && scene.serve(rt).is_ok()
+    is_held && scene.serve().is_ok()
 }
 
 /// A write is served, also where memory is refused to it at first. Was it done?
-fn served_at_last<R: Wait>(rt: &R, scene: &mut Scene) -> bool {
-    match scene.serve(rt) {
+fn served_at_last(scene: &mut Scene) -> bool {
+    match scene.serve() {
         Ok(sent) => sent.is_some(),
-        Err(BeginFault::Submit(SubmitFault::NoMemory)) => again(rt, scene),
+        Err(BeginFault::Submit(SubmitFault::NoMemory)) => again(scene),
         Err(_) => false,
     }
 }
 
 /// Was it done once, and is nothing held then? Nothing is wrong where there is no memory for the scene itself.
-fn is_done_once<R: Wait>(rt: &R, alloc: Global) -> bool {
+fn is_done_once(alloc: Global) -> bool {
     let Some(mut scene) = started(alloc, function(), 256) else {
         return true;
     };
     let is_asked = scene.submit(&write()) == 0;
-    let is_served = is_asked && served_at_last(rt, &mut scene);
+    let is_served = is_asked && served_at_last(&mut scene);
     is_served && !scene.ends.begins.holds_begin() && scene.counts() == (1, 0, 1)
 }
 
 #[test]
 fn a_begin_to_which_memory_is_refused_is_held(rt: HostRuntime) {
-    assert!(rt; is_done_once(&rt, rt.alloc()));
+    assert!(rt; is_done_once(rt.alloc()));
 }

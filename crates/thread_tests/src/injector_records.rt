@@ -2,13 +2,12 @@
 
 use crate::injector_scenes::{Scene, function, read, started};
 use std::alloc::Global;
-use std::sync::Wait;
 
 /// The function asks for a read, which is served, carried by the host and settled.
-fn settled<R: Wait>(rt: &R, scene: &mut Scene, tag: u8) -> Option<bool> {
+fn settled(scene: &mut Scene, tag: u8) -> Option<bool> {
     let is_asked = scene.submit(&read(tag)) == 0;
-    let request = scene.serve(rt).ok()??;
-    let completion = scene.carry(rt, request)?;
+    let request = scene.serve().ok()??;
+    let completion = scene.carry(request)?;
     Some(is_asked && scene.settle(completion))
 }
 
@@ -19,9 +18,9 @@ fn tag_of_next(scene: &mut Scene) -> Option<u8> {
 }
 
 /// Two reads with a place for one record. Is the second record held until the first was taken?
-fn held<R: Wait>(rt: &R, alloc: Global) -> Option<bool> {
+fn held(alloc: Global) -> Option<bool> {
     let mut scene = started(alloc, function(), 1)?;
-    if settled(rt, &mut scene, 1) != Some(true) || settled(rt, &mut scene, 2) != Some(true) {
+    if settled(&mut scene, 1) != Some(true) || settled(&mut scene, 2) != Some(true) {
         return None;
     }
     let is_held = scene.flush() && tag_of_next(&mut scene) == Some(1);
@@ -31,5 +30,5 @@ fn held<R: Wait>(rt: &R, alloc: Global) -> Option<bool> {
 
 #[test]
 fn a_record_without_a_place_is_held(rt: HostRuntime) {
-    assert_eq!(rt; held(&rt, rt.alloc()), Some(true));
+    assert_eq!(rt; held(rt.alloc()), Some(true));
 }

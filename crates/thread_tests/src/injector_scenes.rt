@@ -6,7 +6,7 @@ use frame_log::{Frame, Log};
 use injector::{Injector, WorkerEnds, flush, serve, settle};
 use layout::Layout;
 use std::alloc::Global;
-use std::sync::{Arc, Wait};
+use std::sync::Arc;
 
 /// Domain 1 has function 03:00.0, whose page 1 is mapped to a frame of memory.
 const LAYOUT: &str = "pciefab 1
@@ -95,13 +95,13 @@ impl Scene {
     }
 
     /// Serves the next begin.
-    pub fn serve<R: Wait>(&mut self, rt: &R) -> Result<Option<Frame>, BeginFault> {
-        serve(rt, &mut self.domain, &mut self.ends.begins)
+    pub fn serve(&mut self) -> Result<Option<Frame>, BeginFault> {
+        serve(&mut self.domain, &mut self.ends.begins)
     }
 
     /// The request reaches the host. What follows from it.
-    pub fn carry<R: Wait>(&mut self, rt: &R, request: Frame) -> Option<Frame> {
-        self.domain.carry(rt, request).ok()?
+    pub fn carry(&mut self, request: Frame) -> Option<Frame> {
+        self.domain.carry(request).ok()?
     }
 
     /// Settles the completion, where no record is held.

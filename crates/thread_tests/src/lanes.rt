@@ -5,7 +5,6 @@ use fab_types::{Bdf, Class, Cost, DomainId, Head, Header, Parties};
 use frame_log::Log;
 use layout::Layout;
 use std::alloc::Global;
-use std::sync::Wait;
 use std::test::Fail;
 use switch_output::{LaneOut, VettedFrame};
 use thread_rings::{InEnd, OutEnd, Wire, are_within, deal, lay};
@@ -18,14 +17,14 @@ const WIRES: [Wire; 1] = [Wire {
     places: 1,
 }];
 
-fn packet<R: Wait>(rt: &R, bridge: &Bridge, log: &Log, number: u64) -> Option<VettedFrame> {
+fn packet(bridge: &Bridge, log: &Log, number: u64) -> Option<VettedFrame> {
     let head = Head {
         parties: Parties::Upward(Bdf::from_bits(0x0300)),
         cost: Cost::of_payload(Class::Posted, 4)?,
         header: Header::Malformed,
     };
     let domain = DomainId::new(1)?;
-    let (frame, token) = log.emit(rt, domain, number, head, &[0x40]).ok()?;
+    let (frame, token) = log.emit(domain, number, head, &[0x40]).ok()?;
     drop(token);
     VettedFrame::new(frame, bridge).ok()
 }
@@ -77,9 +76,9 @@ fn a_ring_is_a_lane_that_counts_how_often_it_was_full(rt: HostRuntime) -> Result
     let layout = Layout::read(rt.alloc(), ONE_SWITCH).map_err(|_| "no layout")?;
     let bridge = Bridge::new(rt.alloc(), &layout)?;
     let (mut out, mut input) = both_ends(rt.alloc()).ok_or("no ends")?;
-    let first = packet(&rt, &bridge, &log, 7).ok_or("no packet")?;
-    let second = packet(&rt, &bridge, &log, 8).ok_or("no packet")?;
-    let third = packet(&rt, &bridge, &log, 9).ok_or("no packet")?;
+    let first = packet(&bridge, &log, 7).ok_or("no packet")?;
+    let second = packet(&bridge, &log, 8).ok_or("no packet")?;
+    let third = packet(&bridge, &log, 9).ok_or("no packet")?;
     assert_eq!(rt; refusals(&mut out, first, second), Some(2));
     assert_eq!(rt; numbers(&mut input), Some((7, 7)));
     assert!(rt; has_one_place(&mut out, third));

@@ -77,5 +77,5 @@ pub fn submitted<R: Wait>(rt: &R, locks: &Locks, side: Side, bytes: &[u8]) -> Op
     let function = Bdf::new(side.bus, 0, 0)?;
     let lock = locks.lock_of(DomainId::new(side.number)?)?;
     let mut domain = lock.lock(rt);
-    domain.submit(rt, function, bytes).ok()
+    domain.submit(function, bytes).ok()
 }

@@ -14,21 +14,21 @@ use thread_domains::{LockedDesk, Locks};
 const ROUNDS: u32 = 20;
 
 /// A function writes in its own name, which the host takes, and in a foreign one, which the port stops. Was it so?
-fn round<R: Wait>(rt: &R, desk: &mut LockedDesk, side: Side) -> Option<bool> {
-    let own = submitted(rt, &desk.locks, side, &write(side.bus))?;
-    let foreign = submitted(rt, &desk.locks, side, &write(side.other))?;
-    let is_carried = matches!(desk.locks.carry(rt, own), Ok(None));
+fn round<R: Wait>(desk: &mut LockedDesk<'_, R>, side: Side) -> Option<bool> {
+    let own = submitted(desk.rt, desk.locks, side, &write(side.bus))?;
+    let foreign = submitted(desk.rt, desk.locks, side, &write(side.other))?;
+    let is_carried = matches!(desk.locks.carry(desk.rt, own), Ok(None));
     let port = PortId::new(Bdf::from_bits(0x0200));
-    let is_refused = matches!(desk.refuse(rt, foreign, port), Ok(None));
+    let is_refused = matches!(desk.refuse(foreign, port), Ok(None));
     Some(is_carried && is_refused)
 }
 
-/// All rounds of a thread. The desk ends with them.
-fn all_rounds<R: Wait>(rt: &R, desk: LockedDesk) -> bool {
-    let mut desk = desk;
+/// All rounds of a thread, at a desk of its own. The locks are let go after them.
+fn all_rounds<R: Wait>(rt: &R, locks: Arc<Locks, Global>) -> bool {
+    let mut desk = LockedDesk { locks: &locks, rt };
     for _ in 0..ROUNDS {
-        let first = round(rt, &mut desk, FIRST);
-        let second = round(rt, &mut desk, SECOND);
+        let first = round(&mut desk, FIRST);
+        let second = round(&mut desk, SECOND);
         if first != Some(true) || second != Some(true) {
             return false;
         }
@@ -36,18 +36,13 @@ fn all_rounds<R: Wait>(rt: &R, desk: LockedDesk) -> bool {
     true
 }
 
-fn desk_over(locks: &Arc<Locks, Global>) -> Option<LockedDesk> {
-    let locks = Arc::try_clone(locks).ok()?;
-    Some(LockedDesk { locks })
-}
-
 /// Two threads, each with a desk of its own. Did all go as it should?
 fn both<R>(rt: R, locks: &Arc<Locks, Global>) -> Option<bool>
 where
     R: Threads + Wait + Copy + Send + 'static,
 {
-    let one = desk_over(locks)?;
-    let other = desk_over(locks)?;
+    let one = Arc::try_clone(locks).ok()?;
+    let other = Arc::try_clone(locks).ok()?;
     let Ok(first) = thread::spawn(&rt, move || all_rounds(&rt, one)) else {
         return None;
     };

@@ -1,6 +1,5 @@
 //! The plan of the tests' layout, worked out by hand. Its workers are, from number 0 on, the ports 01:00.0, 04:00.0,
-//! 02:00.0, 02:01.0, 02:02.0, 05:00.0 and 05:01.0, the functions 03:00.0, 06:00.0, 07:00.0 and 08:00.0, and the root
-//! complex.
+//! 02:00.0, 02:01.0, 02:02.0, 05:00.0 and 05:01.0, the functions 03:00.0, 06:00.0, 07:00.0 and 08:00.0, and the host.
 
 use fab_types::{Bdf, PortId};
 use layout::Layout;
@@ -31,7 +30,7 @@ fn are(wires: &[Wire], count: usize, known: &[(usize, usize, usize)]) -> bool {
 }
 
 #[test]
-fn workers_are_those_of_ports_then_of_functions_and_of_the_root(
+fn workers_are_those_of_ports_then_of_functions_and_of_the_host(
     rt: HostRuntime,
 ) -> Result<(), Fail> {
     let plan = plan(&rt)?;
@@ -40,7 +39,7 @@ fn workers_are_those_of_ports_then_of_functions_and_of_the_root(
         (1, port(0x0400)),
         (2, port(0x0200)),
         (7, WorkerId::Function(Bdf::from_bits(0x0300))),
-        (11, WorkerId::Root),
+        (11, WorkerId::Host),
     ];
     for (number, id) in known {
         assert!(rt; plan.workers().get(number).copied() == Some(id));

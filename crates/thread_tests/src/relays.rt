@@ -10,7 +10,7 @@ use std::sync::atomic::AtomicBool;
 use std::sync::{Arc, Wait};
 use std::thread::Threads;
 use thread_crew::{Work, WorkerId, join_all, start};
-use thread_rings::{Ends, Told, Wire, are_within, deal, lay, undo};
+use thread_rings::{Ends, RingTally, Wire, are_within, deal, lay, undo};
 
 const WIRES: [Wire; 2] = [
     Wire {
@@ -48,7 +48,7 @@ impl Work for Relay {
     ghost kept = { λ r. tags_of r.ends };
 
     fn id(&self) -> WorkerId {
-        WorkerId::Root
+        WorkerId::Host
     }
 
     fn turn<R: Wait>(&mut self, _rt: &R) {
@@ -109,7 +109,7 @@ where
     apart(alloc, relays)
 }
 
-fn ran<R>(rt: R, alloc: Global, turns: u32) -> Option<(Vec<Told<u32>>, Vec<Count>)>
+fn ran<R>(rt: R, alloc: Global, turns: u32) -> Option<(Vec<RingTally<u32>>, Vec<Count>)>
 where
     R: Threads + Wait + Copy + Send + 'static,
 {
@@ -123,14 +123,14 @@ where
     if ends.len() != 2 {
         return None;
     }
-    let told = undo(alloc, &made, &WIRES, ends).ok()?;
-    Some((told, counts))
+    let tallies = undo(alloc, &made, &WIRES, ends).ok()?;
+    Some((tallies, counts))
 }
 
 /// Is what was left what the one had put and the other had not taken?
-fn adds_up(told: &Told<u32>, from: Count, to: Count) -> bool {
+fn adds_up(tally: &RingTally<u32>, from: Count, to: Count) -> bool {
     let mut next = to.taken;
-    for number in told.left.as_slice() {
+    for number in tally.left.as_slice() {
         if *number != next {
             return false;
         }
@@ -139,9 +139,9 @@ fn adds_up(told: &Told<u32>, from: Count, to: Count) -> bool {
     next == from.put && to.is_in_order
 }
 
-/// Ring 1 is told first. Each relay put a number at least.
-fn all_add_up(told: &[Told<u32>], counts: &[Count]) -> bool {
-    match (told, counts) {
+/// Ring 1 is tallied first. Each relay put a number at least.
+fn all_add_up(tallies: &[RingTally<u32>], counts: &[Count]) -> bool {
+    match (tallies, counts) {
         ([back, forth], [first, second]) => {
             first.put > 0
                 && second.put > 0
@@ -154,9 +154,9 @@ fn all_add_up(told: &[Told<u32>], counts: &[Count]) -> bool {
 
 #[test]
 fn no_number_is_lost_between_two_threads(rt: HostRuntime) {
-    let Some((told, counts)) = ran(rt, rt.alloc(), 20000) else {
+    let Some((tallies, counts)) = ran(rt, rt.alloc(), 20000) else {
         assert!(rt; false, "no rings");
         return;
     };
-    assert!(rt; all_add_up(&told, &counts));
+    assert!(rt; all_add_up(&tallies, &counts));
 }

@@ -5,7 +5,7 @@ ghost use Rattle.thread_rings.specs.Wired.{tags_of};
 
 use std::alloc::Global;
 use std::snapshot::Snapshot;
-use thread_rings::{Ends, Told, Wire, are_within, deal, lay, undo};
+use thread_rings::{Ends, RingTally, Wire, are_within, deal, lay, undo};
 
 /// Worker 0 puts by its ends 0 and 1 into the rings 0 and 2, and takes by its ends 0 and 1 from the rings 1 and 2.
 const WIRES: [Wire; 3] = [
@@ -83,7 +83,7 @@ fn turn_round(workers: &mut Vec<Ends<u32>>) -> bool
 }
 
 /// The rings of the table, once all this happened.
-fn told(alloc: Global) -> Option<Vec<Told<u32>>> {
+fn tallied(alloc: Global) -> Option<Vec<RingTally<u32>>> {
     if !are_within(2, &WIRES) {
         return None;
     }
@@ -96,10 +96,10 @@ fn told(alloc: Global) -> Option<Vec<Told<u32>>> {
     undo(alloc, &made, &WIRES, workers).ok()
 }
 
-fn left_in(rings: &[Told<u32>], number: usize) -> Option<&[u32]> {
-    for told in rings {
-        if told.ring == number {
-            return Some(told.left.as_slice());
+fn left_in(rings: &[RingTally<u32>], number: usize) -> Option<&[u32]> {
+    for tally in rings {
+        if tally.ring == number {
+            return Some(tally.left.as_slice());
         }
     }
     None
@@ -107,7 +107,7 @@ fn left_in(rings: &[Told<u32>], number: usize) -> Option<&[u32]> {
 
 #[test]
 fn each_ring_comes_back_with_what_was_left_in_it(rt: HostRuntime) {
-    let Some(rings) = told(rt.alloc()) else {
+    let Some(rings) = tallied(rt.alloc()) else {
         assert!(rt; false, "no rings");
         return;
     };

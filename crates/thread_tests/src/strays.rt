@@ -10,8 +10,7 @@ use fab_types::{Bdf, Class, Cost, DomainId, Head, Header, Parties};
 use frame_log::{Frame, Log};
 use link::Ingress;
 use std::alloc::Global;
-use std::sync::Wait;
-use thread_workers::{Ending, keep_stray};
+use thread_workers::{TakenBy, keep_stray};
 
 /// Credits for a packet of each class.
 fn one_packet() -> Limits
@@ -24,7 +23,7 @@ fn one_packet() -> Limits
     }
 }
 
-fn packet<R: Wait>(rt: &R, log: &Log) -> Option<Frame>
+fn packet(log: &Log) -> Option<Frame>
     ensures { IfSome result (λ frame. class_of frame ≡ Posted) }
 {
     let head = Head {
@@ -32,15 +31,15 @@ fn packet<R: Wait>(rt: &R, log: &Log) -> Option<Frame>
         cost: Cost::of_payload(Class::Posted, 4)?,
         header: Header::Malformed,
     };
-    let (frame, token) = log.emit(rt, DomainId::new(1)?, 0, head, &[0x40]).ok()?;
+    let (frame, token) = log.emit(DomainId::new(1)?, 0, head, &[0x40]).ok()?;
     drop(token);
     Some(frame)
 }
 
 /// A packet comes, is taken, and kept: did it leave nothing behind, and how many strays are there?
-fn kept<R: Wait>(rt: &R, alloc: Global) -> Option<(bool, usize)> {
+fn kept(alloc: Global) -> Option<(bool, usize)> {
     let log = Log::new(alloc).ok()?;
-    let frame = packet(rt, &log)?;
+    let frame = packet(&log)?;
     let mut input = Ingress::new(alloc, one_packet()).ok()?;
     if input.has_no_place(Class::Posted) {
         return None;
@@ -48,11 +47,11 @@ fn kept<R: Wait>(rt: &R, alloc: Global) -> Option<(bool, usize)> {
     input.arrive(frame);
     let frame = input.release(Class::Posted)?;
     let mut strays = Vec::new(alloc);
-    let is_stray = matches!(keep_stray(&mut input, &mut strays, frame), Ending::Stray);
-    Some((is_stray && input.has_none_eligible(), strays.len()))
+    let is_stray = matches!(keep_stray(&mut input, &mut strays, frame), TakenBy::Stray);
+    Some((is_stray && input.is_empty(), strays.len()))
 }
 
 #[test]
 fn a_packet_without_a_case_stands_among_the_strays(rt: HostRuntime) {
-    assert_eq!(rt; kept(&rt, rt.alloc()), Some((true, 1)));
+    assert_eq!(rt; kept(rt.alloc()), Some((true, 1)));
 }

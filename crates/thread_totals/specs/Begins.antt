@@ -7,7 +7,7 @@ use Rattle.fab_types.specs.declared.origin.Origin.TheVariants.{Host}
 use Rattle.injector.specs.declared.begin_ring.BeginRing.{BeginRing}
 use Rattle.platform.specs.Owners.{is_own_function}
 use Rattle.platform.specs.Share.{Share}
-use Rattle.thread_workers.specs.declared.root.host_work.HostWork.{HostWork}
+use Rattle.thread_workers.specs.declared.host.domain_host.DomainHost.{DomainHost}
 use Rattle.thread_staff.specs.declared.remains.Parts.{Parts}
 use Rattle.thread_staff.specs.declared.remains.Parts.TheVariants as parts
 use Rattle.thread_staff.specs.declared.remains.Remains.{Remains}
@@ -20,13 +20,13 @@ ring_count ring = record { taken = length (received ring.consumer); accepted = r
 
 -- ---- the rings of a domain
 
-abbrev pub host_ring : ℕ → HostWork → List RingCount
+abbrev pub host_ring : ℕ → DomainHost → List RingCount
 host_ring domain host = if same_origin host.outbox.origin (Host domain) then ring_count host.ends.begins ∷ [] else []
 
 abbrev pub rings_in : Share → Parts → List RingCount
 rings_in share (parts.Port left) = []
 rings_in share (parts.Function left) = if is_own_function share left.function then ring_count left.begins ∷ [] else []
-rings_in share (parts.Root left) = flat_map (host_ring share.domain) left.hosts.items
+rings_in share (parts.Host left) = flat_map (host_ring share.domain) left.hosts.items
 
 abbrev pub rings_by : Share → Remains → List RingCount
 rings_by share remains = rings_in share remains.parts

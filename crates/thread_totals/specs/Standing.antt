@@ -4,9 +4,9 @@ use Rattle.std.specs.List.{flat_map}
 use Rattle.frame_log.specs.Descriptor.{Descriptor}
 use Rattle.thread_workers.specs.Sides.{LinkSideView, landed, leaving}
 use Rattle.outboxes.specs.Outboxes.{waiting}
-use Rattle.thread_workers.specs.declared.root.host_work.HostWork.{HostWork}
+use Rattle.thread_workers.specs.declared.host.domain_host.DomainHost.{DomainHost}
 use Rattle.switch_output.specs.Vetted.{Vetted}
-use Rattle.thread_rings.specs.declared.told.Told.{Told}
+use Rattle.thread_rings.specs.declared.ring_tally.RingTally.{RingTally}
 use Rattle.thread_staff.specs.declared.remains.Parts.{Parts}
 use Rattle.thread_staff.specs.declared.remains.Parts.TheVariants as parts
 use Rattle.thread_staff.specs.declared.remains.Remains.{Remains}
@@ -15,27 +15,27 @@ use Rattle.thread_staff.specs.declared.remains.Remains.{Remains}
 abbrev pub at_side : LinkSideView → List Descriptor
 at_side side = leaving side ++ landed side
 
-abbrev pub in_outbox : HostWork → List Descriptor
+abbrev pub in_outbox : DomainHost → List Descriptor
 in_outbox host = waiting host.outbox
 
 -- what a worker had in its hands: in outboxes, in the queues of its link, an answer that its port keeps, and its strays
 abbrev pub in_parts : Parts → List Descriptor
 in_parts (parts.Port left) = at_side left.side ++ option_to_list left.port.kept ++ left.port.strays
 in_parts (parts.Function left) = waiting left.outbox ++ at_side left.side ++ left.strays.items
-in_parts (parts.Root left) = flat_map in_outbox left.hosts.items ++ at_side left.side ++ left.strays.items
+in_parts (parts.Host left) = flat_map in_outbox left.hosts.items ++ at_side left.side ++ left.strays.items
 
 abbrev pub in_hands : Remains → List Descriptor
 in_hands remains = in_parts remains.parts
 
 -- what is left in a ring of a link, and in one between two ports of a switch
-abbrev pub in_link : Told Descriptor → List Descriptor
+abbrev pub in_link : RingTally Descriptor → List Descriptor
 in_link ring = ring.left.items
 
-abbrev pub in_pair : Told Vetted → List Descriptor
+abbrev pub in_pair : RingTally Vetted → List Descriptor
 in_pair ring = map (λ packet. packet.frame) ring.left.items
 
 -- all of them
-abbrev pub frames_left : List Remains → List (Told Descriptor) → List (Told Vetted) → List Descriptor
+abbrev pub frames_left : List Remains → List (RingTally Descriptor) → List (RingTally Vetted) → List Descriptor
 frames_left remains links pairs = flat_map in_hands remains ++ flat_map in_link links ++ flat_map in_pair pairs
 
 -- ---- one packet

@@ -18,7 +18,7 @@ use fab_types::NoMemory;
 use frame_log::Frame;
 use std::alloc::Global;
 use switch_output::VettedFrame;
-use thread_rings::Told;
+use thread_rings::RingTally;
 use thread_staff::Remains;
 
 /// What counts of each domain, in their order, and whether all of it adds up.
@@ -63,8 +63,8 @@ fn count_one(
 pub fn count_all(
     alloc: Global,
     remains: &[Remains],
-    links: &[Told<Frame>],
-    pairs: &[Told<VettedFrame>],
+    links: &[RingTally<Frame>],
+    pairs: &[RingTally<VettedFrame>],
     domains: &[Domain],
 ) -> Result<Count, NoMemory>
     ensures totals { IfOk result (λ count. count.totals.items ≡ map (totals_of (frames_left remains.now links.now pairs.now) remains.now) domains.now) }

@@ -10,7 +10,7 @@ use injector::BeginRing;
 use layout::Start;
 use std::alloc::Global;
 use thread_staff::{Parts, Remains};
-use thread_workers::HostWork;
+use thread_workers::DomainHost;
 
 fn add(rings: &mut Vec<RingCount>, ring: &BeginRing) -> Result<(), NoMemory>
     ensures more { OnOk result (rings.new.items ≡ rings.old.items ++ ring_count ring.now ∷ []) }
@@ -24,7 +24,7 @@ fn add(rings: &mut Vec<RingCount>, ring: &BeginRing) -> Result<(), NoMemory>
 fn add_hosts(
     rings: &mut Vec<RingCount>,
     domain: DomainId,
-    hosts: &[HostWork],
+    hosts: &[DomainHost],
 ) -> Result<(), NoMemory>
     ensures more { OnOk result (rings.new.items ≡ rings.old.items ++ flat_map (host_ring domain) hosts.now) }
     ensures sums { AddUp rings.old.items → OnOk result (AddUp rings.new.items) }
@@ -50,7 +50,7 @@ fn add_by(rings: &mut Vec<RingCount>, start: &Start, remains: &Remains) -> Resul
             }
             Ok(())
         }
-        Parts::Root(left) => add_hosts(rings, start.domain(), &left.hosts),
+        Parts::Host(left) => add_hosts(rings, start.domain(), &left.hosts),
     }
 }
 

@@ -15,9 +15,9 @@ use frame_log::Frame;
 use outboxes::OriginBox;
 use std::alloc::Global;
 use switch_output::VettedFrame;
-use thread_rings::Told;
+use thread_rings::RingTally;
 use thread_staff::{Parts, PortRemains, Remains};
-use thread_workers::{FunctionParts, HostWork, LinkSide, RootParts};
+use thread_workers::{DomainHost, FunctionParts, HostParts, LinkSide};
 
 fn note(names: &mut Vec<PacketName>, frame: &Frame) -> Result<(), NoMemory>
     ensures { OnOk result (AreNoted names.old.items (frame.now ∷ []) names.new.items) }
@@ -129,7 +129,7 @@ fn note_function(
 fn note_hosts(
     alloc: Global,
     names: &mut Vec<PacketName>,
-    hosts: &[HostWork],
+    hosts: &[DomainHost],
 ) -> Result<(), NoMemory>
     ensures { OnOk result (AreNoted names.old.items (flat_map in_outbox hosts.now) names.new.items) }
 {
@@ -139,8 +139,8 @@ fn note_hosts(
     Ok(())
 }
 
-fn note_root(alloc: Global, names: &mut Vec<PacketName>, left: &RootParts) -> Result<(), NoMemory>
-    ensures { OnOk result (AreNoted names.old.items (in_parts (parts.Root left.now)) names.new.items) }
+fn note_host(alloc: Global, names: &mut Vec<PacketName>, left: &HostParts) -> Result<(), NoMemory>
+    ensures { OnOk result (AreNoted names.old.items (in_parts (parts.Host left.now)) names.new.items) }
 {
     note_hosts(alloc, names, &left.hosts)?;
     note_side(alloc, names, &left.side)?;
@@ -155,7 +155,7 @@ fn note_hands(alloc: Global, names: &mut Vec<PacketName>, remains: &Remains) -> 
     match &remains.parts {
         Parts::Port(left) => note_port(alloc, names, left),
         Parts::Function(left) => note_function(alloc, names, left),
-        Parts::Root(left) => note_root(alloc, names, left),
+        Parts::Host(left) => note_host(alloc, names, left),
     }
 }
 
@@ -173,7 +173,7 @@ fn note_all_hands(
 }
 
 /// What is left in the rings of links.
-fn note_links(names: &mut Vec<PacketName>, rings: &[Told<Frame>]) -> Result<(), NoMemory>
+fn note_links(names: &mut Vec<PacketName>, rings: &[RingTally<Frame>]) -> Result<(), NoMemory>
     ensures { OnOk result (AreNoted names.old.items (flat_map in_link rings.now) names.new.items) }
 {
     for ring in rings {
@@ -183,7 +183,7 @@ fn note_links(names: &mut Vec<PacketName>, rings: &[Told<Frame>]) -> Result<(), 
 }
 
 /// What is left in the rings between the ports of switches.
-fn note_pairs(names: &mut Vec<PacketName>, rings: &[Told<VettedFrame>]) -> Result<(), NoMemory>
+fn note_pairs(names: &mut Vec<PacketName>, rings: &[RingTally<VettedFrame>]) -> Result<(), NoMemory>
     ensures { OnOk result (AreNoted names.old.items (flat_map in_pair rings.now) names.new.items) }
 {
     for ring in rings {
@@ -196,8 +196,8 @@ fn note_pairs(names: &mut Vec<PacketName>, rings: &[Told<VettedFrame>]) -> Resul
 pub(crate) fn standing(
     alloc: Global,
     remains: &[Remains],
-    links: &[Told<Frame>],
-    pairs: &[Told<VettedFrame>],
+    links: &[RingTally<Frame>],
+    pairs: &[RingTally<VettedFrame>],
 ) -> Result<Vec<PacketName>, NoMemory>
     ensures { IfOk result (λ names. AreNoted [] (frames_left remains.now links.now pairs.now) names.items) }
 {

@@ -7,8 +7,8 @@ use Rattle.injector.specs.declared.begin_ring.BeginRing.{BeginRing}
 use Rattle.outboxes.specs.Outboxes.{BoxView}
 use Rattle.thread_workers.specs.Boxes.{HasRoom, with_answer, with_places}
 use Rattle.thread_workers.specs.Serving.{ServesNext}
-use Rattle.thread_workers.specs.declared.ends.serving.Serving.{Serving}
-use Rattle.thread_workers.specs.declared.ends.serving.Serving.TheVariants.{Begun, Refused, Waits, Idle}
+use Rattle.thread_workers.specs.declared.ends.serving.Begun.{Begun}
+use Rattle.thread_workers.specs.declared.ends.serving.Begun.TheVariants.{Accepted, Refused, Waits, Idle}
 
 -- where as many are accepted as before, there was none
 pub idle_of : (d d' : DomainView) (ring ring' : BeginRing) (sent : Option Descriptor) → Serves d ring d' ring' sent → ring'.accepted ≡ ring.accepted → IsIdle d ring d' ring'
@@ -21,9 +21,9 @@ accepted_of d d' ring ring' sent (inl idle) other = absurd (other idle.1.counts.
 accepted_of d d' ring ring' sent (inr accepts) other = accepts
 
 -- The outbox had got places before it was served.
-pub served_before : (locks : List ℕ) (number : ℕ) (serving : Serving) (box grown box' : BoxView) (ring ring' : BeginRing) → grown ≡ with_places grown.places box → HasRoom grown
-    → ServesNext locks number serving grown box' ring ring' → ServesNext locks number serving box box' ring ring'
-served_before locks number Begun box grown box' ring ring' places room served = record {
+pub served_before : (locks : List ℕ) (number : ℕ) (begun : Begun) (box grown box' : BoxView) (ring ring' : BeginRing) → grown ≡ with_places grown.places box → HasRoom grown
+    → ServesNext locks number begun grown box' ring ring' → ServesNext locks number begun box box' ring ring'
+served_before locks number Accepted box grown box' ring ring' places room served = record {
   before = served.before;
   after = served.after;
   home = served.home;

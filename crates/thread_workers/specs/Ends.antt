@@ -1,4 +1,4 @@
--- How a packet ends that was taken at an end of the tree, out of a link: at a function or at the root complex. What is said of
+-- How a packet ends that was taken at an end of the tree, out of a link: at a function or at the host. What is said of
 -- a domain is said of some state of it, since other threads use it too.
 use Rattle.std.specs.Prelude.{◌≡◌, ℕ, List, Option, Some, None, IsSome, ◌⊎◌}
 use Rattle.fab_types.specs.declared.place.Place.{Place}
@@ -12,8 +12,7 @@ use Rattle.outboxes.specs.Outboxes.{BoxView}
 use Rattle.injector.specs.Records.{Records}
 use Rattle.injector.specs.declared.record_ring.RecordRing.{RecordRing}
 use Rattle.thread_workers.specs.Boxes.{IsCramped, with_answer, with_places}
-use Rattle.received.specs.declared.receipt.Receipt.{Receipt}
-use Rattle.received.specs.declared.receipt.Receipt.TheVariants as receipt
+use Rattle.received.specs.declared.received.Received.{Received}
 
 -- ---- an entry of its home
 
@@ -36,27 +35,27 @@ pub record SettledThere (frame : Descriptor) (ring ring' : RecordRing) : Type 0 
   pub same : SameProducer ring.producer ring'.producer
   pub full : IsSome ring'.held → known_free ring'.producer ≡ 0
 
--- either, as its receipt says
-abbrev pub EndsOwn : Receipt → Descriptor → BoxView → BoxView → RecordRing → RecordRing → Type 0
-EndsOwn receipt.Carry frame box box' ring ring' = Carries frame box box' × (ring' ≡ ring)
-EndsOwn receipt.Deliver frame box box' ring ring' = SettledThere frame ring ring' × (box' ≡ box)
-EndsOwn receipt.Relay frame box box' ring ring' = ⊥
-EndsOwn receipt.Nobody frame box box' ring ring' = ⊥
+-- either, by what was received
+abbrev pub EndsOwn : Received → Descriptor → BoxView → BoxView → RecordRing → RecordRing → Type 0
+EndsOwn Received.Request frame box box' ring ring' = Carries frame box box' × (ring' ≡ ring)
+EndsOwn Received.Completion frame box box' ring ring' = SettledThere frame ring ring' × (box' ≡ box)
+EndsOwn Received.Relayed frame box box' ring ring' = ⊥
+EndsOwn Received.Unknown frame box box' ring ring' = ⊥
 
--- Its home has no case for it: it has none by its receipt, or such an entry was illegal there. Nothing is said of a home
+-- Its home has no case for it: what was received asks for none, or such an entry was illegal there. Nothing is said of a home
 -- without a lock.
-abbrev pub HasNoCase : List ℕ → Receipt → Descriptor → Type 0
-HasNoCase locks receipt.Carry frame = IsSome (place_of locks frame.domain) → IllegalThere frame.domain (Carry frame.number)
-HasNoCase locks receipt.Deliver frame = IsSome (place_of locks frame.domain) → IllegalThere frame.domain (Deliver frame.number)
-HasNoCase locks receipt.Relay frame = Unit
-HasNoCase locks receipt.Nobody frame = Unit
+abbrev pub HasNoCase : List ℕ → Received → Descriptor → Type 0
+HasNoCase locks Received.Request frame = IsSome (place_of locks frame.domain) → IllegalThere frame.domain (Carry frame.number)
+HasNoCase locks Received.Completion frame = IsSome (place_of locks frame.domain) → IllegalThere frame.domain (Deliver frame.number)
+HasNoCase locks Received.Relayed frame = Unit
+HasNoCase locks Received.Unknown frame = Unit
 
 -- It has to wait: memory is wanted for what follows from it, or for places in the outbox; or a record is held.
-abbrev pub HasToWait : Receipt → Descriptor → BoxView → RecordRing → Type 0
-HasToWait receipt.Carry frame box ring = WantedThere frame.domain (Carry frame.number) ⊎ IsCramped box
-HasToWait receipt.Deliver frame box ring = IsSome ring.held
-HasToWait receipt.Relay frame box ring = ⊥
-HasToWait receipt.Nobody frame box ring = ⊥
+abbrev pub HasToWait : Received → Descriptor → BoxView → RecordRing → Type 0
+HasToWait Received.Request frame box ring = WantedThere frame.domain (Carry frame.number) ⊎ IsCramped box
+HasToWait Received.Completion frame box ring = IsSome ring.held
+HasToWait Received.Relayed frame box ring = ⊥
+HasToWait Received.Unknown frame box ring = ⊥
 
 -- ---- an entry of the domain of that place, in a layout that isn't guarded
 

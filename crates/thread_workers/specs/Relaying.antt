@@ -3,7 +3,7 @@ use Rattle.std.specs.Prelude.{◌≡◌, Bool, List, [], ◌∷◌, ◌++◌, So
 use Rattle.frame_log.specs.Descriptor.{Descriptor}
 use Rattle.lane.specs.Lanes.{Class, class_of, eligible}
 use Rattle.link.specs.Channels.{count_in}
-use Rattle.received.specs.Receipts.{is_relayed}
+use Rattle.received.specs.Received.{is_relayed}
 
 -- is the eligible packet of a class one that is relayed, as is said, if there is one?
 abbrev pub AreRelayed : Bool → Class → List Descriptor → Type 0

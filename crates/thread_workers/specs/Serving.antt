@@ -11,12 +11,12 @@ use Rattle.injector.specs.declared.begin_ring.BeginRing.{BeginRing}
 use Rattle.thread_domains.specs.Locks.{place_of}
 use Rattle.outboxes.specs.Outboxes.{BoxView}
 use Rattle.thread_workers.specs.Boxes.{IsCramped, with_answer, with_places}
-use Rattle.thread_workers.specs.declared.ends.serving.Serving.{Serving}
-use Rattle.thread_workers.specs.declared.ends.serving.Serving.TheVariants.{Begun, Refused, Waits, Idle}
+use Rattle.thread_workers.specs.declared.ends.serving.Begun.{Begun}
+use Rattle.thread_workers.specs.declared.ends.serving.Begun.TheVariants.{Accepted, Refused, Waits, Idle}
 
 -- did it leave the ring, and isn't held either?
-abbrev pub has_served : Serving → Bool
-has_served Begun = true
+abbrev pub has_served : Begun → Bool
+has_served Accepted = true
 has_served Refused = true
 has_served Waits = false
 has_served Idle = false
@@ -72,8 +72,8 @@ pub record HasNoBegin (locks : List ℕ) (number : ℕ) (box box' : BoxView) (ri
   pub places : box' ≡ with_places box'.places box
 
 -- what became of it, as is said
-abbrev pub ServesNext : List ℕ → ℕ → Serving → BoxView → BoxView → BeginRing → BeginRing → Type 0
-ServesNext locks number Begun box box' ring ring' = AcceptedThere number box box' ring ring'
+abbrev pub ServesNext : List ℕ → ℕ → Begun → BoxView → BoxView → BeginRing → BeginRing → Type 0
+ServesNext locks number Accepted box box' ring ring' = AcceptedThere number box box' ring ring'
 ServesNext locks number Refused box box' ring ring' = IsRefused number box box' ring ring'
 ServesNext locks number Waits box box' ring ring' = HasToStay number box box' ring ring'
 ServesNext locks number Idle box box' ring ring' = HasNoBegin locks number box box' ring ring'

@@ -11,8 +11,8 @@ use Rattle.thread_workers.specs.Sides.{LinkSideView, landed, leaving}
 use Rattle.thread_rings.specs.Moved.{one_more, put_by, taken_by}
 use Rattle.thread_rings.specs.declared.ends.Ends.{Ends}
 
--- the sender was told limits that came out of the ring, and knows them if they can be the receiver's
-pub record Hears (sender : Ledger) (credits : Ends Counters) (sender' : Ledger) (credits' : Ends Counters) : Type 0 where
+-- the sender got limits that came out of the ring, and knows them if they can be the receiver's
+pub record ReceivesUpdateFc (sender : Ledger) (credits : Ends Counters) (sender' : Ledger) (credits' : Ends Counters) : Type 0 where
   pub limits : Counters
   pub end : 0 < vec_len credits.ins
   pub taken : taken_by credits' ≡ one_more (taken_by credits) 0 limits
@@ -58,9 +58,9 @@ pub record Lands (side : LinkSideView) (links : Ends Descriptor) (side' : LinkSi
   pub taken : taken_by links' ≡ one_more (taken_by links) 0 frame
   pub behind : landed side' ≡ landed side ++ frame ∷ []
 
--- the receiver's limits, which are not those told last, went into the ring
-pub record Tells (side : LinkSideView) (credits : Ends Counters) (side' : LinkSideView) (credits' : Ends Counters) : Type 0 where
-  pub news : side.ingress.receiver.credits_allocated ≢ side.told
+-- the receiver's limits, which are not those advertised last, went into the ring
+pub record SendsUpdateFc (side : LinkSideView) (credits : Ends Counters) (side' : LinkSideView) (credits' : Ends Counters) : Type 0 where
+  pub news : side.ingress.receiver.credits_allocated ≢ side.advertised
   pub end : 0 < vec_len credits.outs
   pub put : put_by credits' ≡ one_more (put_by credits) 0 side.ingress.receiver.credits_allocated
-  pub told : side'.told ≡ side.ingress.receiver.credits_allocated
+  pub advertised : side'.advertised ≡ side.ingress.receiver.credits_allocated

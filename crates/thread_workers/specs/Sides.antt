@@ -8,7 +8,7 @@ use Rattle.link.specs.Ends.{EgressView, IngressView}
 pub record LinkSideView : Type 0 where
   pub egress : EgressView  -- what waits to be sent, and the sender's counters
   pub ingress : IngressView  -- what has come, and the receiver's counters
-  pub told : Counters  -- the limits that the other side was told last
+  pub advertised : Counters  -- the limits that were advertised to the other side last
 
 -- the packets that wait to be sent, and those that have come, oldest first
 abbrev pub leaving : LinkSideView → List Descriptor

@@ -8,7 +8,7 @@ ghost use Rattle.link.specs.Channels.{count_in};
 ghost use Rattle.link.specs.Steps.{IsStuck};
 ghost use Rattle.thread_workers.specs.SideRings.{HasPlace, oldest};
 ghost use Rattle.thread_workers.specs.Sides.{landed, leaving};
-ghost use Rattle.thread_workers.specs.SideSteps.{Hears, Lands, SendsEach, SendsOn, Tells, TriesToSend};
+ghost use Rattle.thread_workers.specs.SideSteps.{ReceivesUpdateFc, Lands, SendsEach, SendsOn, SendsUpdateFc, TriesToSend};
 ghost use Rattle.thread_rings.specs.Moved.{put_by, taken_by};
 ghost use Rattle.thread_rings.specs.Wired.{tags_of};
 
@@ -30,7 +30,7 @@ pub struct LinkSide {
     pub egress: Egress,
     /// What has come: the lane in of who receives here.
     pub ingress: Ingress,
-    told: Limits,
+    advertised: Limits,
 }
 
 impl Model for LinkSide {
@@ -38,11 +38,11 @@ impl Model for LinkSide {
 
     ghost Value = { LinkSideView };
 
-    ghost view = { λ s. record { egress = s.egress; ingress = s.ingress; told = s.told } };
+    ghost view = { λ s. record { egress = s.egress; ingress = s.ingress; advertised = s.advertised } };
 }
 
 impl LinkSide {
-    /// Nothing waits, and nothing was sent or told. `sends` are the limits that the other side's receiver starts with,
+    /// Nothing waits, and nothing was sent or advertised. `sends` are the limits that the other side's receiver starts with,
     /// headers at most 127 and data at most 2,047, and `receives` those that this side's starts with.
     pub fn new(alloc: Global, sends: Limits, receives: Limits) -> Result<LinkSide, NoMemory>
         requires { MayStart sends }
@@ -55,22 +55,22 @@ impl LinkSide {
             queue = record { queue = record { waiting = []; gap = None }; misses = 0; refusals = 0 };
             receiver = record { credits_received = zero_counters; credits_allocated = receives };
           };
-          told = receives;
+          advertised = receives;
         }) }
     {
-        let told = receives;
+        let advertised = receives;
         Ok(LinkSide {
             egress: Egress::new(alloc, sends)?,
             ingress: Ingress::new(alloc, receives)?,
-            told,
+            advertised,
         })
     }
 
-    /// Takes the oldest limits out of the ring and tells them to the sender.
+    /// Receives an UpdateFC: takes the oldest limits out of the ring, and gives them to the sender.
     /// The sender drops those that can't be its receiver's. Where the ring has none, nothing changes, and it
     /// answers false.
-    pub fn hear(&mut self, credits: &mut Ends<Limits>) -> bool
-        ensures heard { result ≡ true → Hears self.old.egress.sender credits.old self.new.egress.sender credits.new }
+    pub fn receive_update_fc(&mut self, credits: &mut Ends<Limits>) -> bool
+        ensures received { result ≡ true → ReceivesUpdateFc self.old.egress.sender credits.old self.new.egress.sender credits.new }
         ensures none { result ≡ false → oldest credits.new ≡ None }
         ensures rests { result ≡ false → (self.new ≡ self.old) × (taken_by credits.new ≡ taken_by credits.old) }
         ensures tags { tags_of credits.new ≡ tags_of credits.old }
@@ -98,7 +98,7 @@ impl LinkSide {
         ensures rests { result ≡ false → (leaving self.new ≡ leaving self.old) × (self.new.egress.sender ≡ self.old.egress.sender) × (put_by links.new ≡ put_by links.old) }
         ensures tags { tags_of links.new ≡ tags_of links.old }
         ensures taken { taken_by links.new ≡ taken_by links.old }
-        ensures others { (self.new.ingress ≡ self.old.ingress) × (self.new.told ≡ self.old.told) }
+        ensures others { (self.new.ingress ≡ self.old.ingress) × (self.new.advertised ≡ self.old.advertised) }
     {
         let Some(out) = links.outs.get_mut(0) else {
             return false;
@@ -119,7 +119,7 @@ impl LinkSide {
         ensures tried { TriesToSend class self.old links.old self.new links.new result }
         ensures tags { tags_of links.new ≡ tags_of links.old }
         ensures taken { taken_by links.new ≡ taken_by links.old }
-        ensures others { (self.new.ingress ≡ self.old.ingress) × (self.new.told ≡ self.old.told) }
+        ensures others { (self.new.ingress ≡ self.old.ingress) × (self.new.advertised ≡ self.old.advertised) }
     {
         if self.send(class, links) { true } else { false }
     }
@@ -129,7 +129,7 @@ impl LinkSide {
         ensures sent { SendsEach self.old links.old self.new links.new result }
         ensures tags { tags_of links.new ≡ tags_of links.old }
         ensures taken { taken_by links.new ≡ taken_by links.old }
-        ensures others { (self.new.ingress ≡ self.old.ingress) × (self.new.told ≡ self.old.told) }
+        ensures others { (self.new.ingress ≡ self.old.ingress) × (self.new.advertised ≡ self.old.advertised) }
     {
         let posted = self.try_to_send(Class::Posted, links);
         let non_posted = self.try_to_send(Class::NonPosted, links);
@@ -146,7 +146,7 @@ impl LinkSide {
         ensures rests { result ≡ false → (landed self.new ≡ landed self.old) × (taken_by links.new ≡ taken_by links.old) }
         ensures tags { tags_of links.new ≡ tags_of links.old }
         ensures put { put_by links.new ≡ put_by links.old }
-        ensures others { (self.new.egress ≡ self.old.egress) × (self.new.ingress.receiver ≡ self.old.ingress.receiver) × (self.new.told ≡ self.old.told) }
+        ensures others { (self.new.egress ≡ self.old.egress) × (self.new.ingress.receiver ≡ self.old.ingress.receiver) × (self.new.advertised ≡ self.old.advertised) }
     {
         let Some(input) = links.ins.get_mut(0) else {
             return false;
@@ -161,19 +161,19 @@ impl LinkSide {
         true
     }
 
-    /// Puts the receiver's limits into the ring.
-    /// It does so if they aren't those that the other side was told last, and the ring has a place. Else
+    /// Sends an UpdateFC: puts the receiver's limits into the ring.
+    /// It does so if they aren't those that were advertised to the other side last, and the ring has a place. Else
     /// nothing changes, and it answers false.
-    pub fn tell(&mut self, credits: &mut Ends<Limits>) -> bool
-        ensures told { result ≡ true → Tells self.old credits.old self.new credits.new }
-        ensures known { result ≡ false → HasPlace credits.new → self.old.ingress.receiver.credits_allocated ≡ self.old.told }
+    pub fn send_update_fc(&mut self, credits: &mut Ends<Limits>) -> bool
+        ensures sent { result ≡ true → SendsUpdateFc self.old credits.old self.new credits.new }
+        ensures known { result ≡ false → HasPlace credits.new → self.old.ingress.receiver.credits_allocated ≡ self.old.advertised }
         ensures rests { result ≡ false → (self.new ≡ self.old) × (put_by credits.new ≡ put_by credits.old) }
         ensures tags { tags_of credits.new ≡ tags_of credits.old }
         ensures taken { taken_by credits.new ≡ taken_by credits.old }
         ensures others { (self.new.egress ≡ self.old.egress) × (self.new.ingress ≡ self.old.ingress) }
     {
         let limits = self.ingress.advert();
-        if limits == self.told {
+        if limits == self.advertised {
             return false;
         }
         let Some(out) = credits.outs.get_mut(0) else {
@@ -183,7 +183,7 @@ impl LinkSide {
             return false;
         }
         out.put_reserved(limits);
-        self.told = limits;
+        self.advertised = limits;
         true
     }
 }

@@ -2,7 +2,7 @@
 
 mod collect;
 mod forward;
-mod lose;
+mod misroute;
 mod parts;
 mod port_work;
 

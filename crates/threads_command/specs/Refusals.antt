@@ -11,7 +11,7 @@ use Rattle.fab_types.specs.Texts.{id_text}
 use Rattle.thread_staff.specs.declared.remains.Parts.{Parts}
 use Rattle.thread_staff.specs.declared.remains.Parts.TheVariants as parts
 use Rattle.thread_staff.specs.declared.remains.Remains.{Remains}
-use Rattle.thread_workers.specs.declared.root.host_work.HostWork.{HostWork}
+use Rattle.thread_workers.specs.declared.host.domain_host.DomainHost.{DomainHost}
 
 -- IDs, by rising number, each with a count
 abbrev pub Counts : Type 0
@@ -29,14 +29,14 @@ all_added counts more = fold with_more counts more
 
 -- ---- of workers
 
-abbrev pub host_refusals : List HostWork → Counts
+abbrev pub host_refusals : List DomainHost → Counts
 host_refusals hosts = map (λ host. (origin_id host.outbox.origin, host.ends.begins.refused)) hosts
 
 -- how many begins a worker had refused: its function's, or those of each domain's host
 abbrev pub refused_in : Parts → Counts
 refused_in (parts.Port left) = []
 refused_in (parts.Function left) = (left.function, left.begins.refused) ∷ []
-refused_in (parts.Root left) = host_refusals left.hosts.items
+refused_in (parts.Host left) = host_refusals left.hosts.items
 
 abbrev pub refused_by : Remains → Counts
 refused_by remains = refused_in remains.parts

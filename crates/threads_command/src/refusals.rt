@@ -12,7 +12,7 @@ use std::collections::BTreeMap;
 use std::io;
 use std::io::Write;
 use std::marker::Model;
-use thread_workers::HostWork;
+use thread_workers::DomainHost;
 
 /// By the ID of a function or of a domain's host, how many of its begins were refused. A contract sees the list of both, by
 /// rising ID.
@@ -60,8 +60,8 @@ impl Refusals {
         }
     }
 
-    /// Those that the root complex's worker has of these hosts.
-    fn add_hosts(&mut self, hosts: &[HostWork]) -> Result<(), NoMemory>
+    /// Those that the host's worker has of these domains.
+    fn add_hosts(&mut self, hosts: &[DomainHost]) -> Result<(), NoMemory>
         ensures { OnOk result (self.new ≡ all_added self.old (host_refusals hosts.now)) }
     {
         for host in hosts {
@@ -77,7 +77,7 @@ impl Refusals {
         match &remains.parts {
             Parts::Port(_) => Ok(()),
             Parts::Function(function) => self.add(function.function, function.begins.refused()),
-            Parts::Root(root) => self.add_hosts(&root.hosts),
+            Parts::Host(host) => self.add_hosts(&host.hosts),
         }
     }
 

@@ -1,5 +1,5 @@
--- The nodes of a tree are the root complex, its switches and its functions, in this order, the last two as the layout
--- lists them (PCIe 4.0, 1.3). Out of a node lead links, each from an output: the root complex and a function have output 0
+-- The nodes of a tree are the host, its switches and its functions, in this order, the last two as the layout
+-- lists them (PCIe 4.0, 1.3). Out of a node lead links, each from an output: the host and a function have output 0
 -- alone; of a switch output 0 leads up, and the outputs from 1 on lead out of its downstream ports.
 use Rattle.std.specs.Prelude.{ℕ, suc, ◌+◌, ◌==◌, List, ◌∷◌, ◌++◌, length, count_by, map, Option, Some, None}
 use Rattle.std.specs.List.{filter, position}

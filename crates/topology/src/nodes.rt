@@ -10,8 +10,8 @@ use layout::Layout;
 use platform::{DownstreamPort, EndpointFunction, Switch, internal_bus, is_on_bus};
 
 /// Where packets are sent from in one direction of a link.
-/// It is a node of the tree, and one of its outputs. The nodes are the root complex, the switches and the
-/// functions, in this order. The root complex and a function have output 0 alone; out of a switch output 0
+/// It is a node of the tree, and one of its outputs. The nodes are the host, the switches and the
+/// functions, in this order. The host and a function have output 0 alone; out of a switch output 0
 /// leads up, and the outputs from 1 on lead down.
 #[derive(Clone, Copy, Debug, PartialEq, Eq)]
 pub struct LinkEnd {

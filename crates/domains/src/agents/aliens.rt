@@ -14,7 +14,6 @@ use frame_log::{Frame, FrameFault};
 use layout::Start;
 use outboxes::Outboxes;
 use received::OwnsFrames;
-use std::sync::Wait;
 
 /// How many packets an alien one may lead to: its answer or what goes on in its place, and the answer to that.
 const PACKETS: usize = 2;
@@ -35,8 +34,7 @@ fn make_places(outboxes: &mut Outboxes, start: &Start) -> Result<(), NoMemory>
 
 /// The domain of this number gets the entry of a packet that was taken at this place. Its outboxes have places for what
 /// that leads to.
-fn enter<R: Wait>(
-    rt: &R,
+fn enter(
     domains: &mut Domains,
     outboxes: &mut Outboxes,
     number: DomainId,
@@ -60,7 +58,7 @@ fn enter<R: Wait>(
     if make_places(outboxes, domain.start()).is_err() {
         return Err(FrameFault::NoMemory(frame));
     }
-    domains.alien(rt, number, place, frame)
+    domains.alien(number, place, frame)
 }
 
 impl Agents {
@@ -69,9 +67,8 @@ impl Agents {
     /// answers it waits in the outbox of that domain's host. The packet's own frame ends here, while its number
     /// stays in flight at its home. It is `Stray` where there is no such entry. Memory may be refused to any
     /// such entry.
-    pub fn alien_at_host<R: Wait>(
+    pub fn alien_at_host(
         &mut self,
-        rt: &R,
         number: DomainId,
         place: Place,
         frame: Frame,
@@ -82,14 +79,7 @@ impl Agents {
         ensures err { OnErr result (self.new ≡ self.old) }
     {
         let host = Origin::Host(number);
-        let sent = enter(
-            rt,
-            &mut self.domains,
-            &mut self.outboxes,
-            number,
-            place,
-            frame,
-        )?;
+        let sent = enter(&mut self.domains, &mut self.outboxes, number, place, frame)?;
         if let Some(answer) = sent {
             self.outboxes.put(host, answer);
         }
@@ -98,9 +88,8 @@ impl Agents {
 
     /// A function took a packet that its home has no case for.
     /// The function's domain gets the entry, and what answers it waits in the function's outbox.
-    pub fn alien_at_function<R: Wait>(
+    pub fn alien_at_function(
         &mut self,
-        rt: &R,
         function: Bdf,
         place: Place,
         frame: Frame,
@@ -114,14 +103,7 @@ impl Agents {
             return Err(FrameFault::Stray(frame));
         };
         let owner = home.start().domain();
-        let sent = enter(
-            rt,
-            &mut self.domains,
-            &mut self.outboxes,
-            owner,
-            place,
-            frame,
-        )?;
+        let sent = enter(&mut self.domains, &mut self.outboxes, owner, place, frame)?;
         if let Some(answer) = sent {
             self.outboxes.put(Origin::Function(function), answer);
         }
@@ -130,26 +112,14 @@ impl Agents {
 
     /// A port took a packet that it has no case for.
     /// The packet's home gets the entry. What answers it is the result, and leaves by the port.
-    pub fn alien_at_port<R: Wait>(
-        &mut self,
-        rt: &R,
-        place: Place,
-        frame: Frame,
-    ) -> Result<Option<Frame>, FrameFault>
+    pub fn alien_at_port(&mut self, place: Place, frame: Frame) -> Result<Option<Frame>, FrameFault>
         ensures ok { IfOk result (λ sent. (aliened self.old.domains frame.domain place frame ≡ Some (record { domains = self.new.domains; sent = sent })) × (self.new.outboxes ≡ self.old.outboxes)) }
         ensures fault { IfErr result (λ fault. IsUntaken (aliened self.old.domains frame.domain place frame) frame fault) }
         ensures stray { aliened self.old.domains frame.domain place frame ≡ None → result ≡ Err (FrameFault.Stray frame) }
         ensures err { OnErr result (self.new ≡ self.old) }
     {
         let home = frame.domain();
-        enter(
-            rt,
-            &mut self.domains,
-            &mut self.outboxes,
-            home,
-            place,
-            frame,
-        )
+        enter(&mut self.domains, &mut self.outboxes, home, place, frame)
     }
 
     /// Has the home of a packet an entry for it as an alien?

@@ -4,7 +4,6 @@ use crate::agents::Agents;
 use fab_types::PortId;
 use frame_log::{Frame, FrameFault};
 use lane::Desk;
-use std::sync::Wait;
 
 impl Desk for Agents {
     ghost use Rattle.std.specs.Prelude.{◌≡◌, None, Some};
@@ -23,12 +22,7 @@ impl Desk for Agents {
 
     ghost wants = { λ known frame port. Emits (made known.domains frame.domain (Refuse frame.number)) };
 
-    fn refuse<W: Wait>(
-        &mut self,
-        rt: &W,
-        frame: Frame,
-        port: PortId,
-    ) -> Result<Option<Frame>, FrameFault> {
-        self.domains.refuse(rt, frame, port)
+    fn refuse(&mut self, frame: Frame, port: PortId) -> Result<Option<Frame>, FrameFault> {
+        self.domains.refuse(frame, port)
     }
 }

@@ -18,8 +18,8 @@ use Rattle.fabric_core.specs.World.{World, is_guarded}
 use Rattle.fabric_core.proofs.soundness.Orderly.{run_controls}
 use Rattle.fabric_core.proofs.apart.Refusing.{accepted_alone, refused_alone}
 use Rattle.fabric_core.proofs.runs.Running.{take_all}
-use Rattle.fabric_core.proofs.apart.SparedEnds.{spares_arrive, spares_pass, spares_root}
-use Rattle.fabric_core.proofs.apart.SparedMoves.{spares_begin, spares_enter, spares_receive, spares_send, spares_tell}
+use Rattle.fabric_core.proofs.apart.SparedEnds.{spares_arrive, spares_pass, spares_at_host}
+use Rattle.fabric_core.proofs.apart.SparedMoves.{spares_begin, spares_enter, spares_receive, spares_send, spares_update_fc}
 use Rattle.fabric_core.proofs.apart.Sparing.{Spares, enters_none}
 
 pub spares_others : (w w' : World) (event : Event) → IsGuardedFabric w → effect w event ≡ Some w' → Spares w (home w event) w'
@@ -30,8 +30,8 @@ spares_others w w' (Enter origin class) g is = spares_enter w w' origin class is
 spares_others w w' (Pass port class) g is = spares_pass w w' g port class is
 spares_others w w' (Send direction class) g is = spares_send w w' direction class is
 spares_others w w' (Take direction) g is = spares_receive w w' direction is
-spares_others w w' (Credit direction) g is = spares_tell w w' direction is
-spares_others w w' (Root class) g is = spares_root w w' g class is
+spares_others w w' (Credit direction) g is = spares_update_fc w w' direction is
+spares_others w w' (Root class) g is = spares_at_host w w' g class is
 spares_others w w' (Arrive function class) g is = spares_arrive w w' g function class is
 
 apart_by : (w w' : World) (event : Event) → IsGuardedFabric w → Spares w (home w event) w' → IsApart w event w'

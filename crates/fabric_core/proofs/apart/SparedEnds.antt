@@ -20,12 +20,11 @@ use Rattle.topology.specs.Links.{sender_of}
 use Rattle.topology.specs.declared.nodes.LinkEnd.{LinkEnd}
 use Rattle.interconnect.specs.Moves.{channel_at, put_at}
 use Rattle.interconnect.specs.Passes.{index_of, no_place}
-use Rattle.fabric_core.specs.Receipts.{Taken, arrive, arrived, arrived_by, ended, receipt_at, agents_by_host, from_host, own_by_function, own_by_host, relayed, root, rooted, rooted_by, taken, taken_at, taken_from, to_function, to_host}
-use Rattle.received.specs.declared.receipt.Receipt.{Receipt}
-use Rattle.received.specs.declared.receipt.Receipt.TheVariants.{Carry, Deliver, Nobody, Relay}
-use Rattle.received.specs.Receipts.{receipt_at_host}
+use Rattle.fabric_core.specs.Arrivals.{Taken, arrive, arrived, arrived_by, ended, received_at, agents_by_host, from_host, own_by_function, own_by_host, relayed, arrive_at_host, arrived_at_host, arrived_at_host_by, taken, taken_at, taken_from, to_function, to_host}
+use Rattle.received.specs.declared.received.Received.{Received}
+use Rattle.received.specs.Received.{received_at_host}
 use Rattle.fabric_core.specs.Isolation.{home_of_taken, home_passed, is_number}
-use Rattle.fabric_core.specs.Losing.{pass}
+use Rattle.fabric_core.specs.Misrouting.{pass}
 use Rattle.switch_output.specs.Vetted.{may_go_on}
 use Rattle.fabric_core.specs.Passing.{Site, answer_waits, answered_at, is_full_at, output_end, passed, passed_by, passed_number, refused_by, site_at, strayed}
 use Rattle.fabric_core.specs.Soundness.{IsGuardedFabric}
@@ -81,21 +80,21 @@ delivered_spares : (agents : AgentsView) (frame : Descriptor) (o : Option Made) 
 delivered_spares agents frame None e new is = absurd cc
 delivered_spares agents frame (Some m) e new is = subst (AgentsSpares agents (Some frame.domain)) (same_Some (record { domains = m.domains; outboxes = agents.outboxes }) new is) (silent_spares agents frame (entry.Deliver frame.number) m e)
 
-host_spares : (agents : AgentsView) (frame : Descriptor) (receipt : Receipt) → HomeSpares agents frame (own_by_host agents frame receipt)
-host_spares agents frame Relay new is = absurd cc
-host_spares agents frame Carry new is = emitted_if_spares agents frame (entry.Carry frame.number) (origin.Host frame.domain) (made agents.domains frame.domain (entry.Carry frame.number)) refl new is
-host_spares agents frame Deliver new is = delivered_spares agents frame (made agents.domains frame.domain (entry.Deliver frame.number)) refl new is
-host_spares agents frame Nobody new is = absurd cc
+host_spares : (agents : AgentsView) (frame : Descriptor) (received : Received) → HomeSpares agents frame (own_by_host agents frame received)
+host_spares agents frame Received.Relayed new is = absurd cc
+host_spares agents frame Received.Request new is = emitted_if_spares agents frame (entry.Carry frame.number) (origin.Host frame.domain) (made agents.domains frame.domain (entry.Carry frame.number)) refl new is
+host_spares agents frame Received.Completion new is = delivered_spares agents frame (made agents.domains frame.domain (entry.Deliver frame.number)) refl new is
+host_spares agents frame Received.Unknown new is = absurd cc
 
 carried_spares : (agents : AgentsView) (function : ℕ) (frame : Descriptor) (b : Bool) → HomeSpares agents frame (emitted_if agents (origin.Function function) (cond b (made agents.domains frame.domain (entry.Carry frame.number)) None))
 carried_spares agents function frame true new is = emitted_if_spares agents frame (entry.Carry frame.number) (origin.Function function) (made agents.domains frame.domain (entry.Carry frame.number)) refl new is
 carried_spares agents function frame false new is = absurd cc
 
-function_spares : (agents : AgentsView) (function : ℕ) (frame : Descriptor) (receipt : Receipt) → HomeSpares agents frame (own_by_function agents function frame receipt)
-function_spares agents function frame Relay new is = absurd cc
-function_spares agents function frame Carry new is = carried_spares agents function frame (is_function_of agents.domains function frame.domain) new is
-function_spares agents function frame Deliver new is = delivered_spares agents frame (made agents.domains frame.domain (entry.Deliver frame.number)) refl new is
-function_spares agents function frame Nobody new is = absurd cc
+function_spares : (agents : AgentsView) (function : ℕ) (frame : Descriptor) (received : Received) → HomeSpares agents frame (own_by_function agents function frame received)
+function_spares agents function frame Received.Relayed new is = absurd cc
+function_spares agents function frame Received.Request new is = carried_spares agents function frame (is_function_of agents.domains function frame.domain) new is
+function_spares agents function frame Received.Completion new is = delivered_spares agents frame (made agents.domains frame.domain (entry.Deliver frame.number)) refl new is
+function_spares agents function frame Received.Unknown new is = absurd cc
 
 -- ---- at the host and at functions
 
@@ -115,33 +114,33 @@ relayed_spares w w' class t None links is = absurd cc
 relayed_spares w w' class t (Some end) links is = forwarded_spares w w' t end (is_full class (channel_at w.channels end)) links is
 
 module _ (w w' : World) (g : IsGuardedFabric w) (t : Taken) (links : LinksSpare w.channels (Some t.frame.domain) t.channels) where
-  at_host : (receipt : Receipt) → Some (ended w t (agents_by_host w.routes.ports w.agents t.frame receipt)) ≡ Some w' → Spares w (Some t.frame.domain) w'
-  at_host receipt is =
-      subst (Spares w (Some t.frame.domain)) (ap (ended w t) (sym (home_at_host w g t.frame receipt)) ∙ same_Some (ended w t (agents_by_host w.routes.ports w.agents t.frame receipt)) w' is)
-      (ended_spares w t (own_by_host w.agents t.frame receipt) links (host_spares w.agents t.frame receipt))
+  at_host : (received : Received) → Some (ended w t (agents_by_host w.routes.ports w.agents t.frame received)) ≡ Some w' → Spares w (Some t.frame.domain) w'
+  at_host received is =
+      subst (Spares w (Some t.frame.domain)) (ap (ended w t) (sym (home_at_host w g t.frame received)) ∙ same_Some (ended w t (agents_by_host w.routes.ports w.agents t.frame received)) w' is)
+      (ended_spares w t (own_by_host w.agents t.frame received) links (host_spares w.agents t.frame received))
 
-  rooted_spares : (class : Class) (receipt : Receipt) → rooted_by w class t receipt ≡ Some w' → Spares w (Some t.frame.domain) w'
-  rooted_spares class Relay is = relayed_spares w w' class t (sender_of w.tree.links from_host) links is
-  rooted_spares class Carry is = at_host Carry is
-  rooted_spares class Deliver is = at_host Deliver is
-  rooted_spares class Nobody is = at_host Nobody is
+  at_host_spares : (class : Class) (received : Received) → arrived_at_host_by w class t received ≡ Some w' → Spares w (Some t.frame.domain) w'
+  at_host_spares class Received.Relayed is = relayed_spares w w' class t (sender_of w.tree.links from_host) links is
+  at_host_spares class Received.Request is = at_host Received.Request is
+  at_host_spares class Received.Completion is = at_host Received.Completion is
+  at_host_spares class Received.Unknown is = at_host Received.Unknown is
 
-  arrived_spares : (function : ℕ) (receipt : Receipt) → Some (arrived_by w function t receipt) ≡ Some w' → Spares w (Some t.frame.domain) w'
-  arrived_spares function receipt is =
-      subst (Spares w (Some t.frame.domain)) (ap (ended w t) (sym (home_at_function w g function t.frame receipt)) ∙ same_Some (arrived_by w function t receipt) w' is)
-      (ended_spares w t (own_by_function w.agents function t.frame receipt) links (function_spares w.agents function t.frame receipt))
+  arrived_spares : (function : ℕ) (received : Received) → Some (arrived_by w function t received) ≡ Some w' → Spares w (Some t.frame.domain) w'
+  arrived_spares function received is =
+      subst (Spares w (Some t.frame.domain)) (ap (ended w t) (sym (home_at_function w g function t.frame received)) ∙ same_Some (arrived_by w function t received) w' is)
+      (ended_spares w t (own_by_function w.agents function t.frame received) links (function_spares w.agents function t.frame received))
 
-root_if : (w w' : World) (g : IsGuardedFabric w) (class : Class) (o : Option Taken) → ((t : Taken) → o ≡ Some t → LinksSpare w.channels (Some t.frame.domain) t.channels) → rooted w class o ≡ Some w' → Spares w (home_of_taken o) w'
-root_if w w' g class None links is = absurd cc
-root_if w w' g class (Some t) links is = rooted_spares w w' g t (links t refl) class (receipt_at_host t.frame) is
+at_host_if : (w w' : World) (g : IsGuardedFabric w) (class : Class) (o : Option Taken) → ((t : Taken) → o ≡ Some t → LinksSpare w.channels (Some t.frame.domain) t.channels) → arrived_at_host w class o ≡ Some w' → Spares w (home_of_taken o) w'
+at_host_if w w' g class None links is = absurd cc
+at_host_if w w' g class (Some t) links is = at_host_spares w w' g t (links t refl) class (received_at_host t.frame) is
 
-pub spares_root : (w w' : World) (g : IsGuardedFabric w) (class : Class) → root w class ≡ Some w' → Spares w (home_of_taken (taken w to_host class)) w'
-spares_root w w' g class is = root_if w w' g class (taken w to_host class) (taken_spares w.channels class (sender_of w.tree.links to_host)) is
+pub spares_at_host : (w w' : World) (g : IsGuardedFabric w) (class : Class) → arrive_at_host w class ≡ Some w' → Spares w (home_of_taken (taken w to_host class)) w'
+spares_at_host w w' g class is = at_host_if w w' g class (taken w to_host class) (taken_spares w.channels class (sender_of w.tree.links to_host)) is
 
 arrive_if : (w w' : World) (g : IsGuardedFabric w) (function : ℕ) (o : Option Taken) (b : Bool) → ((t : Taken) → o ≡ Some t → LinksSpare w.channels (Some t.frame.domain) t.channels) → cond b (arrived w function o) None ≡ Some w' → Spares w (home_of_taken o) w'
 arrive_if w w' g function o false links is = absurd cc
 arrive_if w w' g function None true links is = absurd cc
-arrive_if w w' g function (Some t) true links is = arrived_spares w w' g t (links t refl) function (receipt_at w function t.frame) is
+arrive_if w w' g function (Some t) true links is = arrived_spares w w' g t (links t refl) function (received_at w function t.frame) is
 
 pub spares_arrive : (w w' : World) (g : IsGuardedFabric w) (function : ℕ) (class : Class) → arrive w function class ≡ Some w' → Spares w (home_of_taken (taken w (to_function function) class)) w'
 spares_arrive w w' g function class is =

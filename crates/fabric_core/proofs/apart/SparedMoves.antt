@@ -71,9 +71,9 @@ received_spares c c' (frame ∷ frames) e is =
     subst (LinkSpares c (Some frame.domain)) (same_Some received c' is)
     (λ d other. same_on_link (own d c.egress) (own d c.egress) (own d c.wire) (own d frames) (own d c.ingress) (own d (c.ingress ++ frame ∷ [])) refl (sym (own_oldest d frame frames other) ∙ sym (ap (own d) e)) (own_put d c.ingress frame other))
 
-told_spares : (c c' : Channel) (most : Counters) (b : Bool) → cond b None (Some (record { start = c.start; left = most; egress = c.egress; wire = c.wire; ingress = c.ingress })) ≡ Some c' → LinkSpares c None c'
-told_spares c c' most true is = absurd cc
-told_spares c c' most false is =
+updated_spares : (c c' : Channel) (most : Counters) (b : Bool) → cond b None (Some (record { start = c.start; left = most; egress = c.egress; wire = c.wire; ingress = c.ingress })) ≡ Some c' → LinkSpares c None c'
+updated_spares c c' most true is = absurd cc
+updated_spares c c' most false is =
     subst (LinkSpares c None) (same_Some (record { start = c.start; left = most; egress = c.egress; wire = c.wire; ingress = c.ingress }) c' is) (λ d other. refl)
 
 stepped : (w w' : World) (home : Option ℕ) (end : LinkEnd) (o : Option Channel) → ((c' : Channel) → o ≡ Some c' → LinkSpares (channel_at w.channels end) home c') → option_map (with_channels w) (option_map (with_channel w.channels end) o) ≡ Some w' → Spares w home w'
@@ -101,10 +101,10 @@ spares_receive w w' direction is =
     on_link w w' (sender_of w.tree.links direction) deliver (option_and_then (home_travelling w))
     (λ end c' e. let c = channel_at w.channels end in received_spares c c' c.wire refl e) is
 
-pub spares_tell : (w w' : World) (direction : Direction) → option_map (with_channels w) (on_channel w.channels (sender_of w.tree.links direction) update_fc) ≡ Some w' → Spares w None w'
-spares_tell w w' direction is =
+pub spares_update_fc : (w w' : World) (direction : Direction) → option_map (with_channels w) (on_channel w.channels (sender_of w.tree.links direction) update_fc) ≡ Some w' → Spares w None w'
+spares_update_fc w w' direction is =
     on_link w w' (sender_of w.tree.links direction) update_fc (λ _. None)
-    (λ end c' e. let c = channel_at w.channels end in let most = unspent c.start (c.wire ++ c.ingress) in told_spares c c' most (same_counters c.left most) e) is
+    (λ end c' e. let c = channel_at w.channels end in let most = unspent c.start (c.wire ++ c.ingress) in updated_spares c c' most (same_counters c.left most) e) is
 
 -- ---- onto a link
 

@@ -16,7 +16,7 @@ use Rattle.link.specs.Simplexes.{SimplexView, channel}
 use Rattle.topology.specs.Nodes.{ports_on}
 use Rattle.interconnect.proofs.Starting.{few, few_may_start}
 use Rattle.interconnect.specs.Moves.{no_channel}
-use Rattle.interconnect.specs.Starts.{first_credits, function_outputs, nodes_of, root_outputs, start_of, switch_outputs, unused_below}
+use Rattle.interconnect.specs.Starts.{first_credits, function_outputs, nodes_of, host_outputs, start_of, switch_outputs, unused_below}
 use Rattle.interconnect.specs.Views.{InterconnectView, channels, channels_of, unused}
 use Rattle.fabric_core.specs.Credits.{AreBounded}
 use Rattle.fabric_core.proofs.bounded.Steps.{bounded_by}
@@ -87,7 +87,7 @@ pub bounded_at_start : (platform : Platform) → IsPlatform platform → AreBoun
 bounded_at_start platform laws =
     let below : (lower : ℕ) → IsBounded (channel (unused_below platform lower)) = λ lower. unused_bounded (first_credits (credits_of platform lower)) (credits_may platform lower (credits_of platform lower) laws.limits.credits refl) in
     bounded_lanes (nodes_of platform)
-    (lanes_cons (root_outputs platform) _ (lane_cons (unused_below platform (id_of 1 0 0)) [] (below (id_of 1 0 0)) no_lane)
+    (lanes_cons (host_outputs platform) _ (lane_cons (unused_below platform (id_of 1 0 0)) [] (below (id_of 1 0 0)) no_lane)
     (lanes_before (switch_outputs platform) platform.switches _
     (λ switch. lane_cons (unused_below platform switch.id) _ (below switch.id) (lane_map (λ (port : DownstreamPort). unused_below platform (id_below port)) (ports_on platform.ports (internal_bus switch)) (λ port. below (id_below port))))
     (lanes_map (function_outputs platform) platform.functions (λ function. lane_cons (unused_below platform function.id) [] (below function.id) no_lane))))

@@ -19,8 +19,8 @@ use Rattle.port.specs.declared.course.Forwarding.TheVariants.{To, Stop, NoCase}
 use Rattle.topology.specs.Links.{sender_of}
 use Rattle.topology.specs.declared.nodes.LinkEnd.{LinkEnd}
 use Rattle.topology.specs.declared.places.PortPlace.{PortPlace}
-use Rattle.interconnect.specs.declared.lost.Lost.{Lost}
-use Rattle.interconnect.specs.Lost.{lost_among}
+use Rattle.interconnect.specs.declared.misrouted.Misrouted.{Misrouted}
+use Rattle.interconnect.specs.Misrouted.{misrouted_among}
 use Rattle.interconnect.specs.Moves.{channel_at, on_channel, put_at}
 use Rattle.interconnect.specs.Passes.{index_of, no_place}
 use Rattle.switch_output.specs.Vetted.{may_go_on}
@@ -28,12 +28,11 @@ use Rattle.fabric_core.specs.declared.event.Event.{Event}
 use Rattle.fabric_core.specs.declared.event.Event.TheVariants.{Arrive, Credit, Enter, Mmio, Pass, Root, Send, Submit, Take, Tick}
 use Rattle.fabric_core.specs.Credits.{AreBounded, HaveCredits}
 use Rattle.fabric_core.specs.Events.{effect, entered_at, link_of}
-use Rattle.fabric_core.specs.Losing.{Losing, is_at_port_of, losing, losing_by, losing_to, losing_with, lost, passed_unless, without_lost}
+use Rattle.fabric_core.specs.Misrouting.{Misrouting, is_at_port_of, misrouting, misrouting_by, misrouting_to, misrouting_with, misrouted, passed_unless, without_misrouted}
 use Rattle.fabric_core.specs.Passing.{Site, answer_waits, answered_at, is_full_at, output_end, passed, passed_by, passed_number, refused_by, site_at, strayed}
-use Rattle.fabric_core.specs.Receipts.{Taken, agents_by_host, arrived, arrived_by, ended, from_host, receipt_at, relayed, rooted, rooted_by, taken, taken_at, to_function, to_host}
-use Rattle.received.specs.declared.receipt.Receipt.{Receipt}
-use Rattle.received.specs.declared.receipt.Receipt.TheVariants.{Carry, Deliver, Nobody, Relay}
-use Rattle.received.specs.Receipts.{receipt_at_host}
+use Rattle.fabric_core.specs.Arrivals.{Taken, agents_by_host, arrived, arrived_by, ended, from_host, received_at, relayed, arrived_at_host, arrived_at_host_by, taken, taken_at, to_function, to_host}
+use Rattle.received.specs.declared.received.Received.{Received}
+use Rattle.received.specs.Received.{received_at_host}
 use Rattle.fabric_core.specs.World.{World, with_agents, with_both, with_channels}
 use Rattle.fabric_core.proofs.bounded.Directions.{on_channel_bounded, put_bounded, some_is, taken_bounded}
 use Rattle.fabric_core.proofs.bounded.Steps.{deliver_bounded, send_bounded, update_bounded}
@@ -84,23 +83,23 @@ ended_bounded : (w : World) (t : Taken) (o : Option AgentsView) → AreBounded t
 ended_bounded w t None all = all
 ended_bounded w t (Some agents) all = all
 
-received : (w w' : World) (class : Class) (t : Taken) (receipt : Receipt) → AreBounded t.channels → rooted_by w class t receipt ≡ Some w' → Holds w'
-received w w' class t Relay all is = relayed_to w w' t class (sender_of w.tree.links from_host) all is
-received w w' class t Carry all is =
-    let agents = agents_by_host w.routes.ports w.agents t.frame Carry in subst Holds (some_is (ended w t agents) w' is) (ended_bounded w t agents all)
-received w w' class t Deliver all is =
-    let agents = agents_by_host w.routes.ports w.agents t.frame Deliver in subst Holds (some_is (ended w t agents) w' is) (ended_bounded w t agents all)
-received w w' class t Nobody all is =
-    let agents = agents_by_host w.routes.ports w.agents t.frame Nobody in subst Holds (some_is (ended w t agents) w' is) (ended_bounded w t agents all)
+at_host_by : (w w' : World) (class : Class) (t : Taken) (received : Received) → AreBounded t.channels → arrived_at_host_by w class t received ≡ Some w' → Holds w'
+at_host_by w w' class t Received.Relayed all is = relayed_to w w' t class (sender_of w.tree.links from_host) all is
+at_host_by w w' class t Received.Request all is =
+    let agents = agents_by_host w.routes.ports w.agents t.frame Received.Request in subst Holds (some_is (ended w t agents) w' is) (ended_bounded w t agents all)
+at_host_by w w' class t Received.Completion all is =
+    let agents = agents_by_host w.routes.ports w.agents t.frame Received.Completion in subst Holds (some_is (ended w t agents) w' is) (ended_bounded w t agents all)
+at_host_by w w' class t Received.Unknown all is =
+    let agents = agents_by_host w.routes.ports w.agents t.frame Received.Unknown in subst Holds (some_is (ended w t agents) w' is) (ended_bounded w t agents all)
 
-rooted_if : (w w' : World) (class : Class) (o : Option Taken) → ((t : Taken) → o ≡ Some t → AreBounded t.channels) → rooted w class o ≡ Some w' → Holds w'
-rooted_if w w' class None all is = absurd cc
-rooted_if w w' class (Some t) all is = received w w' class t (receipt_at_host t.frame) (all t refl) is
+at_host_if : (w w' : World) (class : Class) (o : Option Taken) → ((t : Taken) → o ≡ Some t → AreBounded t.channels) → arrived_at_host w class o ≡ Some w' → Holds w'
+at_host_if w w' class None all is = absurd cc
+at_host_if w w' class (Some t) all is = at_host_by w w' class t (received_at_host t.frame) (all t refl) is
 
 arrived_if : (w w' : World) (function : ℕ) (o : Option Taken) → ((t : Taken) → o ≡ Some t → AreBounded t.channels) → arrived w function o ≡ Some w' → Holds w'
 arrived_if w w' function None all is = absurd cc
 arrived_if w w' function (Some t) all is =
-    let after = arrived_by w function t (receipt_at w function t.frame) in
+    let after = arrived_by w function t (received_at w function t.frame) in
     subst Holds (some_is after w' is) (ended_bounded w t _ (all t refl))
 
 arrived_at : (w w' : World) (function : ℕ) (class : Class) (known : Bool) → Holds w → cond known (arrived w function (taken w (to_function function) class)) None ≡ Some w' → Holds w'
@@ -143,32 +142,32 @@ turned_if w w' class (Some i) all is =
     let place : PortPlace = slice_index_or w.tree.places i no_place in
     passed_if w w' (site_at w i place) class (taken_at w.channels class place.input) (λ t e. taken_bounded w.channels class place.input t all e) is
 
--- what a port loses was taken
+-- what a port misroutes was taken
 
-lost_with : (l : Losing) (lost : Lost) (t : Taken) (o : Option Made) → AreBounded t.channels → losing_with lost t o ≡ Some l → AreBounded l.taken.channels
-lost_with l lost t None all is = absurd cc
-lost_with l lost t (Some m) all is = subst (λ (x : Losing). AreBounded x.taken.channels) (some_is (record { lost = lost; taken = t; made = m }) l is) all
+misrouted_with : (l : Misrouting) (misrouted : Misrouted) (t : Taken) (o : Option Made) → AreBounded t.channels → misrouting_with misrouted t o ≡ Some l → AreBounded l.taken.channels
+misrouted_with l misrouted t None all is = absurd cc
+misrouted_with l misrouted t (Some m) all is = subst (λ (x : Misrouting). AreBounded x.taken.channels) (some_is (record { misrouted = misrouted; taken = t; made = m }) l is) all
 
-lost_to : (w : World) (l : Losing) (lost : Lost) (t : Taken) (at_port : Bool) → AreBounded t.channels → cond at_port (losing_with lost t (aliened w.agents.domains t.frame.domain lost.place t.frame)) None ≡ Some l → AreBounded l.taken.channels
-lost_to w l lost t true all is = lost_with l lost t (aliened w.agents.domains t.frame.domain lost.place t.frame) all is
-lost_to w l lost t false all is = absurd cc
+misrouted_to : (w : World) (l : Misrouting) (misrouted : Misrouted) (t : Taken) (at_port : Bool) → AreBounded t.channels → cond at_port (misrouting_with misrouted t (aliened w.agents.domains t.frame.domain misrouted.place t.frame)) None ≡ Some l → AreBounded l.taken.channels
+misrouted_to w l misrouted t true all is = misrouted_with l misrouted t (aliened w.agents.domains t.frame.domain misrouted.place t.frame) all is
+misrouted_to w l misrouted t false all is = absurd cc
 
-lost_if : (w : World) (l : Losing) (lost : Lost) (o : Option Taken) → ((t : Taken) → o ≡ Some t → AreBounded t.channels) → option_and_then (losing_to w lost) o ≡ Some l → AreBounded l.taken.channels
-lost_if w l lost None all is = absurd cc
-lost_if w l lost (Some t) all is = lost_to w l lost t (is_at_port_of w.agents.domains t.frame.domain lost.place) (all t refl) is
+misrouted_if : (w : World) (l : Misrouting) (misrouted : Misrouted) (o : Option Taken) → ((t : Taken) → o ≡ Some t → AreBounded t.channels) → option_and_then (misrouting_to w misrouted) o ≡ Some l → AreBounded l.taken.channels
+misrouted_if w l misrouted None all is = absurd cc
+misrouted_if w l misrouted (Some t) all is = misrouted_to w l misrouted t (is_at_port_of w.agents.domains t.frame.domain misrouted.place) (all t refl) is
 
-losing_bounded : (w : World) (l : Losing) (class : Class) (o : Option Lost) → Holds w → losing_by w class o ≡ Some l → AreBounded l.taken.channels
-losing_bounded w l class None all is = absurd cc
-losing_bounded w l class (Some lost) all is =
-    lost_if w l lost (taken_at w.channels class (Some lost.input)) (λ t e. taken_bounded w.channels class (Some lost.input) t all e) is
+misrouting_bounded : (w : World) (l : Misrouting) (class : Class) (o : Option Misrouted) → Holds w → misrouting_by w class o ≡ Some l → AreBounded l.taken.channels
+misrouting_bounded w l class None all is = absurd cc
+misrouting_bounded w l class (Some misrouted) all is =
+    misrouted_if w l misrouted (taken_at w.channels class (Some misrouted.input)) (λ t e. taken_bounded w.channels class (Some misrouted.input) t all e) is
 
-lost_bounded : (w w' : World) (l : Losing) (waits : Bool) → AreBounded l.taken.channels → cond waits None (some (without_lost w l)) ≡ Some w' → Holds w'
-lost_bounded w w' l true all is = absurd cc
-lost_bounded w w' l false all is = subst Holds (some_is (without_lost w l) w' is) (answered_bounded l.taken.channels l.lost.own l.made.sent all)
+misrouted_bounded : (w w' : World) (l : Misrouting) (waits : Bool) → AreBounded l.taken.channels → cond waits None (some (without_misrouted w l)) ≡ Some w' → Holds w'
+misrouted_bounded w w' l true all is = absurd cc
+misrouted_bounded w w' l false all is = subst Holds (some_is (without_misrouted w l) w' is) (answered_bounded l.taken.channels l.misrouted.own l.made.sent all)
 
-pass_if : (w w' : World) (port : ℕ) (class : Class) (o : Option Losing) → Holds w → ((l : Losing) → o ≡ Some l → AreBounded l.taken.channels) → passed_unless w port class o ≡ Some w' → Holds w'
-pass_if w w' port class None all losses is = turned_if w w' class (index_of w.tree.places port) all is
-pass_if w w' port class (Some l) all losses is = lost_bounded w w' l (answers (some l.made) && is_full Completion (channel_at w.channels l.lost.own)) (losses l refl) is
+pass_if : (w w' : World) (port : ℕ) (class : Class) (o : Option Misrouting) → Holds w → ((l : Misrouting) → o ≡ Some l → AreBounded l.taken.channels) → passed_unless w port class o ≡ Some w' → Holds w'
+pass_if w w' port class None all misroutes is = turned_if w w' class (index_of w.tree.places port) all is
+pass_if w w' port class (Some l) all misroutes is = misrouted_bounded w w' l (answers (some l.made) && is_full Completion (channel_at w.channels l.misrouted.own)) (misroutes l refl) is
 
 -- ---- each event
 
@@ -179,11 +178,11 @@ bounded_after w w' (Mmio domain access) all is = agents_alone w w' (accessed w.a
 bounded_after w w' (Enter origin class) all is =
     entered_from w w' origin class (sender_of w.tree.links (link_of origin)) (eligible class (waiting_of w.agents.outboxes origin)) all is
 bounded_after w w' (Pass port class) all is =
-    pass_if w w' port class (losing w port class) all (λ l e. losing_bounded w l class (lost_among w.tree w.routes w.channels w.ports port class) all e) is
+    pass_if w w' port class (misrouting w port class) all (λ l e. misrouting_bounded w l class (misrouted_among w.tree w.routes w.channels w.ports port class) all e) is
 bounded_after w w' (Send direction class) all is = stepped w w' (sender_of w.tree.links direction) (send class) all (send_bounded class) is
 bounded_after w w' (Take direction) all is = stepped w w' (sender_of w.tree.links direction) deliver all deliver_bounded is
 bounded_after w w' (Credit direction) all is = stepped w w' (sender_of w.tree.links direction) update_fc all update_bounded is
-bounded_after w w' (Root class) all is = rooted_if w w' class (taken w to_host class) (λ t e. taken_bounded w.channels class (sender_of w.tree.links to_host) t all e) is
+bounded_after w w' (Root class) all is = at_host_if w w' class (taken w to_host class) (λ t e. taken_bounded w.channels class (sender_of w.tree.links to_host) t all e) is
 bounded_after w w' (Arrive function class) all is = arrived_at w w' function class (is_some (place_of_function w.agents.domains function)) all is
 
 -- ---- so no receive queue is overrun

@@ -8,7 +8,7 @@ use Rattle.link.specs.Channels.{Channel, IsBounded}
 use Rattle.topology.specs.declared.nodes.LinkEnd.{LinkEnd}
 use Rattle.interconnect.specs.Moves.{channel_at, no_channel, on_channel, put_at, with_channel}
 use Rattle.fabric_core.specs.Credits.{AreBounded}
-use Rattle.fabric_core.specs.Receipts.{Taken, taken_at, taken_from}
+use Rattle.fabric_core.specs.Arrivals.{Taken, taken_at, taken_from}
 use Rattle.fabric_core.proofs.bounded.Steps.{egress_bounded, ingress_bounded}
 
 abbrev some : {A : Type 0} → A → Option A

@@ -65,19 +65,19 @@ received_by c c' (frame ∷ frames) e b is =
 pub deliver_bounded : (c c' : Channel) → IsBounded c → deliver c ≡ Some c' → IsBounded c'
 deliver_bounded c c' b is = received_by c c' c.wire refl b is
 
--- ---- the sender is told
+-- ---- credits are returned to the sender
 
-told_by : (c c' : Channel) (most : Counters) (same : Bool) → ((k : Kind) → at most k + total k (c.wire ++ c.ingress) ≤ at c.start k) → IsBounded c
+updated_by : (c c' : Channel) (most : Counters) (same : Bool) → ((k : Kind) → at most k + total k (c.wire ++ c.ingress) ≤ at c.start k) → IsBounded c
     → cond same None (some (record { start = c.start; left = most; egress = c.egress; wire = c.wire; ingress = c.ingress })) ≡ Some c' → IsBounded c'
-told_by c c' most true covered b is = absurd cc
-told_by c c' most false covered b is =
-    let told : Channel = record { start = c.start; left = most; egress = c.egress; wire = c.wire; ingress = c.ingress } in
-    subst IsBounded (some_is told c' is) (bounded_by told b.start covered)
+updated_by c c' most true covered b is = absurd cc
+updated_by c c' most false covered b is =
+    let updated : Channel = record { start = c.start; left = most; egress = c.egress; wire = c.wire; ingress = c.ingress } in
+    subst IsBounded (some_is updated c' is) (bounded_by updated b.start covered)
 
 pub update_bounded : (c c' : Channel) → IsBounded c → update_fc c ≡ Some c' → IsBounded c'
 update_bounded c c' b is =
     let most = unspent c.start (c.wire ++ c.ingress) in
-    told_by c c' most (same_counters c.left most) (λ k. omega (arith, b.covered k, at-unspent c.start (c.wire ++ c.ingress) k)) b is
+    updated_by c c' most (same_counters c.left most) (λ k. omega (arith, b.covered k, at-unspent c.start (c.wire ++ c.ingress) k)) b is
 
 -- ---- a packet leaves the receiver
 

@@ -23,10 +23,10 @@ use Rattle.interconnect.specs.Moves.{channel_at, no_channel}
 use Rattle.interconnect.specs.Passes.{IsIdle, Passes, PassesFrom, index_of, no_place, no_port, place_number, port_at}
 use Rattle.interconnect.specs.Views.{InterconnectView, channels}
 use Rattle.fabric_core.specs.declared.event.Event.TheVariants.{Pass}
-use Rattle.fabric_core.specs.Receipts.{taken_at}
+use Rattle.fabric_core.specs.Arrivals.{taken_at}
 use Rattle.fabric_core.specs.Events.{StepsTo}
 use Rattle.fabric_core.specs.Invariant.{IsFree, IsConsistent, IsPlaced}
-use Rattle.fabric_core.specs.Losing.{Losing, losing, passed_unless}
+use Rattle.fabric_core.specs.Misrouting.{Misrouting, misrouting, passed_unless}
 use Rattle.fabric_core.specs.Passing.{passed, passed_at, passed_number, site_at, turned}
 use Rattle.fabric_core.specs.Places.{IsFlown, frames_from, frames_of, frames_on}
 use Rattle.fabric_core.specs.Wanting.{NumberWants, OfTaken, PlaceWants, TurnWants}
@@ -135,12 +135,12 @@ module _ (h new : InterconnectView) (agents agents' : AgentsView) (violations vi
       let found = position-Some (λ (place : PortPlace). place.id == id) h.tree.places i no_place (sym is) in
       by_input i found.0 (place_number h i).input refl passes
 
-  -- the turn of a port is what its event does, where the port is about to lose nothing
-  step_of : (id : ℕ) (o : Outcome) → losing here id class ≡ None → Gives (turned here id class) (NumberWants here class (index_of h.tree.places id)) here there o → StepsTo here (Pass id class) o there
+  -- the turn of a port is what its event does, where the port is about to misroute nothing
+  step_of : (id : ℕ) (o : Outcome) → misrouting here id class ≡ None → Gives (turned here id class) (NumberWants here class (index_of h.tree.places id)) here there o → StepsTo here (Pass id class) o there
   step_of id Moved nothing g = ap (passed_unless here id class) nothing ∙ g
   step_of id Idle nothing g = (ap (passed_unless here id class) nothing ∙ g.0, refl, g.1)
   step_of id (Refused fault) nothing g = absurd g
-  step_of id NoMemory nothing g = (subst (λ (l : Option Losing). IsSome (passed_unless here id class l)) (sym nothing) g.0, g.1, g.2)
+  step_of id NoMemory nothing g = (subst (λ (l : Option Misrouting). IsSome (passed_unless here id class l)) (sym nothing) g.0, g.1, g.2)
 
-  pub pass_step : (id : ℕ) → losing here id class ≡ None → Passed (index_of h.tree.places id) → StepsTo here (Pass id class) outcome there
+  pub pass_step : (id : ℕ) → misrouting here id class ≡ None → Passed (index_of h.tree.places id) → StepsTo here (Pass id class) outcome there
   pass_step id nothing passes = step_of id outcome nothing (by_index id (index_of h.tree.places id) refl passes)

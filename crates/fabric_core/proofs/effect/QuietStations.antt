@@ -19,18 +19,18 @@ use Rattle.lane.specs.Lanes.{eligible}
 use Rattle.domains.specs.Domains.{place_of_function}
 use Rattle.topology.specs.Links.{sender_of}
 use Rattle.topology.specs.declared.nodes.LinkEnd.{LinkEnd}
-use Rattle.interconnect.specs.Lost.{lost_from, lost_number, lost_of}
-use Rattle.interconnect.specs.declared.lost.Lost.{Lost}
+use Rattle.interconnect.specs.Misrouted.{misrouted_from, misrouted_number, misrouted_of}
+use Rattle.interconnect.specs.declared.misrouted.Misrouted.{Misrouted}
 use Rattle.interconnect.specs.Moves.{channel_at, on_channel, with_channel}
 use Rattle.interconnect.specs.Passes.{index_of, input_number, input_of, no_place, no_port}
 use Rattle.interconnect.specs.Quiet.{is_quiet_at, none_received_at}
 use Rattle.fabric_core.specs.Aliens.{to_function, to_host}
 use Rattle.fabric_core.specs.Isolation.{home, home_oldest, home_passed, home_sent, home_travelling}
-use Rattle.fabric_core.specs.Receipts.{arrived, rooted, taken, taken_at}
+use Rattle.fabric_core.specs.Arrivals.{arrived, arrived_at_host, taken, taken_at}
 use Rattle.fabric_core.specs.Events.{StepsTo, effect, entered_at, link_of, refusal, takes_packet}
-use Rattle.fabric_core.specs.Losing.{losing_by, passed_unless}
+use Rattle.fabric_core.specs.Misrouting.{misrouting_by, passed_unless}
 use Rattle.fabric_core.specs.Passing.{passed, passed_number, site_at}
-use Rattle.fabric_core.specs.Leaving.{leaves}
+use Rattle.fabric_core.specs.EligibleClasses.{leaves}
 use Rattle.fabric_core.specs.Stations.{classes, events_at, is_quiet, taking}
 use Rattle.fabric_core.specs.World.{World, with_channels}
 use Rattle.fabric_core.specs.declared.event.Event.{Event}
@@ -61,10 +61,10 @@ taken_none : (channels : List (List Channel)) (end : Option LinkEnd) → none_re
 taken_none channels None h class = refl
 taken_none channels (Some end) h class = rw (eligible_none (channel_at channels end).ingress h class) refl
 
-lost_from_none : (routes : Routes) (channels : List (List Channel)) (class : Class) (config : Config) (node : ℕ) (input : Option LinkEnd) → taken_at channels class input ≡ None
-    → lost_from routes channels class config node input ≡ None
-lost_from_none routes channels class config node None h = refl
-lost_from_none routes channels class config node (Some input) h = ap (lost_of routes node input config) (none_of _ (eligible class (channel_at channels input).ingress) h)
+misrouted_from_none : (routes : Routes) (channels : List (List Channel)) (class : Class) (config : Config) (node : ℕ) (input : Option LinkEnd) → taken_at channels class input ≡ None
+    → misrouted_from routes channels class config node input ≡ None
+misrouted_from_none routes channels class config node None h = refl
+misrouted_from_none routes channels class config node (Some input) h = ap (misrouted_of routes node input config) (none_of _ (eligible class (channel_at channels input).ingress) h)
 
 -- ---- directions
 
@@ -109,9 +109,9 @@ still_enter : (w : World) (origin : Origin) → none_eligible (waiting_of w.agen
 still_enter w origin h class = enters_none w origin class (eligible_none (waiting_of w.agents.outboxes origin) h class)
 
 module _ (w : World) (class : Class) where
-  lost_none : (i : Option ℕ) → taken_at w.channels class (input_number w.tree.places i) ≡ None → lost_number w.tree w.routes w.channels w.ports class i ≡ None
-  lost_none None h = refl
-  lost_none (Some i) h = lost_from_none w.routes w.channels class (slice_index_or w.ports i no_port).config (slice_index_or w.tree.places i no_place).node (slice_index_or w.tree.places i no_place).input h
+  misrouted_none : (i : Option ℕ) → taken_at w.channels class (input_number w.tree.places i) ≡ None → misrouted_number w.tree w.routes w.channels w.ports class i ≡ None
+  misrouted_none None h = refl
+  misrouted_none (Some i) h = misrouted_from_none w.routes w.channels class (slice_index_or w.ports i no_port).config (slice_index_or w.tree.places i no_place).node (slice_index_or w.tree.places i no_place).input h
 
   passed_none : (i : Option ℕ) → taken_at w.channels class (input_number w.tree.places i) ≡ None → passed_number w class i ≡ None
   passed_none None h = refl
@@ -122,7 +122,7 @@ module _ (w : World) (class : Class) where
 passes_none : (w : World) (port : ℕ) (class : Class) → taken_at w.channels class (input_of w.tree.places port) ≡ None → IsStill w (Event.Pass port class)
 passes_none w port class h =
     let i = index_of w.tree.places port in
-    (ap (λ (lost : Option Lost). passed_unless w port class (losing_by w class lost)) (lost_none w class i h) ∙ passed_none w class i h, refl)
+    (ap (λ (misrouted : Option Misrouted). passed_unless w port class (misrouting_by w class misrouted)) (misrouted_none w class i h) ∙ passed_none w class i h, refl)
 
 still_pass : (w : World) (port : ℕ) → none_received_at w.channels (input_of w.tree.places port) ≡ true → (class : Class) → IsStill w (Event.Pass port class)
 still_pass w port h class = passes_none w port class (taken_none w.channels (input_of w.tree.places port) h class)
@@ -133,11 +133,11 @@ still_link w direction h step none =
     let end = sender_of w.tree.links direction in
     ap (option_map (with_channels w)) (on_none w.channels end step (λ at is. none (channel_at w.channels at) (still_at w.channels end h at is)))
 
-root_takes_none : (w : World) (class : Class) → taken_at w.channels class (sender_of w.tree.links to_host) ≡ None → IsStill w (Event.Root class)
-root_takes_none w class h = (ap (rooted w class) h, refl)
+host_takes_none : (w : World) (class : Class) → taken_at w.channels class (sender_of w.tree.links to_host) ≡ None → IsStill w (Event.Root class)
+host_takes_none w class h = (ap (arrived_at_host w class) h, refl)
 
-still_root : (w : World) → none_received_at w.channels (sender_of w.tree.links to_host) ≡ true → (class : Class) → IsStill w (Event.Root class)
-still_root w h class = root_takes_none w class (taken_none w.channels (sender_of w.tree.links to_host) h class)
+still_at_host : (w : World) → none_received_at w.channels (sender_of w.tree.links to_host) ≡ true → (class : Class) → IsStill w (Event.Root class)
+still_at_host w h class = host_takes_none w class (taken_none w.channels (sender_of w.tree.links to_host) h class)
 
 either_none : (b : Bool) (o : Option World) → o ≡ None → cond b o None ≡ None
 either_none true o h = h
@@ -173,7 +173,7 @@ quiet_idle w (station.Link direction) h =
     All-append P (map (Event.Send direction) classes) (Event.Take direction ∷ Event.Credit direction ∷ []) (for_each w (Event.Send direction) sent)
     (All-cons P (Event.Take direction) (Event.Credit direction ∷ []) (idle w (Event.Take direction) (still_link w direction h deliver (λ c still. still.deliver), refl))
     (All-cons P (Event.Credit direction) [] (idle w (Event.Credit direction) (still_link w direction h update_fc (λ c still. still.update_fc), refl)) (All-nil P)))
-quiet_idle w station.Host h = for_each w Event.Root (still_root w h)
+quiet_idle w station.Host h = for_each w Event.Root (still_at_host w h)
 quiet_idle w (station.Function function) h = for_each w (Event.Arrive function) (still_arrive w function h)
 
 -- ---- an event that finds nothing to take is of no domain
@@ -204,7 +204,7 @@ homeless w (Event.Send direction class) takes h =
 homeless w (Event.Take direction) takes h =
     (ap (option_map (with_channels w)) (at_none w.channels (sender_of w.tree.links direction) (home_travelling w) deliver (λ at none. travels_none (channel_at w.channels at) (channel_at w.channels at).wire none) h), refl)
 homeless w (Event.Credit direction) takes h = absurd cc
-homeless w (Event.Root class) takes h = root_takes_none w class (none_of _ (taken w to_host class) h)
+homeless w (Event.Root class) takes h = host_takes_none w class (none_of _ (taken w to_host class) h)
 homeless w (Event.Arrive function class) takes h = arrives_none w function class (none_of _ (taken w (to_function function) class) h)
 
 pub homeless_idle : (w : World) (event : Event) → takes_packet event ≡ true → home w event ≡ None → StepsTo w event Idle w

@@ -26,13 +26,12 @@ use Rattle.interconnect.specs.Moves.{channel_at, left_at}
 use Rattle.interconnect.specs.Views.{InterconnectView, IsSameRest, channels, simplex_at}
 use Rattle.fabric_core.specs.declared.event.Event.{Event}
 use Rattle.fabric_core.specs.declared.event.Event.TheVariants.{Arrive, Root}
-use Rattle.fabric_core.specs.Receipts.{Taken, arrived, arrived_by, agents_by_function, agents_by_host, ended, receipt_in, rooted, rooted_by, taken_at, taken_from, to_function, to_host}
-use Rattle.received.specs.declared.receipt.Receipt.{Receipt}
-use Rattle.received.specs.declared.receipt.Receipt.TheVariants.{Carry, Deliver, Nobody, Relay}
-use Rattle.received.specs.Receipts.{is_relayed, receipt_at_host, receipt_by_host, request_at_host}
+use Rattle.fabric_core.specs.Arrivals.{Taken, arrived, arrived_by, agents_by_function, agents_by_host, ended, received_in, arrived_at_host, arrived_at_host_by, taken_at, taken_from, to_function, to_host}
+use Rattle.received.specs.declared.received.Received.{Received}
+use Rattle.received.specs.Received.{is_relayed, received_at_host, received_by_host, request_at_host}
 use Rattle.fabric_core.specs.Events.{StepsTo, effect}
 use Rattle.fabric_core.specs.Settling.{EntryWants, IsBack, Settles, Strays, Takes, entry_by_function, entry_by_host}
-use Rattle.fabric_core.specs.Wanting.{ArriveWants, OfTaken, RootWants, RootWantsBy, WantsMemory}
+use Rattle.fabric_core.specs.Wanting.{ArriveWants, OfTaken, HostWants, HostWantsBy, WantsMemory}
 use Rattle.fabric_core.specs.World.{World, with_channels, world_over}
 use Rattle.fabric_core.proofs.effect.Outputs.{left_back}
 use Rattle.fabric_core.proofs.effect.Over.{over_channels, over_same, rest_after}
@@ -112,29 +111,29 @@ module _ (h taking new : InterconnectView) (agents agents' : AgentsView) (violat
 
 -- ---- at the host
 
-by_receipt : (w : World) (class : Class) (t : Taken) (x : Receipt) → x ≢ Relay → rooted_by w class t x ≡ Some (ended w t (agents_by_host w.routes.ports w.agents t.frame x))
-by_receipt w class t Relay other = absurd (other refl)
-by_receipt w class t Carry other = refl
-by_receipt w class t Deliver other = refl
-by_receipt w class t Nobody other = refl
+by_received : (w : World) (class : Class) (t : Taken) (x : Received) → x ≢ Received.Relayed → arrived_at_host_by w class t x ≡ Some (ended w t (agents_by_host w.routes.ports w.agents t.frame x))
+by_received w class t Received.Relayed other = absurd (other refl)
+by_received w class t Received.Request other = refl
+by_received w class t Received.Completion other = refl
+by_received w class t Received.Unknown other = refl
 
-root_wants_by : (w : World) (t : Taken) (x : Receipt) → x ≢ Relay → EntryWants (entry_by_host w.agents.domains t.frame x) → RootWantsBy w t x
-root_wants_by w t Relay other wants = absurd (other refl)
-root_wants_by w t Carry other wants = wants
-root_wants_by w t Deliver other wants = wants
-root_wants_by w t Nobody other wants = wants
+host_wants_by : (w : World) (t : Taken) (x : Received) → x ≢ Received.Relayed → EntryWants (entry_by_host w.agents.domains t.frame x) → HostWantsBy w t x
+host_wants_by w t Received.Relayed other wants = absurd (other refl)
+host_wants_by w t Received.Request other wants = wants
+host_wants_by w t Received.Completion other wants = wants
+host_wants_by w t Received.Unknown other wants = wants
 
-request_stays : (parties : Parties) → request_at_host parties ≢ Relay
+request_stays : (parties : Parties) → request_at_host parties ≢ Received.Relayed
 request_stays (Upward function) e = absurd cc
 request_stays (Downward function) e = absurd cc
 request_stays (Answer answerer addressee) e = absurd cc
 
-completion_stays : (ours own : Bool) → not ours ≡ false → cond ours (cond own Deliver Nobody) Relay ≢ Relay
+completion_stays : (ours own : Bool) → not ours ≡ false → cond ours (cond own Received.Completion Received.Unknown) Received.Relayed ≢ Received.Relayed
 completion_stays true true h e = absurd cc
 completion_stays true false h e = absurd cc
 completion_stays false own h e = absurd cc
 
-stays : (domain : ℕ) (parties : Parties) (header : Header) → is_relayed header ≡ false → receipt_by_host domain parties header ≢ Relay
+stays : (domain : ℕ) (parties : Parties) (header : Header) → is_relayed header ≡ false → received_by_host domain parties header ≢ Received.Relayed
 stays domain parties Malformed h = λ e. absurd cc
 stays domain parties (Memory requester address_type address) h = request_stays parties
 stays domain parties (OtherRequest requester) h = request_stays parties
@@ -145,44 +144,44 @@ found_at : (cs : List (List Channel)) (class : Class) (end : LinkEnd) (o : Optio
     → taken_at cs class o ≡ Some (record { frame = frame; channels = left_at cs end left })
 found_at cs class end o frame left is found = ap (taken_at cs class) (sym is) ∙ ap (option_map (taken_from cs end)) found
 
-pub root_ends : (h taking : InterconnectView) (agents : AgentsView) (violations : List Violation) (strays : List Descriptor) (end : LinkEnd) (class : Class) (frame : Descriptor) (t : Took h taking end class frame)
+pub host_ends : (h taking : InterconnectView) (agents : AgentsView) (violations : List Violation) (strays : List Descriptor) (end : LinkEnd) (class : Class) (frame : Descriptor) (t : Took h taking end class frame)
     → Some end ≡ sender_of h.tree.links to_host → is_relayed frame.head.header ≡ false
-    → effect (world_over h agents violations strays) (Root class) ≡ Some (ended (world_over h agents violations strays) (record { frame = frame; channels = left_at (channels h) end t.left }) (agents_by_host h.routes.ports agents frame (receipt_at_host frame)))
-root_ends h taking agents violations strays end class frame t is here =
+    → effect (world_over h agents violations strays) (Root class) ≡ Some (ended (world_over h agents violations strays) (record { frame = frame; channels = left_at (channels h) end t.left }) (agents_by_host h.routes.ports agents frame (received_at_host frame)))
+host_ends h taking agents violations strays end class frame t is here =
     let w = world_over h agents violations strays in
-    ap (rooted w class) (found_at (channels h) class end (sender_of h.tree.links to_host) frame t.left is t.found)
-    ∙ by_receipt w class (record { frame = frame; channels = left_at (channels h) end t.left }) (receipt_at_host frame) (stays frame.domain frame.head.parties frame.head.header here)
+    ap (arrived_at_host w class) (found_at (channels h) class end (sender_of h.tree.links to_host) frame t.left is t.found)
+    ∙ by_received w class (record { frame = frame; channels = left_at (channels h) end t.left }) (received_at_host frame) (stays frame.domain frame.head.parties frame.head.header here)
 
 -- what wants memory there
-pub root_wants : (h taking : InterconnectView) (agents : AgentsView) (violations : List Violation) (strays : List Descriptor) (end : LinkEnd) (class : Class) (frame : Descriptor) (t : Took h taking end class frame)
-    → Some end ≡ sender_of h.tree.links to_host → is_relayed frame.head.header ≡ false → EntryWants (entry_by_host agents.domains frame (receipt_at_host frame))
+pub host_wants : (h taking : InterconnectView) (agents : AgentsView) (violations : List Violation) (strays : List Descriptor) (end : LinkEnd) (class : Class) (frame : Descriptor) (t : Took h taking end class frame)
+    → Some end ≡ sender_of h.tree.links to_host → is_relayed frame.head.header ≡ false → EntryWants (entry_by_host agents.domains frame (received_at_host frame))
     → WantsMemory (world_over h agents violations strays) (Root class)
-root_wants h taking agents violations strays end class frame t is here wants =
+host_wants h taking agents violations strays end class frame t is here wants =
     let w = world_over h agents violations strays in
     let taken : Taken = record { frame = frame; channels = left_at (channels h) end t.left } in
-    subst (OfTaken (RootWants w)) (sym (found_at (channels h) class end (sender_of h.tree.links to_host) frame t.left is t.found))
-    (root_wants_by w taken (receipt_at_host frame) (stays frame.domain frame.head.parties frame.head.header here) wants)
+    subst (OfTaken (HostWants w)) (sym (found_at (channels h) class end (sender_of h.tree.links to_host) frame t.left is t.found))
+    (host_wants_by w taken (received_at_host frame) (stays frame.domain frame.head.parties frame.head.header here) wants)
 
 -- ---- at a function
 
-arrived_is : (w : World) (function : ℕ) (t : Taken) (x : Receipt) → arrived_by w function t x ≡ ended w t (agents_by_function w.agents function t.frame x)
-arrived_is w function t Relay = refl
-arrived_is w function t Carry = refl
-arrived_is w function t Deliver = refl
-arrived_is w function t Nobody = refl
+arrived_is : (w : World) (function : ℕ) (t : Taken) (x : Received) → arrived_by w function t x ≡ ended w t (agents_by_function w.agents function t.frame x)
+arrived_is w function t Received.Relayed = refl
+arrived_is w function t Received.Request = refl
+arrived_is w function t Received.Completion = refl
+arrived_is w function t Received.Unknown = refl
 
 pub arrive_ends : (h taking : InterconnectView) (agents : AgentsView) (violations : List Violation) (strays : List Descriptor) (function : ℕ) (end : LinkEnd) (class : Class) (frame : Descriptor) (t : Took h taking end class frame)
     → Some end ≡ sender_of h.tree.links (to_function function) → is_some (place_of_function agents.domains function) ≡ true
     → effect (world_over h agents violations strays) (Arrive function class)
-    ≡ Some (ended (world_over h agents violations strays) (record { frame = frame; channels = left_at (channels h) end t.left }) (agents_by_function agents function frame (receipt_in h.routes.ports agents.domains function frame)))
+    ≡ Some (ended (world_over h agents violations strays) (record { frame = frame; channels = left_at (channels h) end t.left }) (agents_by_function agents function frame (received_in h.routes.ports agents.domains function frame)))
 arrive_ends h taking agents violations strays function end class frame t is there =
     let w = world_over h agents violations strays in
     ap (λ (b : Bool). cond b (arrived w function (taken_at w.channels class (sender_of w.tree.links (to_function function)))) None) there
     ∙ (ap (arrived w function) (found_at (channels h) class end (sender_of h.tree.links (to_function function)) frame t.left is t.found)
-    ∙ ap (λ (x : World). Some x) (arrived_is w function (record { frame = frame; channels = left_at (channels h) end t.left }) (receipt_in h.routes.ports agents.domains function frame)))
+    ∙ ap (λ (x : World). Some x) (arrived_is w function (record { frame = frame; channels = left_at (channels h) end t.left }) (received_in h.routes.ports agents.domains function frame)))
 
 pub arrive_wants : (h taking : InterconnectView) (agents : AgentsView) (violations : List Violation) (strays : List Descriptor) (function : ℕ) (end : LinkEnd) (class : Class) (frame : Descriptor) (t : Took h taking end class frame)
-    → Some end ≡ sender_of h.tree.links (to_function function) → EntryWants (entry_by_function agents.domains function frame (receipt_in h.routes.ports agents.domains function frame))
+    → Some end ≡ sender_of h.tree.links (to_function function) → EntryWants (entry_by_function agents.domains function frame (received_in h.routes.ports agents.domains function frame))
     → WantsMemory (world_over h agents violations strays) (Arrive function class)
 arrive_wants h taking agents violations strays function end class frame t is wants =
     subst (OfTaken (ArriveWants (world_over h agents violations strays) function)) (sym (found_at (channels h) class end (sender_of h.tree.links (to_function function)) frame t.left is t.found)) wants

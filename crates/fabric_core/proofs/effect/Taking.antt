@@ -6,9 +6,8 @@ use Rattle.domains.specs.Agents.{AgentsView}
 use Rattle.domains.specs.Domains.{Made}
 use Rattle.platform.specs.declared.parts.DownstreamPort.{DownstreamPort}
 use Rattle.fabric_core.specs.Aliens.{or_else}
-use Rattle.fabric_core.specs.Receipts.{agents_by_function, agents_by_host, own_by_function, own_by_host}
-use Rattle.received.specs.declared.receipt.Receipt.{Receipt}
-use Rattle.received.specs.declared.receipt.Receipt.TheVariants.{Carry, Deliver, Nobody, Relay}
+use Rattle.fabric_core.specs.Arrivals.{agents_by_function, agents_by_host, own_by_function, own_by_host}
+use Rattle.received.specs.declared.received.Received.{Received}
 use Rattle.fabric_core.specs.Settling.{EntryWants, entry_by_function, entry_by_host}
 
 -- no entry of its home, and none of another
@@ -27,21 +26,21 @@ none_wants : (o : Option Made) → o ≡ None → EntryWants o
 none_wants None none = tt
 none_wants (Some m) none = absurd cc
 
-no_entry_by_host : (agents : AgentsView) (frame : Descriptor) (x : Receipt) → own_by_host agents frame x ≡ None → entry_by_host agents.domains frame x ≡ None
-no_entry_by_host agents frame Relay none = refl
-no_entry_by_host agents frame Carry none = unmapped _ _ none
-no_entry_by_host agents frame Deliver none = unmapped _ _ none
-no_entry_by_host agents frame Nobody none = refl
+no_entry_by_host : (agents : AgentsView) (frame : Descriptor) (x : Received) → own_by_host agents frame x ≡ None → entry_by_host agents.domains frame x ≡ None
+no_entry_by_host agents frame Received.Relayed none = refl
+no_entry_by_host agents frame Received.Request none = unmapped _ _ none
+no_entry_by_host agents frame Received.Completion none = unmapped _ _ none
+no_entry_by_host agents frame Received.Unknown none = refl
 
-no_entry_by_function : (agents : AgentsView) (function : ℕ) (frame : Descriptor) (x : Receipt) → own_by_function agents function frame x ≡ None → entry_by_function agents.domains function frame x ≡ None
-no_entry_by_function agents function frame Relay none = refl
-no_entry_by_function agents function frame Carry none = unmapped _ _ none
-no_entry_by_function agents function frame Deliver none = unmapped _ _ none
-no_entry_by_function agents function frame Nobody none = refl
+no_entry_by_function : (agents : AgentsView) (function : ℕ) (frame : Descriptor) (x : Received) → own_by_function agents function frame x ≡ None → entry_by_function agents.domains function frame x ≡ None
+no_entry_by_function agents function frame Received.Relayed none = refl
+no_entry_by_function agents function frame Received.Request none = unmapped _ _ none
+no_entry_by_function agents function frame Received.Completion none = unmapped _ _ none
+no_entry_by_function agents function frame Received.Unknown none = refl
 
 -- where nobody has a case for it
-pub stray_by_host : (ports : List DownstreamPort) (agents : AgentsView) (frame : Descriptor) (x : Receipt) → agents_by_host ports agents frame x ≡ None → EntryWants (entry_by_host agents.domains frame x)
+pub stray_by_host : (ports : List DownstreamPort) (agents : AgentsView) (frame : Descriptor) (x : Received) → agents_by_host ports agents frame x ≡ None → EntryWants (entry_by_host agents.domains frame x)
 stray_by_host ports agents frame x none = none_wants _ (no_entry_by_host agents frame x (neither _ _ none))
 
-pub stray_by_function : (agents : AgentsView) (function : ℕ) (frame : Descriptor) (x : Receipt) → agents_by_function agents function frame x ≡ None → EntryWants (entry_by_function agents.domains function frame x)
+pub stray_by_function : (agents : AgentsView) (function : ℕ) (frame : Descriptor) (x : Received) → agents_by_function agents function frame x ≡ None → EntryWants (entry_by_function agents.domains function frame x)
 stray_by_function agents function frame x none = none_wants _ (no_entry_by_function agents function frame x (neither _ _ none))

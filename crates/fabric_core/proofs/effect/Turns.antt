@@ -27,7 +27,7 @@ use Rattle.topology.specs.declared.nodes.LinkEnd.{LinkEnd}
 use Rattle.interconnect.specs.Moves.{channel_at, left_at, put_at}
 use Rattle.interconnect.specs.Passes.{HasTurn, egress_of, no_port, passed_over, port_at, refused_by, sight_at}
 use Rattle.interconnect.specs.Views.{InterconnectView, channels}
-use Rattle.fabric_core.specs.Receipts.{Taken, taken_at, taken_from}
+use Rattle.fabric_core.specs.Arrivals.{Taken, taken_at, taken_from}
 use Rattle.switch_output.specs.Vetted.{may_go_on}
 use Rattle.fabric_core.specs.Passing.{Site, answer_waits, answered_at, kept_by, output_end, passed, passed_by, refused_by as ended_by, strayed}
 use Rattle.fabric_core.specs.Places.{IsFlown}

@@ -19,7 +19,7 @@ use Rattle.domains.specs.Agents.{Outbox, emitted_if, home_of, joined, outbox_pla
 use Rattle.link.specs.Channels.{Channel}
 use Rattle.domains.specs.Aliens.{aliened_at, aliened_by, flown}
 use Rattle.domains.specs.Domains.{Made, made_at}
-use Rattle.fabric_core.specs.Receipts.{Taken, ended}
+use Rattle.fabric_core.specs.Arrivals.{Taken, ended}
 use Rattle.fabric_core.specs.Invariant.{IsConsistent}
 use Rattle.fabric_core.specs.Places.{frames_of}
 use Rattle.fabric_core.specs.World.{World, is_guarded, with_both, with_stray}

@@ -22,10 +22,9 @@ use Rattle.interconnect.specs.Moves.{channel_at, put_at}
 use Rattle.fabric_core.specs.Aliens.{alien_at_function, alien_at_host, or_else}
 use Rattle.domains.specs.Aliens.{owner_of_frame}
 use Rattle.received.specs.Receivers.{receiver_at_host}
-use Rattle.fabric_core.specs.Receipts.{Taken, arrive, arrived, arrived_by, agents_by_host, ended, receipt_at, from_host, relayed, root, rooted, rooted_by, taken, to_function, to_host}
-use Rattle.received.specs.declared.receipt.Receipt.{Receipt}
-use Rattle.received.specs.declared.receipt.Receipt.TheVariants.{Carry, Deliver, Nobody, Relay}
-use Rattle.received.specs.Receipts.{receipt_at_host}
+use Rattle.fabric_core.specs.Arrivals.{Taken, arrive, arrived, arrived_by, agents_by_host, ended, received_at, from_host, relayed, arrive_at_host, arrived_at_host, arrived_at_host_by, taken, to_function, to_host}
+use Rattle.received.specs.declared.received.Received.{Received}
+use Rattle.received.specs.Received.{received_at_host}
 use Rattle.fabric_core.specs.Invariant.{IsConsistent}
 use Rattle.fabric_core.specs.Places.{frames_of, waiting_in}
 use Rattle.fabric_core.specs.World.{World, with_both, with_channels, with_stray}
@@ -148,25 +147,25 @@ otherwise_at_host w t kept out =
     let receiver = receiver_at_host w.routes.ports (owner_of_frame w.agents.domains) t.frame in
     kept_alien w t (Host receiver) (place_of w.agents.domains receiver) (Ingress to_host) kept out refl (kept_stray w t kept out)
 
-ended_at_host : (w : World) (t : Taken) (e : Receipt) → IsConsistent w → TakenOut w t → IsConsistent (ended w t (agents_by_host w.routes.ports w.agents t.frame e))
-ended_at_host w t Relay kept out = otherwise_at_host w t kept out
-ended_at_host w t Carry kept out = carried_at_host w t kept out (alien_at_host w.routes.ports w.agents t.frame) (otherwise_at_host w t kept out)
-ended_at_host w t Deliver kept out = delivered_to w t kept out (alien_at_host w.routes.ports w.agents t.frame) (otherwise_at_host w t kept out)
-ended_at_host w t Nobody kept out = otherwise_at_host w t kept out
+ended_at_host : (w : World) (t : Taken) (e : Received) → IsConsistent w → TakenOut w t → IsConsistent (ended w t (agents_by_host w.routes.ports w.agents t.frame e))
+ended_at_host w t Received.Relayed kept out = otherwise_at_host w t kept out
+ended_at_host w t Received.Request kept out = carried_at_host w t kept out (alien_at_host w.routes.ports w.agents t.frame) (otherwise_at_host w t kept out)
+ended_at_host w t Received.Completion kept out = delivered_to w t kept out (alien_at_host w.routes.ports w.agents t.frame) (otherwise_at_host w t kept out)
+ended_at_host w t Received.Unknown kept out = otherwise_at_host w t kept out
 
-rooted_as : (w w' : World) (class : Class) (t : Taken) (e : Receipt) → IsConsistent w → TakenOut w t → rooted_by w class t e ≡ Some w' → IsConsistent w'
-rooted_as w w' class t Relay kept out is = kept_relayed w w' t class (sender_of w.tree.links from_host) kept out refl is
-rooted_as w w' class t Carry kept out is = subst IsConsistent (some_is (ended w t (agents_by_host w.routes.ports w.agents t.frame Carry)) w' is) (ended_at_host w t Carry kept out)
-rooted_as w w' class t Deliver kept out is = subst IsConsistent (some_is (ended w t (agents_by_host w.routes.ports w.agents t.frame Deliver)) w' is) (ended_at_host w t Deliver kept out)
-rooted_as w w' class t Nobody kept out is = subst IsConsistent (some_is (ended w t (agents_by_host w.routes.ports w.agents t.frame Nobody)) w' is) (ended_at_host w t Nobody kept out)
+at_host_as : (w w' : World) (class : Class) (t : Taken) (e : Received) → IsConsistent w → TakenOut w t → arrived_at_host_by w class t e ≡ Some w' → IsConsistent w'
+at_host_as w w' class t Received.Relayed kept out is = kept_relayed w w' t class (sender_of w.tree.links from_host) kept out refl is
+at_host_as w w' class t Received.Request kept out is = subst IsConsistent (some_is (ended w t (agents_by_host w.routes.ports w.agents t.frame Received.Request)) w' is) (ended_at_host w t Received.Request kept out)
+at_host_as w w' class t Received.Completion kept out is = subst IsConsistent (some_is (ended w t (agents_by_host w.routes.ports w.agents t.frame Received.Completion)) w' is) (ended_at_host w t Received.Completion kept out)
+at_host_as w w' class t Received.Unknown kept out is = subst IsConsistent (some_is (ended w t (agents_by_host w.routes.ports w.agents t.frame Received.Unknown)) w' is) (ended_at_host w t Received.Unknown kept out)
 
-rooted_if : (w w' : World) (class : Class) (o : Option Taken) → IsConsistent w → ((t : Taken) → o ≡ Some t → TakenOut w t) → rooted w class o ≡ Some w' → IsConsistent w'
-rooted_if w w' class None kept out is = absurd cc
-rooted_if w w' class (Some t) kept out is = rooted_as w w' class t (receipt_at_host t.frame) kept (out t refl) is
+at_host_if : (w w' : World) (class : Class) (o : Option Taken) → IsConsistent w → ((t : Taken) → o ≡ Some t → TakenOut w t) → arrived_at_host w class o ≡ Some w' → IsConsistent w'
+at_host_if w w' class None kept out is = absurd cc
+at_host_if w w' class (Some t) kept out is = at_host_as w w' class t (received_at_host t.frame) kept (out t refl) is
 
-pub kept_root : (w w' : World) (class : Class) → IsConsistent w → root w class ≡ Some w' → IsConsistent w'
-kept_root w w' class kept is =
-    rooted_if w w' class (taken w to_host class) kept (λ t e. taken_out_of w class (sender_of w.tree.links to_host) t (λ end from. sender_there w w.channels to_host end kept refl from) e) is
+pub kept_at_host : (w w' : World) (class : Class) → IsConsistent w → arrive_at_host w class ≡ Some w' → IsConsistent w'
+kept_at_host w w' class kept is =
+    at_host_if w w' class (taken w to_host class) kept (λ t e. taken_out_of w class (sender_of w.tree.links to_host) t (λ end from. sender_there w w.channels to_host end kept refl from) e) is
 
 -- ---- a function
 
@@ -174,16 +173,16 @@ otherwise_at_function : (w : World) (function : ℕ) (t : Taken) → IsConsisten
 otherwise_at_function w function t kept out =
     kept_alien w t (Function function) (place_of_function w.agents.domains function) (Ingress (to_function function)) kept out refl (kept_stray w t kept out)
 
-arrived_as : (w : World) (function : ℕ) (t : Taken) (e : Receipt) → IsConsistent w → TakenOut w t → IsConsistent (arrived_by w function t e)
-arrived_as w function t Relay kept out = otherwise_at_function w function t kept out
-arrived_as w function t Carry kept out = carried_at_function w t function kept out (alien_at_function w.agents function t.frame) (otherwise_at_function w function t kept out)
-arrived_as w function t Deliver kept out = delivered_to w t kept out (alien_at_function w.agents function t.frame) (otherwise_at_function w function t kept out)
-arrived_as w function t Nobody kept out = otherwise_at_function w function t kept out
+arrived_as : (w : World) (function : ℕ) (t : Taken) (e : Received) → IsConsistent w → TakenOut w t → IsConsistent (arrived_by w function t e)
+arrived_as w function t Received.Relayed kept out = otherwise_at_function w function t kept out
+arrived_as w function t Received.Request kept out = carried_at_function w t function kept out (alien_at_function w.agents function t.frame) (otherwise_at_function w function t kept out)
+arrived_as w function t Received.Completion kept out = delivered_to w t kept out (alien_at_function w.agents function t.frame) (otherwise_at_function w function t kept out)
+arrived_as w function t Received.Unknown kept out = otherwise_at_function w function t kept out
 
 arrived_if : (w w' : World) (function : ℕ) (o : Option Taken) → IsConsistent w → ((t : Taken) → o ≡ Some t → TakenOut w t) → arrived w function o ≡ Some w' → IsConsistent w'
 arrived_if w w' function None kept out is = absurd cc
 arrived_if w w' function (Some t) kept out is =
-    let e = receipt_at w function t.frame in subst IsConsistent (some_is (arrived_by w function t e) w' is) (arrived_as w function t e kept (out t refl))
+    let e = received_at w function t.frame in subst IsConsistent (some_is (arrived_by w function t e) w' is) (arrived_as w function t e kept (out t refl))
 
 arrives_if : (w w' : World) (b : Bool) (o : Option World) → cond b o None ≡ Some w' → o ≡ Some w'
 arrives_if w w' true o e = e

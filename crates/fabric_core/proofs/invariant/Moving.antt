@@ -60,12 +60,12 @@ received_by c c' (frame ∷ frames) e is =
 pub receive_moves : (c c' : Channel) → deliver c ≡ Some c' → Moved c c'
 receive_moves c c' is = received_by c c' c.wire refl is
 
-told_by : (c c' : Channel) (most : _) (b : Bool) → cond b None (some (record { start = c.start; left = most; egress = c.egress; wire = c.wire; ingress = c.ingress })) ≡ Some c' → Moved c c'
-told_by c c' most true is = absurd cc
-told_by c c' most false is = subst (Moved c) (some_is _ c' is) (unchanged (frames_on c))
+updated_by : (c c' : Channel) (most : _) (b : Bool) → cond b None (some (record { start = c.start; left = most; egress = c.egress; wire = c.wire; ingress = c.ingress })) ≡ Some c' → Moved c c'
+updated_by c c' most true is = absurd cc
+updated_by c c' most false is = subst (Moved c) (some_is _ c' is) (unchanged (frames_on c))
 
-pub tell_moves : (c c' : Channel) → update_fc c ≡ Some c' → Moved c c'
-tell_moves c c' is = let most = unspent c.start (c.wire ++ c.ingress) in told_by c c' most (same_counters c.left most) is
+pub update_fc_moves : (c c' : Channel) → update_fc c ≡ Some c' → Moved c c'
+update_fc_moves c c' is = let most = unspent c.start (c.wire ++ c.ingress) in updated_by c c' most (same_counters c.left most) is
 
 stepped : (w w' : World) (end : LinkEnd) (o : Option Channel) → IsConsistent w → IsThere w.channels end → ((c' : Channel) → o ≡ Some c' → Moved (channel_at w.channels end) c')
     → option_map (with_channels w) (option_map (with_channel w.channels end) o) ≡ Some w' → IsConsistent w'

@@ -15,7 +15,7 @@ use Rattle.port.specs.Turns.{PortView}
 use Rattle.topology.specs.Links.{sender_of}
 use Rattle.topology.specs.Topologies.{IsEnd}
 use Rattle.topology.specs.declared.nodes.LinkEnd.{LinkEnd}
-use Rattle.fabric_core.specs.Receipts.{Taken, taken_at, taken_from}
+use Rattle.fabric_core.specs.Arrivals.{Taken, taken_at, taken_from}
 use Rattle.fabric_core.specs.Invariant.{HasPorts, IsFree, IsConsistent, IsPlaced}
 use Rattle.fabric_core.specs.Places.{IsFlown, frames_from, frames_of}
 use Rattle.fabric_core.specs.World.{World, is_guarded}

@@ -25,7 +25,7 @@ use Rattle.outboxes.specs.Outboxes.{BoxView, boxes_of}
 use Rattle.domains.specs.Domains.{domain_at, fresh, place_of, starting_domains_among, starting_domains}
 use Rattle.topology.specs.Nodes.{ports_on}
 use Rattle.interconnect.specs.Kept as interconnect
-use Rattle.interconnect.specs.Starts.{function_outputs, idle_port, nodes_of, ports_of, root_outputs, start_of, switch_outputs, unused_below}
+use Rattle.interconnect.specs.Starts.{function_outputs, idle_port, nodes_of, ports_of, host_outputs, start_of, switch_outputs, unused_below}
 use Rattle.interconnect.specs.Views.{InterconnectView, channels_of}
 use Rattle.domains.specs.Agents.{AgentsView, IsSettled, agents_of, empty}
 use Rattle.fabric_core.specs.Invariant.{HasPorts, IsBuilt, IsFree, IsConsistent}
@@ -95,7 +95,7 @@ unused_outputs platform (port ∷ ports) = unused_outputs platform ports
 
 unused_nodes : (platform : Platform) → All IsUnused (nodes_of platform)
 unused_nodes platform =
-    All-cons IsUnused (root_outputs platform) (map (switch_outputs platform) platform.switches ++ map (function_outputs platform) platform.functions) refl
+    All-cons IsUnused (host_outputs platform) (map (switch_outputs platform) platform.switches ++ map (function_outputs platform) platform.functions) refl
     (All-append IsUnused (map (switch_outputs platform) platform.switches) (map (function_outputs platform) platform.functions)
     (All-map IsUnused (switch_outputs platform) platform.switches (all_of (λ switch. IsUnused (switch_outputs platform switch)) platform.switches (λ switch. unused_outputs platform (ports_on platform.ports (internal_bus switch)))))
     (All-map IsUnused (function_outputs platform) platform.functions (all_of (λ function. IsUnused (function_outputs platform function)) platform.functions (λ function. refl))))

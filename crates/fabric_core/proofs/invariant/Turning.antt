@@ -24,7 +24,7 @@ use Rattle.topology.specs.declared.places.PortPlace.{PortPlace}
 use Rattle.link.specs.Channels.{with_egress}
 use Rattle.interconnect.specs.Moves.{channel_at, put_at}
 use Rattle.interconnect.specs.Passes.{index_of, no_place, no_port}
-use Rattle.fabric_core.specs.Receipts.{Taken, taken_at}
+use Rattle.fabric_core.specs.Arrivals.{Taken, taken_at}
 use Rattle.fabric_core.specs.Invariant.{IsFree, IsConsistent, IsPlaced}
 use Rattle.switch_output.specs.Vetted.{may_go_on}
 use Rattle.fabric_core.specs.Passing.{Site, answer_waits, answered_at, is_full_at, kept_by, output_end, passed, passed_at, passed_by, passed_number, port_number, refused_by, site_at, strayed, turned}

@@ -32,10 +32,9 @@ use Rattle.fabric_core.specs.Aliens.{alien_at_function, or_else, to_function}
 use Rattle.fabric_core.specs.Events.{link_of}
 use Rattle.fabric_core.specs.Invariant.{IsConsistent}
 use Rattle.fabric_core.specs.MovesLeft.{is_request, moves_left, moves_of}
-use Rattle.fabric_core.specs.Receipts.{Taken, arrive, arrived, arrived_by, ended, receipt_at, taken, taken_at}
-use Rattle.received.specs.declared.receipt.Receipt.{Receipt}
-use Rattle.received.specs.declared.receipt.Receipt.TheVariants.{Carry, Deliver, Nobody, Relay}
-use Rattle.received.specs.Receipts.{receipt_by_function}
+use Rattle.fabric_core.specs.Arrivals.{Taken, arrive, arrived, arrived_by, ended, received_at, taken, taken_at}
+use Rattle.received.specs.declared.received.Received.{Received}
+use Rattle.received.specs.Received.{received_by_function}
 use Rattle.fabric_core.specs.World.{World}
 use Rattle.fabric_core.proofs.invariant.Settling.{share_at}
 use Rattle.fabric_core.proofs.moves.Ahead.{IsLaid, quiet_few, request_more}
@@ -56,12 +55,12 @@ abbrev header_of : List ℕ → Parties → Header
 header_of bytes parties = header_unless (malformed bytes) parties bytes
 
 module _ (ports : List DownstreamPort) (function : ℕ) (bytes : List ℕ) where
-  directly : (sender requester address : ℕ) (address_type : AddressType) (b : Bool) → goes_directly ports sender address function ≡ b → cond b Carry Nobody ≡ Carry → header_of bytes (Upward sender) ≡ header.Memory requester address_type address
+  directly : (sender requester address : ℕ) (address_type : AddressType) (b : Bool) → goes_directly ports sender address function ≡ b → cond b Received.Request Received.Unknown ≡ Received.Request → header_of bytes (Upward sender) ≡ header.Memory requester address_type address
       → IsCarried ports bytes (Upward sender) (header.Memory requester address_type address)
   directly sender requester address address_type true e is same = record { asks = refl; elsewhere = goes_directly_elsewhere ports sender bytes (Upward sender) requester address address_type function same e }
   directly sender requester address address_type false e is same = absurd cc
 
-  carried : (parties : Parties) (h : Header) → header_of bytes parties ≡ h → receipt_by_function ports function parties h ≡ Carry → IsCarried ports bytes parties h
+  carried : (parties : Parties) (h : Header) → header_of bytes parties ≡ h → received_by_function ports function parties h ≡ Received.Request → IsCarried ports bytes parties h
   carried parties header.Malformed same e = absurd cc
   carried (Upward sender) (header.Memory requester address_type address) same e = directly sender requester address address_type (goes_directly ports sender address function) refl e same
   carried (Downward completer) (header.Memory requester address_type address) same e = record { asks = refl; elsewhere = tt }
@@ -119,16 +118,16 @@ module _ (w : World) (kept : IsConsistent w) (laid : IsLaid w) (function : ℕ) 
 
     -- ---- an entry of its home
 
-    carried_here : receipt_by_function w.routes.ports function t.frame.head.parties t.frame.head.header ≡ Carry → IsCarried w.routes.ports taken.flown.emission.bytes t.frame.head.parties t.frame.head.header
+    carried_here : received_by_function w.routes.ports function t.frame.head.parties t.frame.head.header ≡ Received.Request → IsCarried w.routes.ports taken.flown.emission.bytes t.frame.head.parties t.frame.head.header
     carried_here e =
         let parties : t.frame.head.parties ≡ taken.flown.emission.parties = ap (λ (x : Descriptor). x.head.parties) taken.flown.shown in
         let same : header_of taken.flown.emission.bytes t.frame.head.parties ≡ t.frame.head.header = ap (header_of taken.flown.emission.bytes) parties ∙ sym (ap (λ (x : Descriptor). x.head.header) taken.flown.shown) in
         carried w.routes.ports function taken.flown.emission.bytes t.frame.head.parties t.frame.head.header same e
 
-    answered : receipt_by_function w.routes.ports function t.frame.head.parties t.frame.head.header ≡ Carry → (m : Made) (answer : Descriptor) → made w.agents.domains t.frame.domain (entry.Carry t.frame.number) ≡ Some m → m.sent ≡ Some answer
+    answered : received_by_function w.routes.ports function t.frame.head.parties t.frame.head.header ≡ Received.Request → (m : Made) (answer : Descriptor) → made w.agents.domains t.frame.domain (entry.Carry t.frame.number) ≡ Some m → m.sent ≡ Some answer
         → (is_request answer.head.header ≡ false) × (is_request t.frame.head.header ≡ true)
-    answered receipt m answer e sent =
-        let here = carried_here receipt in
+    answered received m answer e sent =
+        let here = carried_here received in
         let s = sent_by w.agents.domains (entry.Carry t.frame.number) (place_of w.agents.domains t.frame.domain) m answer e sent in
         let flown = flying w.agents.domains t.frame taken.flown s.number s.d s.at_number s.at in
         let ports : s.d.share.ports ≡ w.routes.ports = share_at w.routes.ports w.agents.domains s.number s.d kept.shares s.at in
@@ -139,33 +138,33 @@ module _ (w : World) (kept : IsConsistent w) (laid : IsLaid w) (function : ℕ) 
           here.asks,
         )
 
-    enters : (b : Bool) → (b ≡ true → receipt_by_function w.routes.ports function t.frame.head.parties t.frame.head.header ≡ Carry)
+    enters : (b : Bool) → (b ≡ true → received_by_function w.routes.ports function t.frame.head.parties t.frame.head.header ≡ Received.Request)
         → Fewer (ended w t (or_else (emitted_if w.agents (Function function) (cond b (made w.agents.domains t.frame.domain (entry.Carry t.frame.number)) None)) (alien_at_function w.agents function t.frame)))
-    enters false receipt = alien
-    enters true receipt = go (made w.agents.domains t.frame.domain (entry.Carry t.frame.number)) refl
+    enters false received = alien
+    enters true received = go (made w.agents.domains t.frame.domain (entry.Carry t.frame.number)) refl
       where
         go : (o : Option Made) → made w.agents.domains t.frame.domain (entry.Carry t.frame.number) ≡ o → Fewer (ended w t (or_else (emitted_if w.agents (Function function) o) (alien_at_function w.agents function t.frame)))
         go None e = alien
-        go (Some m) e = joined_fewer w laid (to_function function) t taken m.domains (Function function) m.sent (sent_less m.sent (λ answer sent. answered (receipt refl) m answer e sent))
+        go (Some m) e = joined_fewer w laid (to_function function) t taken m.domains (Function function) m.sent (sent_less m.sent (λ answer sent. answered (received refl) m answer e sent))
 
     delivers : (o : Option Made) → Fewer (ended w t (or_else (option_map (λ (m : Made). record { domains = m.domains; outboxes = w.agents.outboxes }) o) (alien_at_function w.agents function t.frame)))
     delivers None = alien
     delivers (Some m) = gone_fewer w laid (to_function function) t taken m.domains
 
-    -- of its own domain it has the entry that the receipt says
-    in_domain : (b : Bool) (r : Receipt) → cond b r Nobody ≡ Carry → r ≡ Carry
+    -- of its own domain it has the entry of what was received
+    in_domain : (b : Bool) (r : Received) → cond b r Received.Unknown ≡ Received.Request → r ≡ Received.Request
     in_domain true r e = e
     in_domain false r e = absurd cc
 
-    ends : (r : Receipt) → receipt_at w function t.frame ≡ r → Fewer (arrived_by w function t r)
-    ends Relay e = alien
-    ends Carry e = enters (is_function_of w.agents.domains function t.frame.domain) (λ own. in_domain (is_function_of w.agents.domains function t.frame.domain) (receipt_by_function w.routes.ports function t.frame.head.parties t.frame.head.header) e)
-    ends Deliver e = delivers (made w.agents.domains t.frame.domain (entry.Deliver t.frame.number))
-    ends Nobody e = alien
+    ends : (r : Received) → received_at w function t.frame ≡ r → Fewer (arrived_by w function t r)
+    ends Received.Relayed e = alien
+    ends Received.Request e = enters (is_function_of w.agents.domains function t.frame.domain) (λ own. in_domain (is_function_of w.agents.domains function t.frame.domain) (received_by_function w.routes.ports function t.frame.head.parties t.frame.head.header) e)
+    ends Received.Completion e = delivers (made w.agents.domains t.frame.domain (entry.Deliver t.frame.number))
+    ends Received.Unknown e = alien
 
   by_taken : (o : Option Taken) → ((t : Taken) → o ≡ Some t → IsTakenFrom w (to_function function) t) → (v : World) → arrived w function o ≡ Some v → Fewer v
   by_taken None taken v e = absurd cc
-  by_taken (Some t) taken v e = subst Fewer (same_Some _ v e) (ends t (taken t refl) (receipt_at w function t.frame) refl)
+  by_taken (Some t) taken v e = subst Fewer (same_Some _ v e) (ends t (taken t refl) (received_at w function t.frame) refl)
 
   by_sender : (class : Class) (found : Option LinkEnd) → sender_of w.tree.links (to_function function) ≡ found → (v : World) → arrived w function (taken_at w.channels class found) ≡ Some v → Fewer v
   by_sender class None from v e = absurd cc

@@ -22,10 +22,9 @@ use Rattle.fabric_core.specs.Aliens.{alien_at_host, or_else}
 use Rattle.received.specs.Receivers.{receiver_at_host}
 use Rattle.fabric_core.specs.Invariant.{IsConsistent}
 use Rattle.fabric_core.specs.MovesLeft.{is_request, moves_left, moves_of}
-use Rattle.fabric_core.specs.Receipts.{Taken, agents_by_host, ended, from_host, relayed, root, rooted, rooted_by, taken, taken_at, to_host}
-use Rattle.received.specs.declared.receipt.Receipt.{Receipt}
-use Rattle.received.specs.declared.receipt.Receipt.TheVariants.{Carry, Deliver, Nobody, Relay}
-use Rattle.received.specs.Receipts.{completion_at_host, receipt_at_host, receipt_by_host}
+use Rattle.fabric_core.specs.Arrivals.{Taken, agents_by_host, ended, from_host, relayed, arrive_at_host, arrived_at_host, arrived_at_host_by, taken, taken_at, to_host}
+use Rattle.received.specs.declared.received.Received.{Received}
+use Rattle.received.specs.Received.{completion_at_host, received_at_host, received_by_host}
 use Rattle.fabric_core.specs.World.{World, with_channels}
 use Rattle.fabric_core.proofs.invariant.Renewing.{sender_there}
 use Rattle.fabric_core.proofs.moves.Ahead.{IsLaid, down_few, request_up}
@@ -35,15 +34,15 @@ use Rattle.fabric_core.proofs.moves.Sent.{alien_made, alien_request, sent_by}
 use Rattle.fabric_core.proofs.moves.Taking.{IsTakenFrom, gone_fewer, joined_fewer, on_fewer, stray_fewer, taken_by}
 
 -- what it carries is a request
-not_carried : (domain target : ℕ) → completion_at_host domain target ≡ Carry → ⊥
+not_carried : (domain target : ℕ) → completion_at_host domain target ≡ Received.Request → ⊥
 not_carried domain target e = go (bus_of target == 0) (target == host_of domain) e
   where
-    go : (a b : Bool) → cond a (cond b Deliver Nobody) Relay ≡ Carry → ⊥
+    go : (a b : Bool) → cond a (cond b Received.Completion Received.Unknown) Received.Relayed ≡ Received.Request → ⊥
     go true true e = cc
     go true false e = cc
     go false b e = cc
 
-carried_request : (domain : ℕ) (parties : Parties) (h : Header) → receipt_by_host domain parties h ≡ Carry → is_request h ≡ true
+carried_request : (domain : ℕ) (parties : Parties) (h : Header) → received_by_host domain parties h ≡ Received.Request → is_request h ≡ true
 carried_request domain parties header.Malformed e = absurd cc
 carried_request domain parties (header.Memory requester address_type address) e = refl
 carried_request domain parties (header.OtherRequest requester) e = refl
@@ -88,13 +87,13 @@ module _ (w : World) (kept : IsConsistent w) (laid : IsLaid w) where
     delivers None other otherwise = otherwise
     delivers (Some m) other otherwise = gone_fewer w laid to_host t taken m.domains
 
-    ends : (r : Receipt) → receipt_at_host t.frame ≡ r → Fewer (ended w t (agents_by_host w.routes.ports w.agents t.frame r))
-    ends Relay e = alien
-    ends Carry e =
+    ends : (r : Received) → received_at_host t.frame ≡ r → Fewer (ended w t (agents_by_host w.routes.ports w.agents t.frame r))
+    ends Received.Relayed e = alien
+    ends Received.Request e =
         entered t.frame.domain (made w.agents.domains t.frame.domain (entry.Carry t.frame.number)) (alien_at_host w.routes.ports w.agents t.frame)
         (λ m answer is sent. carried_request t.frame.domain t.frame.head.parties t.frame.head.header e) alien
-    ends Deliver e = delivers (made w.agents.domains t.frame.domain (entry.Deliver t.frame.number)) (alien_at_host w.routes.ports w.agents t.frame) alien
-    ends Nobody e = alien
+    ends Received.Completion e = delivers (made w.agents.domains t.frame.domain (entry.Deliver t.frame.number)) (alien_at_host w.routes.ports w.agents t.frame) alien
+    ends Received.Unknown e = alien
 
     -- ---- it goes down again
 
@@ -108,19 +107,19 @@ module _ (w : World) (kept : IsConsistent w) (laid : IsLaid w) where
     relays_from class None from v e = absurd cc
     relays_from class (Some end) from v e = relays end from (is_full class (channel_at w.channels end)) v e
 
-    takes : (class : Class) (r : Receipt) → receipt_at_host t.frame ≡ r → (v : World) → rooted_by w class t r ≡ Some v → Fewer v
-    takes class Relay is v e = relays_from class (sender_of w.tree.links from_host) refl v e
-    takes class Carry is v e = subst Fewer (same_Some _ v e) (ends Carry is)
-    takes class Deliver is v e = subst Fewer (same_Some _ v e) (ends Deliver is)
-    takes class Nobody is v e = subst Fewer (same_Some _ v e) (ends Nobody is)
+    takes : (class : Class) (r : Received) → received_at_host t.frame ≡ r → (v : World) → arrived_at_host_by w class t r ≡ Some v → Fewer v
+    takes class Received.Relayed is v e = relays_from class (sender_of w.tree.links from_host) refl v e
+    takes class Received.Request is v e = subst Fewer (same_Some _ v e) (ends Received.Request is)
+    takes class Received.Completion is v e = subst Fewer (same_Some _ v e) (ends Received.Completion is)
+    takes class Received.Unknown is v e = subst Fewer (same_Some _ v e) (ends Received.Unknown is)
 
-  by_taken : (class : Class) (o : Option Taken) → ((t : Taken) → o ≡ Some t → IsTakenFrom w to_host t) → (v : World) → rooted w class o ≡ Some v → Fewer v
+  by_taken : (class : Class) (o : Option Taken) → ((t : Taken) → o ≡ Some t → IsTakenFrom w to_host t) → (v : World) → arrived_at_host w class o ≡ Some v → Fewer v
   by_taken class None taken v e = absurd cc
-  by_taken class (Some t) taken v e = takes t (taken t refl) class (receipt_at_host t.frame) refl v e
+  by_taken class (Some t) taken v e = takes t (taken t refl) class (received_at_host t.frame) refl v e
 
-  by_sender : (class : Class) (found : Option LinkEnd) → sender_of w.tree.links to_host ≡ found → (v : World) → rooted w class (taken_at w.channels class found) ≡ Some v → Fewer v
+  by_sender : (class : Class) (found : Option LinkEnd) → sender_of w.tree.links to_host ≡ found → (v : World) → arrived_at_host w class (taken_at w.channels class found) ≡ Some v → Fewer v
   by_sender class None from v e = absurd cc
   by_sender class (Some end) from v e = by_taken class (taken_at w.channels class (Some end)) (λ t is. taken_by w kept laid class to_host end from t is) v e
 
-  pub root_fewer : (class : Class) (v : World) → root w class ≡ Some v → Fewer v
-  root_fewer class v e = by_sender class (sender_of w.tree.links to_host) refl v e
+  pub at_host_fewer : (class : Class) (v : World) → arrive_at_host w class ≡ Some v → Fewer v
+  at_host_fewer class v e = by_sender class (sender_of w.tree.links to_host) refl v e

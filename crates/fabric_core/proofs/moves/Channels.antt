@@ -1,5 +1,5 @@
 -- What each step of one direction of a link makes of its moves: what is sent or delivered has one less, and so has a direction
--- of which credits are told (PCIe 4.0, 2.6.1).
+-- of which credits are returned (PCIe 4.0, 2.6.1).
 use Rattle.std.proofs.Common.{◌≡◌, ◌+◌, ◌*◌, ◌<◌, ◌≤◌, Bool, true, false, cond, List, [], ◌∷◌, ◌++◌, Option, Some, None, refl, ap, ◌∙◌, subst, arith, eq-eqb}
 use Rattle.std.specs.List.{sum_by}
 use Rattle.std.proofs.lemmas.Bool.{and_from}
@@ -12,7 +12,7 @@ use Rattle.platform.specs.declared.parts.Switch.{Switch}
 use Rattle.lane.specs.Lanes.{Class, eligible}
 use Rattle.link.specs.Channels.{Channel, deliver, has_room, received_of, same_counters, send, sent_on, spent, unspent, update_fc, with_egress}
 use Rattle.interconnect.specs.Moves.{with_ingress}
-use Rattle.fabric_core.specs.MovesLeft.{moves_of, moves_on, untold}
+use Rattle.fabric_core.specs.MovesLeft.{moves_of, moves_on, unreturned}
 use Rattle.fabric_core.proofs.moves.Sums.{sum_taken}
 
 pub at_most_one : (b : Bool) → cond b 0 1 ≤ 1
@@ -25,9 +25,9 @@ same_again c =
     (and_from _ _ (and_from _ _ (eq-eqb c.non_posted.headers c.non_posted.headers refl) (eq-eqb c.non_posted.payload c.non_posted.payload refl))
     (and_from _ _ (eq-eqb c.completion.headers c.completion.headers refl) (eq-eqb c.completion.payload c.completion.payload refl)))
 
--- no credits are to be told where the sender has all that the receiver gave
-pub none_told : (c : Channel) → c.left ≡ unspent c.start (c.wire ++ c.ingress) → untold c ≡ 0
-none_told c is = ap (λ (b : Bool). cond b 0 1) (ap (λ (k : Counters). same_counters k (unspent c.start (c.wire ++ c.ingress))) is ∙ same_again (unspent c.start (c.wire ++ c.ingress)))
+-- no credits are to be returned where the sender has all that the receiver gave
+pub none_unreturned : (c : Channel) → c.left ≡ unspent c.start (c.wire ++ c.ingress) → unreturned c ≡ 0
+none_unreturned c is = ap (λ (b : Bool). cond b 0 1) (ap (λ (k : Counters). same_counters k (unspent c.start (c.wire ++ c.ingress))) is ∙ same_again (unspent c.start (c.wire ++ c.ingress)))
 
 module _ (switches : List Switch) where
   -- ---- what waits
@@ -87,14 +87,14 @@ module _ (switches : List Switch) where
   deliver_fewer direction c c' is = received_by direction c c' c.wire refl is
 
   -- the sender learns what it may have
-  pub tell_fewer : (direction : Direction) (c c' : Channel) → update_fc c ≡ Some c' → Fewer direction c c'
+  pub update_fc_fewer : (direction : Direction) (c c' : Channel) → update_fc c ≡ Some c' → Fewer direction c c'
   unfolding moves_on
-  tell_fewer direction c c' is = by (same_counters c.left (unspent c.start (c.wire ++ c.ingress))) refl is
+  update_fc_fewer direction c c' is = by (same_counters c.left (unspent c.start (c.wire ++ c.ingress))) refl is
     where
       fewer : same_counters c.left (unspent c.start (c.wire ++ c.ingress)) ≡ false → Fewer direction c (record { start = c.start; left = unspent c.start (c.wire ++ c.ingress); egress = c.egress; wire = c.wire; ingress = c.ingress })
       fewer new =
-          let before : untold c ≡ 1 = ap (λ (b : Bool). cond b 0 1) new in
-          let after = none_told (record { start = c.start; left = unspent c.start (c.wire ++ c.ingress); egress = c.egress; wire = c.wire; ingress = c.ingress }) refl in
+          let before : unreturned c ≡ 1 = ap (λ (b : Bool). cond b 0 1) new in
+          let after = none_unreturned (record { start = c.start; left = unspent c.start (c.wire ++ c.ingress); egress = c.egress; wire = c.wire; ingress = c.ingress }) refl in
           omega (arith, before, after)
 
       by : (b : Bool) → same_counters c.left (unspent c.start (c.wire ++ c.ingress)) ≡ b → cond b None (Some (record { start = c.start; left = unspent c.start (c.wire ++ c.ingress); egress = c.egress; wire = c.wire; ingress = c.ingress })) ≡ Some c' → Fewer direction c c'

@@ -1,4 +1,4 @@
--- Packets that move within a link, or onto it, and credits that are told: fewer moves are left.
+-- Packets that move within a link, or onto it, and credits that are returned: fewer moves are left.
 use Rattle.std.proofs.Common.{◌≡◌, ◌<◌, Bool, true, false, cond, List, Option, Some, None, refl, sym, ap, subst, arith}
 use Rattle.std.specs.Prelude.{option_map}
 use Rattle.std.specs.Option.{option_and_then}

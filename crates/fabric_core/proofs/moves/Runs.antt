@@ -16,10 +16,10 @@ use Rattle.fabric_core.specs.TakenOut.{is_moved}
 use Rattle.fabric_core.specs.World.{World, world_of}
 use Rattle.fabric_core.proofs.moves.Ahead.{IsLaid, is_laid}
 use Rattle.fabric_core.proofs.moves.AtFunctions.{arrive_fewer}
-use Rattle.fabric_core.proofs.moves.AtHost.{root_fewer}
+use Rattle.fabric_core.proofs.moves.AtHost.{at_host_fewer}
 use Rattle.fabric_core.proofs.moves.Begins.{begin_adds}
-use Rattle.fabric_core.proofs.moves.Channels.{deliver_fewer, send_fewer, tell_fewer}
-use Rattle.fabric_core.proofs.moves.Losses.{pass_fewer}
+use Rattle.fabric_core.proofs.moves.Channels.{deliver_fewer, send_fewer, update_fc_fewer}
+use Rattle.fabric_core.proofs.moves.Misroutes.{pass_fewer}
 use Rattle.fabric_core.proofs.moves.OnLinks.{enter_fewer, step_fewer}
 use Rattle.fabric_core.proofs.moves.Starts.{none_left}
 use Rattle.fabric_core.proofs.progress.Drained.{IsAfterRun, after_run, at_start}
@@ -33,8 +33,8 @@ move_fewer w kept laid (Enter origin class) is v e = enter_fewer w kept laid ori
 move_fewer w kept laid (Pass port class) is v e = pass_fewer w kept laid port class v e
 move_fewer w kept laid (Send direction class) is v e = step_fewer w kept laid direction (send class) (λ c c' s. send_fewer w.routes.switches direction class c c' s) v e
 move_fewer w kept laid (Take direction) is v e = step_fewer w kept laid direction deliver (λ c c' s. deliver_fewer w.routes.switches direction c c' s) v e
-move_fewer w kept laid (Credit direction) is v e = step_fewer w kept laid direction update_fc (λ c c' s. tell_fewer w.routes.switches direction c c' s) v e
-move_fewer w kept laid (Root class) is v e = root_fewer w kept laid class v e
+move_fewer w kept laid (Credit direction) is v e = step_fewer w kept laid direction update_fc (λ c c' s. update_fc_fewer w.routes.switches direction c c' s) v e
+move_fewer w kept laid (Root class) is v e = at_host_fewer w kept laid class v e
 move_fewer w kept laid (Arrive function class) is v e = arrive_fewer w kept laid function class v e
 
 -- ---- counting them

@@ -15,16 +15,16 @@ use Rattle.outboxes.specs.Outboxes.{BoxView, boxes_of}
 use Rattle.topology.specs.declared.links.Link.{Link}
 use Rattle.topology.specs.Links.{links_of}
 use Rattle.topology.specs.Nodes.{ports_on}
-use Rattle.interconnect.specs.Starts.{first_credits, function_outputs, nodes_of, root_outputs, switch_outputs}
+use Rattle.interconnect.specs.Starts.{first_credits, function_outputs, nodes_of, host_outputs, switch_outputs}
 use Rattle.interconnect.specs.Views.{channels_of, unused}
 use Rattle.fabric_core.specs.MovesLeft.{box_moves, direction_from, link_moves, moves_left, moves_on, node_moves, output_moves, sum_from, waiting_moves}
 use Rattle.fabric_core.specs.World.{world_of}
-use Rattle.fabric_core.proofs.moves.Channels.{none_told}
+use Rattle.fabric_core.proofs.moves.Channels.{none_unreturned}
 
 module _ (switches : List Switch) where
   none_on : (direction : Option Direction) (limits : Counters) → moves_on switches direction (channel (unused limits)) ≡ 0
   unfolding moves_on
-  none_on direction limits = let told = none_told (channel (unused limits)) refl in omega (arith, told)
+  none_on direction limits = let unreturned_none = none_unreturned (channel (unused limits)) refl in omega (arith, unreturned_none)
 
   none_wait : (boxes : List BoxView) → waiting_moves switches (map empty boxes) ≡ 0
   unfolding waiting_moves
@@ -61,7 +61,7 @@ module _ (switches : List Switch) where
 
     none_at_start : (platform : Platform) → AreLanes (nodes_of platform)
     none_at_start platform =
-        lanes_cons (root_outputs platform) _ (lane_cons (first_credits (credits_of platform (id_of 1 0 0))) [] no_lane)
+        lanes_cons (host_outputs platform) _ (lane_cons (first_credits (credits_of platform (id_of 1 0 0))) [] no_lane)
         (lanes_before (switch_outputs platform) platform.switches _
         (λ switch. lane_cons (first_credits (credits_of platform switch.id)) _ (lane_map (λ (port : DownstreamPort). first_credits (credits_of platform (id_below port))) (ports_on platform.ports (internal_bus switch))))
         (lanes_map (function_outputs platform) platform.functions (λ function. lane_cons (first_credits (credits_of platform function.id)) [] no_lane)))

@@ -1,4 +1,4 @@
--- A packet is taken from a receiver: the moves that it had there are gone, but the credits of its direction may be to be told.
+-- A packet is taken from a receiver: the moves that it had there are gone, but the credits of its direction may be to be returned.
 use Rattle.std.proofs.Common.{◌≡◌, true, false, ◌+◌, ◌*◌, ◌<◌, ◌≤◌, List, Option, Some, None, refl, ap, subst, arith}
 use Rattle.std.specs.Prelude.{option_map}
 use Rattle.std.proofs.lemmas.Option.{same_Some}
@@ -14,7 +14,7 @@ use Rattle.interconnect.specs.Moves.{channel_at, put_at}
 use Rattle.fabric_core.specs.Invariant.{IsConsistent}
 use Rattle.fabric_core.specs.MovesLeft.{direction_from, is_request, link_moves, moves_left, moves_of}
 use Rattle.fabric_core.specs.Places.{IsFlown}
-use Rattle.fabric_core.specs.Receipts.{Taken, taken_at, taken_from}
+use Rattle.fabric_core.specs.Arrivals.{Taken, taken_at, taken_from}
 use Rattle.fabric_core.specs.Passing.{answered_at}
 use Rattle.fabric_core.specs.World.{World, with_both, with_stray}
 use Rattle.fabric_core.proofs.invariant.Renewing.{TakenOut, sender_there, taken_flown, taken_out_of}

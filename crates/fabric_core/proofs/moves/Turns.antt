@@ -21,7 +21,7 @@ use Rattle.switch_output.specs.Vetted.{may_go_on}
 use Rattle.fabric_core.specs.Invariant.{IsConsistent}
 use Rattle.fabric_core.specs.MovesLeft.{moves_left}
 use Rattle.fabric_core.specs.Passing.{Site, answer_waits, is_full_at, output_end, passed, passed_by, passed_number, refused_by, site_at, strayed, turned}
-use Rattle.fabric_core.specs.Receipts.{Taken, taken_at}
+use Rattle.fabric_core.specs.Arrivals.{Taken, taken_at}
 use Rattle.fabric_core.specs.World.{World, with_channels}
 use Rattle.fabric_core.proofs.effect.Answered.{only_non_posted_are_answered}
 use Rattle.fabric_core.proofs.effect.Courses.{course_within}

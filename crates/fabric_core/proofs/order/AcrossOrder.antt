@@ -1,4 +1,4 @@
--- Two kinds of packets that go directly from one function to another stay in turn on their way through every deed, and the
+-- Two kinds of packets that go directly from one function to another stay in turn on their way through every motion, and the
 -- second isn't taken out of flight before the first.
 use Rattle.std.proofs.Common.{◌≡◌, ◌≢◌, inl, inr, ℕ, Bool, true, false, List, ◌∷◌, ◌++◌, Option, Some, None, refl, sym, ap, ◌∙◌, subst, arith, ⊎_elim}
 use Rattle.std.specs.Prelude.{All}
@@ -39,7 +39,7 @@ use Rattle.fabric_core.specs.Soundness.{IsGuardedFabric}
 use Rattle.fabric_core.specs.Trails.{In, InOrderOnWay, across, down, from_function, standing_at, up}
 use Rattle.fabric_core.specs.World.{World}
 use Rattle.fabric_core.proofs.invariant.Changing.{all_front}
-use Rattle.fabric_core.proofs.order.Deeds.{Finishes, IsLast, Leaps}
+use Rattle.fabric_core.proofs.order.Motions.{Finishes, IsLast, Leaps}
 use Rattle.fabric_core.proofs.order.WayOrder.{IsNo, moved_stood, none_older, not_taken, stood, order_along, order_moved}
 use Rattle.fabric_core.proofs.order.AtPlaces.{Leaving, MayPass, Moving, Standings}
 use Rattle.fabric_core.proofs.order.Tracks.{above_switch, across_above, across_distinct, across_down, across_enters, across_received, across_rises, across_sent, across_turns}

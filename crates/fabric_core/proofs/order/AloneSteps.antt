@@ -25,8 +25,8 @@ use Rattle.fabric_core.specs.Places.{flown, is_numbered}
 use Rattle.fabric_core.specs.Soundness.{IsGuardedFabric}
 use Rattle.fabric_core.specs.Trails.{InOrderOnWay, never, standing_at}
 use Rattle.fabric_core.specs.World.{World, is_guarded}
-use Rattle.fabric_core.proofs.order.AfterDeeds.{After, Keeps, after_deed}
-use Rattle.fabric_core.proofs.order.DeedOf.{deed_of}
+use Rattle.fabric_core.proofs.order.AfterMotions.{After, Keeps, after_motion}
+use Rattle.fabric_core.proofs.order.MotionOf.{motion_of}
 use Rattle.fabric_core.proofs.order.DownwardOrder.{down_goes}
 use Rattle.fabric_core.proofs.invariant.Flying.{one_if, within}
 use Rattle.fabric_core.proofs.soundness.Guarded.{guarded_after}
@@ -115,4 +115,4 @@ way_kept w w' event fabric guarded moved place d d' at at' n first listed posted
         let g = fabric.guarded guarded in
         let g' = guarded_after w w' event fabric.kept g moved in
         stays w w' fabric guarded place d d' at at' g' n first listed posted e flies places
-        (after_deed w w' g places (is_numbered d.share.domain n) never (keeps w w' fabric guarded place d d' at at' g' n first listed posted e flies places goes) (deed_of w w' event fabric.kept g moved) turn) then
+        (after_motion w w' g places (is_numbered d.share.domain n) never (keeps w w' fabric guarded place d d' at at' g' n first listed posted e flies places goes) (motion_of w w' event fabric.kept g moved) turn) then

@@ -17,7 +17,7 @@ use Rattle.ordering.proofs.Leaving.{taken_leaves}
 use Rattle.lane.specs.Lanes.{Class, class_of, eligible}
 use Rattle.topology.specs.declared.links.Link.{Link}
 use Rattle.fabric_core.specs.Trails.{standing_in}
-use Rattle.fabric_core.proofs.order.Deeds.{JoiningIf}
+use Rattle.fabric_core.proofs.order.Motions.{JoiningIf}
 use Rattle.fabric_core.proofs.invariant.Settling.{origins_stay, replaced}
 use Rattle.fabric_core.proofs.soundness.SoundBoxes.{either_waiting}
 use Rattle.fabric_core.proofs.order.AtPlaces.{Joining, Leaving}

@@ -1,4 +1,4 @@
--- Two kinds of packets from a domain's host to one function stay in turn on the way down through every deed, and the
+-- Two kinds of packets from a domain's host to one function stay in turn on the way down through every motion, and the
 -- second isn't taken out of flight before the first.
 use Rattle.std.proofs.Common.{◌≡◌, inl, inr, ℕ, Bool, true, false, List, ◌∷◌, ◌++◌, refl, sym, ap, ◌∙◌, subst, ⊎_elim}
 use Rattle.std.specs.Prelude.{All}
@@ -24,7 +24,7 @@ use Rattle.fabric_core.specs.Soundness.{IsGuardedFabric}
 use Rattle.fabric_core.specs.Trails.{In, InOrderOnWay, down, from_host, standing_at, up}
 use Rattle.fabric_core.specs.World.{World}
 use Rattle.fabric_core.proofs.invariant.Changing.{all_front}
-use Rattle.fabric_core.proofs.order.Deeds.{Finishes, IsLast, Leaps}
+use Rattle.fabric_core.proofs.order.Motions.{Finishes, IsLast, Leaps}
 use Rattle.fabric_core.proofs.order.WayOrder.{IsNo, moved_stood, none_older, not_taken, stood, order_along, order_moved}
 use Rattle.fabric_core.proofs.order.AtPlaces.{Leaving, MayPass, Moving, Standings}
 use Rattle.fabric_core.proofs.order.Tracks.{host_distinct, host_enters, host_falls, host_first, host_ingress, host_received, host_sent}

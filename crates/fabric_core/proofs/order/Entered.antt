@@ -17,7 +17,7 @@ use Rattle.domain.proofs.Sending.{sent_after}
 use Rattle.platform.specs.Platform.{Platform}
 use Rattle.domains.specs.Domains.{Made, after, made_at, place_of}
 use Rattle.fabric_core.specs.World.{World}
-use Rattle.fabric_core.proofs.order.Deeds.{Deed}
+use Rattle.fabric_core.proofs.order.Motions.{Motion}
 use Rattle.fabric_core.proofs.invariant.Flying.{one_if, within}
 use Rattle.fabric_core.proofs.invariant.Settling.{either_there, made_from}
 
@@ -46,13 +46,13 @@ was_made ds ds' entry o m is domains place d' at = let b = made_from ds entry o 
     by (inl here) = let b = made_from ds entry o m is in record { d = b.d; at = ap (slice_get ds) here.0 ∙ b.at; stepped = Stepped.More entry b.c b.legal here.1 }
     by (inr other) = record { d = d'; at = other; stepped = Stepped.Same refl }
 
-pub before : (platform : Platform) (w w' : World) → Deed platform w w' → (place : ℕ) (d' : DomainView) → slice_get w'.agents.domains place ≡ Some d' → Before w.agents.domains place d'
-before platform w w' (Deed.Stays same domains) place d' at = was_same w.agents.domains w'.agents.domains place d' domains at
-before platform w w' (Deed.Goes source target frame leaps mv domains) place d' at = was_same w.agents.domains w'.agents.domains place d' domains at
-before platform w w' (Deed.Begins entry o from m starts is j domains) place d' at = was_made w.agents.domains w'.agents.domains entry o m is domains place d' at
-before platform w w' (Deed.Ends direction entry target frame m between finishes f is l j domains) place d' at =
+pub before : (platform : Platform) (w w' : World) → Motion platform w w' → (place : ℕ) (d' : DomainView) → slice_get w'.agents.domains place ≡ Some d' → Before w.agents.domains place d'
+before platform w w' (Motion.Stays same domains) place d' at = was_same w.agents.domains w'.agents.domains place d' domains at
+before platform w w' (Motion.Goes source target frame leaps mv domains) place d' at = was_same w.agents.domains w'.agents.domains place d' domains at
+before platform w w' (Motion.Begins entry o from m starts is j domains) place d' at = was_made w.agents.domains w'.agents.domains entry o m is domains place d' at
+before platform w w' (Motion.Ends direction entry target frame m between finishes f is l j domains) place d' at =
     was_made w.agents.domains w'.agents.domains entry (place_of w.agents.domains frame.domain) m is domains place d' at
-before platform w w' (Deed.Delivers direction frame m last f is l domains) place d' at =
+before platform w w' (Motion.Delivers direction frame m last f is l domains) place d' at =
     was_made w.agents.domains w'.agents.domains (Deliver frame.number) (place_of w.agents.domains frame.domain) m is domains place d' at
 
 pub same_share : (d d' : DomainView) → Stepped d d' → d'.share ≡ d.share

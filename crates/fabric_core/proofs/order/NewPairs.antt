@@ -26,8 +26,8 @@ use Rattle.fabric_core.specs.Trails.{standing_at}
 use Rattle.fabric_core.specs.World.{World, is_guarded}
 use Rattle.fabric_core.proofs.order.AloneSteps.{not_flying}
 use Rattle.fabric_core.proofs.order.Carriers.{function_carries, host_carries}
-use Rattle.fabric_core.proofs.order.DeedOf.{deed_of}
-use Rattle.fabric_core.proofs.order.Deeds.{Deed, Finishes, JoiningIf, Starts}
+use Rattle.fabric_core.proofs.order.MotionOf.{motion_of}
+use Rattle.fabric_core.proofs.order.Motions.{Motion, Finishes, JoiningIf, Starts}
 use Rattle.fabric_core.proofs.invariant.Flying.{within}
 use Rattle.fabric_core.proofs.soundness.Guarded.{guarded_after}
 use Rattle.fabric_core.proofs.order.KeptOrder.{is_domain}
@@ -100,15 +100,15 @@ module _ (w w' : World) (fabric : IsFabric w) (guarded : is_guarded w ≡ true) 
       answers frame f made between _ l (origin.Host frame.domain) is (host_carries w (fabric.guarded guarded) place d at frame f own ∙ ap (λ (k : ℕ). Some (origin.Host k)) (sym home)) j x
   ends frame f made between _ _ _ (Finishes.CarriedByFunction function request) l is j x = answers frame f made between _ l (origin.Function function) is (function_carries w (fabric.guarded guarded) place d at frame f function request) j x
 
-  -- ---- any deed
+  -- ---- any motion
 
-  turn_of : Deed (fabric.guarded guarded).platform w w' → Turn
-  turn_of (Deed.Stays same domains) = absurd (unchanged (still w fabric.kept place d at w' d' at' domains))
-  turn_of (Deed.Goes source target frame leaps mv domains) = absurd (unchanged (still w fabric.kept place d at w' d' at' domains))
-  turn_of (Deed.Begins entry o from made starts is j domains) = begins entry o from made starts is j (sent_by entry o made is (next w fabric.kept place d at w' d' at' entry o made is domains))
-  turn_of (Deed.Ends direction entry target frame made between finishes f is l j domains) =
+  turn_of : Motion (fabric.guarded guarded).platform w w' → Turn
+  turn_of (Motion.Stays same domains) = absurd (unchanged (still w fabric.kept place d at w' d' at' domains))
+  turn_of (Motion.Goes source target frame leaps mv domains) = absurd (unchanged (still w fabric.kept place d at w' d' at' domains))
+  turn_of (Motion.Begins entry o from made starts is j domains) = begins entry o from made starts is j (sent_by entry o made is (next w fabric.kept place d at w' d' at' entry o made is domains))
+  turn_of (Motion.Ends direction entry target frame made between finishes f is l j domains) =
       ends frame f made between direction entry target finishes l is j (sent_by entry (place_of w.agents.domains frame.domain) made is (next w fabric.kept place d at w' d' at' entry (place_of w.agents.domains frame.domain) made is domains))
-  turn_of (Deed.Delivers direction frame made last f is l domains) =
+  turn_of (Motion.Delivers direction frame made last f is l domains) =
       let o = goes_source places goes in
       let x = sent_by (Deliver frame.number) (place_of w.agents.domains frame.domain) made is (next w fabric.kept place d at w' d' at' (Deliver frame.number) (place_of w.agents.domains frame.domain) made is domains) in
       absurd (none_some o.0 (first_from (Deliver frame.number) (place_of w.agents.domains frame.domain) made x ∙ o.1))
@@ -121,4 +121,4 @@ new_turn w w' event fabric guarded moved place d d' at at' n m pair long some la
     by None flies some = absurd cc
     by (Some e) flies some =
         let g = fabric.guarded guarded in
-        turn_of w w' fabric guarded (guarded_after w w' event fabric.kept g moved) place d d' at at' n m pair long e flies later places goes t (deed_of w w' event fabric.kept g moved)
+        turn_of w w' fabric guarded (guarded_after w w' event fabric.kept g moved) place d d' at at' n m pair long e flies later places goes t (motion_of w w' event fabric.kept g moved)

@@ -19,7 +19,7 @@ use Rattle.domains.specs.Domains.{Made, made_at, place_of}
 use Rattle.fabric_core.specs.Invariant.{IsFabric}
 use Rattle.fabric_core.specs.Places.{IsFlown, flown, is_numbered}
 use Rattle.fabric_core.specs.World.{World, is_guarded}
-use Rattle.fabric_core.proofs.order.Deeds.{Starts}
+use Rattle.fabric_core.proofs.order.Motions.{Starts}
 use Rattle.fabric_core.proofs.order.OrderedSteps.{Next, flown_here, well_kept}
 use Rattle.fabric_core.proofs.invariant.Settling.{is_home, made_from}
 

@@ -20,7 +20,7 @@ use Rattle.guarded_routes.specs.Sound.{Falling, IsSound, let_by}
 use Rattle.guarded_routes.proofs.Links.{path_to, way_of}
 use Rattle.guarded_routes.proofs.Passing.{peer_own}
 use Rattle.guarded_routes.proofs.Peers.{some_line}
-use Rattle.fabric_core.specs.Receipts.{to_function}
+use Rattle.fabric_core.specs.Arrivals.{to_function}
 use Rattle.fabric_core.specs.Events.{link_of}
 use Rattle.fabric_core.specs.Invariant.{IsFabric}
 use Rattle.fabric_core.specs.Orders.{GoesBy, HasWay, StandsOnWay}
@@ -31,7 +31,7 @@ use Rattle.fabric_core.specs.World.{World, is_guarded}
 use Rattle.fabric_core.proofs.order.AtPlaces.{Joining, Leaving, Standings}
 use Rattle.fabric_core.proofs.order.Carriers.{function_carries, host_carries}
 use Rattle.fabric_core.proofs.order.KeptHeads.{direct_head}
-use Rattle.fabric_core.proofs.order.Deeds.{Deed, Finishes, JoiningIf, Starts}
+use Rattle.fabric_core.proofs.order.Motions.{Motion, Finishes, JoiningIf, Starts}
 use Rattle.fabric_core.proofs.order.DownwardOrder.{meant_for}
 use Rattle.fabric_core.proofs.soundness.GuardedArrival.{function_home}
 use Rattle.fabric_core.proofs.order.WayOrder.{IsNo, all_found, all_left}
@@ -159,17 +159,17 @@ module _ (w w' : World) (fabric : IsFabric w) (guarded : is_guarded w ≡ true) 
       let home : frame.domain ≡ d.share.domain = is_home w.agents.domains frame.domain place d at x.here in
       answers frame f made between (to_function function) (origin.Function function) l (function_carries w (fabric.guarded guarded) place d at frame f function request) j x (λ other e. of_function IsOwn function other e (answerer_own frame between function l request home))
 
-  -- ---- any deed
+  -- ---- any motion
 
-  pub new_way : Deed (fabric.guarded guarded).platform w w' → Stands
-  new_way (Deed.Stays stay domains) = absurd (not_same w w' fabric guarded place d d' at at' n packet listed long (still w fabric.kept place d at w' d' at' domains))
-  new_way (Deed.Goes source target frame leaps mv domains) = absurd (not_same w w' fabric guarded place d d' at at' n packet listed long (still w fabric.kept place d at w' d' at' domains))
-  new_way (Deed.Begins entry o from made starts is j domains) =
+  pub new_way : Motion (fabric.guarded guarded).platform w w' → Stands
+  new_way (Motion.Stays stay domains) = absurd (not_same w w' fabric guarded place d d' at at' n packet listed long (still w fabric.kept place d at w' d' at' domains))
+  new_way (Motion.Goes source target frame leaps mv domains) = absurd (not_same w w' fabric guarded place d d' at at' n packet listed long (still w fabric.kept place d at w' d' at' domains))
+  new_way (Motion.Begins entry o from made starts is j domains) =
       begins entry o from made starts j (new_by w w' fabric guarded place d d' at at' n packet listed long entry o made is (next w fabric.kept place d at w' d' at' entry o made is domains))
-  new_way (Deed.Ends direction entry target frame made between finishes f is l j domains) =
+  new_way (Motion.Ends direction entry target frame made between finishes f is l j domains) =
       let o = place_of w.agents.domains frame.domain in
       ends frame f made between direction entry target finishes l j (new_by w w' fabric guarded place d d' at at' n packet listed long entry o made is (next w fabric.kept place d at w' d' at' entry o made is domains))
-  new_way (Deed.Delivers direction frame made last f is l domains) =
+  new_way (Motion.Delivers direction frame made last f is l domains) =
       let o = place_of w.agents.domains frame.domain in
       let x = new_by w w' fabric guarded place d d' at at' n packet listed long (Deliver frame.number) o made is (next w fabric.kept place d at w' d' at' (Deliver frame.number) o made is domains) in
       absurd (no_way (sym x.from) has)

@@ -24,7 +24,7 @@ use Rattle.fabric_core.specs.Soundness.{IsGuardedFabric}
 use Rattle.fabric_core.specs.Trails.{InOrderOnWay, never, standing_at}
 use Rattle.fabric_core.specs.World.{World, is_guarded}
 use Rattle.fabric_core.proofs.order.AloneSteps.{way_kept}
-use Rattle.fabric_core.proofs.order.DeedOf.{deed_of}
+use Rattle.fabric_core.proofs.order.MotionOf.{motion_of}
 use Rattle.fabric_core.proofs.order.Entered.{Stepped, before, flying_before, gone_consumed, listed_before, one_new, order_after, order_new, same_share}
 use Rattle.fabric_core.proofs.order.NewPairs.{new_turn}
 use Rattle.fabric_core.proofs.order.NewWays.{new_way}
@@ -97,7 +97,7 @@ module _ (w w' : World) (event : Event) (fabric : IsFabric w) (guarded : is_guar
         stands_now n packet s.places s.goes
         (way_kept w w' event fabric guarded moved place d d' at at' n packet (listed_before d d' old stepped n packet less listed) posted (flies_then n less flies) s.places s.goes s.keeps flies)
     on_way false e =
-        let s = new_way w w' fabric guarded g' platforms place d d' at at' n packet listed (ltb-false n (length (sent d.share d.journal)) e) (way_then packet has) (deed_of w w' event fabric.kept (fabric.guarded guarded) moved) in
+        let s = new_way w w' fabric guarded g' platforms place d d' at at' n packet listed (ltb-false n (length (sent d.share d.journal)) e) (way_then packet has) (motion_of w w' event fabric.kept (fabric.guarded guarded) moved) in
         stands_now n packet s.places s.goes (subst (λ (x : Share). InOrderOnWay (standing_at w') s.places (is_numbered x.domain n) never) (sym share) s.keeps)
 
     ways : StandsOnWay g'.platform w' d' n packet
@@ -176,5 +176,5 @@ module _ (w w' : World) (event : Event) (fabric : IsFabric w) (guarded : is_guar
 pub way_order_after : (w w' : World) (event : Event) (fabric : IsFabric w) → is_guarded w ≡ true → effect w event ≡ Some w' → (g' : IsGuardedFabric w') → KeepWayOrder g'.platform w'
 way_order_after w w' event fabric guarded moved g' place d' at' =
     let g = fabric.guarded guarded in
-    let b = before g.platform w w' (deed_of w w' event fabric.kept g moved) place d' at' in
+    let b = before g.platform w w' (motion_of w w' event fabric.kept g moved) place d' at' in
     in_turn w w' event fabric guarded moved g' place b.d d' b.at at' b.stepped

@@ -34,8 +34,8 @@ use Rattle.fabric_core.specs.Places.{IsFlown, flown, flown_by, frames_of, is_num
 use Rattle.fabric_core.specs.Soundness.{IsGuardedFabric, IsWellKept}
 use Rattle.fabric_core.specs.Trails.{InOrderOnWay, standing_at}
 use Rattle.fabric_core.specs.World.{World, is_guarded}
-use Rattle.fabric_core.proofs.order.AfterDeeds.{After, IsBegun, IsTaken, Keeps, after_deed}
-use Rattle.fabric_core.proofs.order.DeedOf.{deed_of}
+use Rattle.fabric_core.proofs.order.AfterMotions.{After, IsBegun, IsTaken, Keeps, after_motion}
+use Rattle.fabric_core.proofs.order.MotionOf.{motion_of}
 use Rattle.fabric_core.proofs.order.DownwardOrder.{AreDown, down_delivers, down_ends, down_goes}
 use Rattle.fabric_core.proofs.invariant.Flying.{one_if, within}
 use Rattle.fabric_core.proofs.soundness.Guarded.{guarded_after}
@@ -303,6 +303,6 @@ ordered_step w w' event fabric guarded moved place d d' at at' n m pair some pla
         let g = fabric.guarded guarded in
         let g' = guarded_after w w' event fabric.kept g moved in
         stays w w' fabric guarded place d d' at at' g' n m pair e flies places order
-        (after_deed w w' g places (is_numbered d.share.domain n) (is_numbered d.share.domain m)
+        (after_motion w w' g places (is_numbered d.share.domain n) (is_numbered d.share.domain m)
         (keeps w w' fabric guarded place d d' at at' g' n m pair e flies places goes (keep w w' fabric guarded place d d' at at' g' n m pair e flies))
-        (deed_of w w' event fabric.kept g moved) turn)
+        (motion_of w w' event fabric.kept g moved) turn)

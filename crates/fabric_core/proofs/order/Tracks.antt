@@ -23,7 +23,7 @@ use Rattle.guarded_routes.proofs.Finds.{some_is}
 use Rattle.guarded_routes.proofs.Links.{all_before, joined, none_above, none_after_last}
 use Rattle.guarded_routes.proofs.LinksBelow.{one_below_switch, way_holds}
 use Rattle.guarded_routes.proofs.Nodes.{apart}
-use Rattle.fabric_core.specs.Receipts.{from_host as host_link}
+use Rattle.fabric_core.specs.Arrivals.{from_host as host_link}
 use Rattle.fabric_core.specs.Events.{link_of}
 use Rattle.fabric_core.specs.Trails.{In, across, down, from_function, from_host, places_down, places_on, places_up, up}
 use Rattle.fabric_core.proofs.order.Trails.{Adjoin, AreDistinct, IsNot, adjoin_back, adjoin_front, not_append}

@@ -1,4 +1,4 @@
--- Two kinds of packets of one function stay in turn on its way up through every deed, and the second isn't taken out of
+-- Two kinds of packets of one function stay in turn on its way up through every motion, and the second isn't taken out of
 -- flight before the first.
 use Rattle.std.proofs.Common.{◌≡◌, ◌≢◌, ◌⊎◌, inl, inr, ℕ, Bool, true, false, List, [], ◌∷◌, ◌++◌, get_or, Option, Some, None, refl, sym, ap, ◌∙◌, subst, ⊎_elim, append_assoc}
 use Rattle.std.specs.Prelude.{All, option_map}
@@ -44,7 +44,7 @@ use Rattle.fabric_core.specs.Trails.{In, InOrderOnWay, down, egress_of, from_fun
 use Rattle.fabric_core.specs.World.{World}
 use Rattle.fabric_core.proofs.order.Ahead.{ahead_after}
 use Rattle.fabric_core.proofs.invariant.Changing.{all_front}
-use Rattle.fabric_core.proofs.order.Deeds.{Finishes, IsLast, Leaps}
+use Rattle.fabric_core.proofs.order.Motions.{Finishes, IsLast, Leaps}
 use Rattle.fabric_core.proofs.order.WayOrder.{IsNo, moved_stood, none_of, none_older, not_taken, stood, order_along, order_moved}
 use Rattle.fabric_core.proofs.order.AtPlaces.{Leaving, MayPass, Moving, Standings}
 use Rattle.fabric_core.proofs.order.Tracks.{On, in_front, function_distinct, function_enters, function_first, function_ingress, function_received, function_rises, function_sent, further_link, only_function, up_place}

@@ -8,7 +8,7 @@ use Rattle.frame_log.specs.Descriptor.{Descriptor}
 use Rattle.domain.specs.Domains.{DomainView}
 use Rattle.domains.specs.Aliens.{flown}
 use Rattle.request_handling.specs.Emissions.{Emission}
-use Rattle.fabric_core.specs.Places.{AreFlown, ArePlaced, IsFlown, Whereabout, frames_of, is_numbered, stands_at}
+use Rattle.fabric_core.specs.Places.{AreFlown, ArePlaced, IsFlown, PacketPlace, frames_of, is_numbered, stands_at}
 use Rattle.fabric_core.specs.Trails.{standing_at}
 use Rattle.fabric_core.specs.World.{World}
 use Rattle.fabric_core.proofs.invariant.Changing.{all_front}
@@ -45,7 +45,7 @@ module _ (w : World) (placed : ArePlaced w) (domain : ℕ) where
   split true false h = absurd cc
   split false b h = absurd cc
 
-  pub named_flown : (named : List Whereabout) → list_all (λ one. stands_at (standing_at w) domain one.0 one.1) named ≡ true → AreFlown w domain named
+  pub named_flown : (named : List PacketPlace) → list_all (λ one. stands_at (standing_at w) domain one.0 one.1) named ≡ true → AreFlown w domain named
   named_flown [] there = refl
   named_flown (one ∷ named) there =
       let h = split (stands_at (standing_at w) domain one.0 one.1) (list_all (λ one. stands_at (standing_at w) domain one.0 one.1) named) there in

@@ -21,7 +21,7 @@ use Rattle.topology.specs.Links.{sender_of}
 use Rattle.topology.specs.declared.nodes.LinkEnd.{LinkEnd}
 use Rattle.interconnect.specs.Moves.{channel_at, no_channel}
 use Rattle.fabric_core.specs.Invariant.{IsFabric}
-use Rattle.fabric_core.specs.Places.{AreFlown, ArePartition, ArePlaced, AreWhereabouts, Whereabout, flown, frames_from, frames_of, frames_on, is_named, is_numbered, stands_at, strays_of, waiting_in}
+use Rattle.fabric_core.specs.Places.{AreFlown, ArePartition, ArePlaced, ArePacketPlaces, PacketPlace, flown, frames_from, frames_of, frames_on, is_named, is_numbered, stands_at, strays_of, waiting_in}
 use Rattle.fabric_core.specs.Soundness.{IsGuardedFabric}
 use Rattle.fabric_core.specs.Trails.{egress_of, ingress_of, standing_at, wire_of}
 use Rattle.fabric_core.specs.World.{World, is_guarded}
@@ -231,7 +231,7 @@ module _ (w : World) (g : IsGuardedFabric w) (domain n : ℕ) where
 
 -- ---- the partition
 
-module _ (w : World) (fabric : IsFabric w) (guarded : is_guarded w ≡ true) (found : AreFound w.agents.outboxes) (domain : ℕ) (named : List Whereabout) (where_they_are : AreWhereabouts (standing_at w) domain named) where
+module _ (w : World) (fabric : IsFabric w) (guarded : is_guarded w ≡ true) (found : AreFound w.agents.outboxes) (domain : ℕ) (named : List PacketPlace) (where_they_are : ArePacketPlaces (standing_at w) domain named) where
   placed : ArePlaced w
   placed = fabric.kept.placed
 
@@ -257,7 +257,7 @@ module _ (w : World) (fabric : IsFabric w) (guarded : is_guarded w ≡ true) (fo
   own_or_later k n rest false is true flies others later all h = later all h
   own_or_later k n rest same is false flies others later all h = absurd cc
 
-  flown_of : (ones : List Whereabout) → AreFlown w domain ones → (n : ℕ) → is_named ones n ≡ true → is_some (in_flight n) ≡ true
+  flown_of : (ones : List PacketPlace) → AreFlown w domain ones → (n : ℕ) → is_named ones n ≡ true → is_some (in_flight n) ≡ true
   flown_of [] all n h = absurd cc
   flown_of (one ∷ ones) all n h =
       own_or_later one.0 n (is_named ones n) (one.0 == n) refl (is_some (in_flight one.0)) refl (list_all (λ other. is_some (in_flight other.0)) ones) (λ later named_later. flown_of ones later n named_later) all h

@@ -30,7 +30,7 @@ use Rattle.interconnect.specs.Views.{channels_of}
 use Rattle.fabric_core.specs.declared.event.Event.{Event}
 use Rattle.fabric_core.specs.Events.{StepsTo, link_of}
 use Rattle.fabric_core.specs.Invariant.{IsConsistent}
-use Rattle.fabric_core.specs.Losing.{Losing, losing, lost}
+use Rattle.fabric_core.specs.Misrouting.{Misrouting, misrouting, misrouted}
 use Rattle.fabric_core.specs.Places.{IsFlown}
 use Rattle.fabric_core.specs.Runs.{Run}
 use Rattle.fabric_core.specs.Soundness.{IsOfPlatform}
@@ -47,7 +47,7 @@ use Rattle.fabric_core.proofs.progress.Classes.{MayPass, completions_pass, non_p
 use Rattle.fabric_core.proofs.progress.Costs.{small}
 use Rattle.fabric_core.proofs.progress.GoodStarts.{good_start}
 use Rattle.fabric_core.proofs.progress.Homes.{has_home, has_link}
-use Rattle.fabric_core.proofs.progress.LostEnds.{never_stuck}
+use Rattle.fabric_core.proofs.progress.MisroutedEnds.{never_stuck}
 use Rattle.fabric_core.proofs.progress.Senders.{IsAmple}
 use Rattle.fabric_core.proofs.progress.Starts.{SameBoxes, SameStarts, steps_stay}
 use Rattle.fabric_core.proofs.progress.Takers.{IsOpen, Without, outbox_without, sends, wire_none}
@@ -147,11 +147,11 @@ module _ (platform : Platform) (laws : IsPlatform platform) (w : World) (after :
   abbrev Done : Class → Type 0
   Done class = class ≡ NonPosted → (direction : Direction) (end : LinkEnd) → sends w direction end → count_in Completion (channel_at w.channels end).egress ≡ 0
 
-  loses : (class : Class) → Done class → (id : ℕ) (l : Losing) → losing w id class ≡ Some l → lost w l ≡ None → ⊥
-  loses class done = never_stuck platform laws w after.of_it after.kept.built.many class (flown class) (λ is direction end from. done is direction end (sent direction end from))
+  misroutes : (class : Class) → Done class → (id : ℕ) (l : Misrouting) → misrouting w id class ≡ Some l → misrouted w l ≡ None → ⊥
+  misroutes class done = never_stuck platform laws w after.of_it after.kept.built.many class (flown class) (λ is direction end from. done is direction end (sent direction end from))
 
   without_class : (class : Class) (is_open : IsOpen w class) → Done class → (direction : Direction) → Without w still class is_open direction
-  without_class class is_open done = gone platform laws w after.of_it after.kept.built.many still homes class is_open done (loses class done)
+  without_class class is_open done = gone platform laws w after.of_it after.kept.built.many still homes class is_open done (misroutes class done)
 
   -- ---- one class after another
 

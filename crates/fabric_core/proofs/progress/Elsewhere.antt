@@ -15,8 +15,8 @@ use Rattle.link.specs.Channels.{Channel, deliver, send, update_fc}
 use Rattle.domains.specs.Domains.{place_of_function}
 use Rattle.topology.specs.Links.{sender_of}
 use Rattle.topology.specs.declared.nodes.LinkEnd.{LinkEnd}
-use Rattle.interconnect.specs.Lost.{lost_among, lost_number}
-use Rattle.interconnect.specs.declared.lost.Lost.{Lost}
+use Rattle.interconnect.specs.Misrouted.{misrouted_among, misrouted_number}
+use Rattle.interconnect.specs.declared.misrouted.Misrouted.{Misrouted}
 use Rattle.interconnect.specs.Moves.{on_channel}
 use Rattle.interconnect.specs.Passes.{index_of}
 use Rattle.fabric_core.specs.declared.event.Event.{Event}
@@ -24,9 +24,9 @@ use Rattle.fabric_core.specs.declared.event.Event.TheVariants.{Arrive, Credit, E
 use Rattle.fabric_core.specs.declared.station.Station.{Station}
 use Rattle.fabric_core.specs.declared.station.Station.TheVariants as station
 use Rattle.fabric_core.specs.Events.{effect, enter, entered_at, is_begin, link_of}
-use Rattle.fabric_core.specs.Losing.{losing_by, pass, passed_unless}
+use Rattle.fabric_core.specs.Misrouting.{misrouting_by, pass, passed_unless}
 use Rattle.fabric_core.specs.Passing.{passed_number}
-use Rattle.fabric_core.specs.Receipts.{arrive, arrived, taken, to_function}
+use Rattle.fabric_core.specs.Arrivals.{arrive, arrived, taken, to_function}
 use Rattle.fabric_core.specs.Stations.{events_at, taking}
 use Rattle.fabric_core.specs.Still.{HasStation, IsIdleAt, IsStill}
 use Rattle.fabric_core.specs.World.{World, with_channels}
@@ -56,8 +56,8 @@ module _ (w : World) (idle : (s : Station) → HasStation w s → IsIdleAt w s) 
 
   still_pass : (port : ℕ) (class : Class) (number : Option ℕ) → index_of w.tree.places port ≡ number → pass w port class ≡ None
   still_pass port class None e =
-      let none : lost_among w.tree w.routes w.channels w.ports port class ≡ None = ap (lost_number w.tree w.routes w.channels w.ports class) e in
-      ap (λ (lost : Option Lost). passed_unless w port class (losing_by w class lost)) none ∙ ap (passed_number w class) e
+      let none : misrouted_among w.tree w.routes w.channels w.ports port class ≡ None = ap (misrouted_number w.tree w.routes w.channels w.ports class) e in
+      ap (λ (misrouted : Option Misrouted). passed_unless w port class (misrouting_by w class misrouted)) none ∙ ap (passed_number w class) e
   still_pass port class (Some number) e = idle_taking (station.Port port) (ap is_some e) class
 
   -- ---- directions

@@ -31,7 +31,7 @@ use Rattle.topology.proofs.Members.{found, kept_from, passes}
 use Rattle.topology.proofs.OwnEnds.{IsOutputDown, IsSentUp, one_id, output_down, sender_link, sent_up}
 use Rattle.topology.proofs.Standing.{IsLinkOf, IsSentDown, link_is}
 use Rattle.interconnect.specs.Moves.{channel_at, no_channel}
-use Rattle.interconnect.specs.Starts.{counters_of, first_credits, function_outputs, nodes_of, root_outputs, switch_outputs, unused_below}
+use Rattle.interconnect.specs.Starts.{counters_of, first_credits, function_outputs, nodes_of, host_outputs, switch_outputs, unused_below}
 use Rattle.interconnect.specs.Views.{channels_of}
 use Rattle.fabric_core.proofs.progress.Senders.{IsAmple}
 
@@ -96,20 +96,20 @@ module _ (platform : Platform) where
   abbrev function_rows : List (List SimplexView)
   function_rows = map (function_outputs platform) platform.functions
 
-  behind_root : (n : ℕ) → row (nodes_of platform) (1 + n) ≡ row (switch_rows ++ function_rows) n
-  behind_root n = let one : 1 + n ≡ suc n = omega arith in ap (row (nodes_of platform)) one
+  behind_host : (n : ℕ) → row (nodes_of platform) (1 + n) ≡ row (switch_rows ++ function_rows) n
+  behind_host n = let one : 1 + n ≡ suc n = omega arith in ap (row (nodes_of platform)) one
 
   row_of_switch : (place : ℕ) → place < length platform.switches → row (nodes_of platform) (1 + place) ≡ switch_outputs platform (get_or platform.switches place no_switch)
   row_of_switch place less =
       let long : place < length switch_rows = rw (length-map platform.switches (switch_outputs platform)) less in
-      behind_root place ∙ (get_or_append_left switch_rows function_rows [] place long ∙ get_or-map (switch_outputs platform) platform.switches place no_switch [] less)
+      behind_host place ∙ (get_or_append_left switch_rows function_rows [] place long ∙ get_or-map (switch_outputs platform) platform.switches place no_switch [] less)
 
   row_of_function : (place : ℕ) → place < length platform.functions → row (nodes_of platform) (1 + length platform.switches + place) ≡ function_outputs platform (get_or platform.functions place no_function)
   row_of_function place less =
       let long : length switch_rows ≡ length platform.switches = length-map platform.switches (switch_outputs platform) in
       let all : 1 + length platform.switches + place ≡ 1 + (length platform.switches + place) = omega arith in
       ap (row (nodes_of platform)) all
-      ∙ (behind_root (length platform.switches + place)
+      ∙ (behind_host (length platform.switches + place)
       ∙ (ap (λ (n : ℕ). row (switch_rows ++ function_rows) (n + place)) (sym long)
       ∙ (get_or-append-add switch_rows function_rows place [] ∙ get_or-map (function_outputs platform) platform.functions place no_function [] less)))
 
@@ -148,7 +148,7 @@ module _ (platform : Platform) (laws : IsPlatform platform) where
   above_has : (id : ℕ) (end : LinkEnd) → IsSentDown platform id end → Has id end
   above_has id end (inl (top, root)) =
       at_end id end (record { node = 0; output = 0 }) root
-      (start_in (nodes_of platform) (record { node = 0; output = 0 }) (unused_below platform 256) (root_outputs platform) refl (omega arith) refl ∙ ap (λ (n : ℕ). first_credits (credits_of platform n)) (sym top))
+      (start_in (nodes_of platform) (record { node = 0; output = 0 }) (unused_below platform 256) (host_outputs platform) refl (omega arith) refl ∙ ap (λ (n : ℕ). first_credits (credits_of platform n)) (sym top))
   above_has id end (inr (port, listed, below, is)) =
       let out = output_down platform laws port listed in
       at_end id end (downstream_end platform port) is

@@ -33,7 +33,7 @@ use Rattle.topology.proofs.Members.{any_found, found, kept, kept_from, mapped, m
 use Rattle.topology.proofs.Outputs.{function_up}
 use Rattle.topology.proofs.Standing.{link_found, link_of_listed}
 use Rattle.fabric_core.specs.Events.{link_of}
-use Rattle.fabric_core.specs.Receipts.{from_host}
+use Rattle.fabric_core.specs.Arrivals.{from_host}
 use Rattle.fabric_core.specs.Soundness.{share_of}
 use Rattle.fabric_core.proofs.progress.Starts.{origin_of}
 

@@ -9,7 +9,7 @@ use Rattle.credit.specs.declared.counters.Counters.{Counters}
 use Rattle.ordering.specs.Ordering.{same_class}
 use Rattle.lane.specs.Lanes.{Class, eligible}
 use Rattle.lane.proofs.Waiting.{class_of-taken}
-use Rattle.link.specs.Channels.{Channel, count_in, covers, deliver, has_room, less, received_of, same_counters, same_credits, send, sent_on, spent, told_of, unspent, update_fc}
+use Rattle.link.specs.Channels.{Channel, count_in, covers, deliver, has_room, less, received_of, same_counters, same_credits, send, sent_on, spent, advertised_of, unspent, update_fc}
 use Rattle.fabric_core.proofs.progress.Classes.{MayPass, counted, none_of}
 
 -- a receiver starts with a header and 16 data credits of each class
@@ -51,7 +51,7 @@ same_of a b Class.Posted e = same_pair a.posted b.posted (and_parts _ _ e).0
 same_of a b Class.NonPosted e = same_pair a.non_posted b.non_posted (and_parts _ _ (and_parts _ _ e).1).0
 same_of a b Class.Completion e = same_pair a.completion b.completion (and_parts _ _ (and_parts _ _ e).1).1
 
-known : (c : Channel) (most : Counters) → told_of c most ≡ None → same_counters c.left most ≡ true
+known : (c : Channel) (most : Counters) → advertised_of c most ≡ None → same_counters c.left most ≡ true
 known c most e = go (same_counters c.left most) refl e
   where
     go : (b : Bool) → same_counters c.left most ≡ b → cond {A = Option Channel} b None (Some (record { start = c.start; left = most; egress = c.egress; wire = c.wire; ingress = c.ingress })) ≡ None → same_counters c.left most ≡ true

@@ -27,8 +27,8 @@ use Rattle.port.specs.declared.course.Forwarding.{Forwarding}
 use Rattle.port.specs.declared.course.Forwarding.TheVariants.{To, Stop, NoCase}
 use Rattle.topology.specs.Links.{sender_of}
 use Rattle.topology.specs.declared.nodes.LinkEnd.{LinkEnd}
-use Rattle.interconnect.specs.declared.lost.Lost.{Lost}
-use Rattle.interconnect.specs.Lost.{lost_among}
+use Rattle.interconnect.specs.declared.misrouted.Misrouted.{Misrouted}
+use Rattle.interconnect.specs.Misrouted.{misrouted_among}
 use Rattle.interconnect.specs.Moves.{channel_at, left_at, on_channel, put_at, with_channel}
 use Rattle.interconnect.specs.Passes.{index_of, no_place, no_port}
 use Rattle.switch_output.specs.Vetted.{may_go_on}
@@ -37,12 +37,11 @@ use Rattle.fabric_core.specs.declared.event.Event.TheVariants.{Arrive, Credit, E
 use Rattle.fabric_core.specs.Aliens.{alien_at_function, alien_at_host, or_else, to_function, to_host}
 use Rattle.received.specs.Receivers.{receiver_at_host}
 use Rattle.fabric_core.specs.Events.{StepsTo, effect, entered_at, link_of}
-use Rattle.fabric_core.specs.Losing.{Losing, is_at_port_of, losing, losing_by, losing_to, losing_with, passed_unless, without_lost}
+use Rattle.fabric_core.specs.Misrouting.{Misrouting, is_at_port_of, misrouting, misrouting_by, misrouting_to, misrouting_with, passed_unless, without_misrouted}
 use Rattle.fabric_core.specs.Passing.{Site, answer_waits, answered_at, is_full_at, kept_by, output_end, passed, passed_by, passed_number, refused_by, site_at, strayed}
-use Rattle.fabric_core.specs.Receipts.{Taken, agents_by_function, agents_by_host, arrived, ended, from_host, own_by_function, own_by_host, receipt_at, relayed, rooted, rooted_by, taken, taken_at, taken_from}
-use Rattle.received.specs.declared.receipt.Receipt.{Receipt}
-use Rattle.received.specs.declared.receipt.Receipt.TheVariants.{Carry, Deliver, Nobody, Relay}
-use Rattle.received.specs.Receipts.{receipt_at_host}
+use Rattle.fabric_core.specs.Arrivals.{Taken, agents_by_function, agents_by_host, arrived, ended, from_host, own_by_function, own_by_host, received_at, relayed, arrived_at_host, arrived_at_host_by, taken, taken_at, taken_from}
+use Rattle.received.specs.declared.received.Received.{Received}
+use Rattle.received.specs.Received.{received_at_host}
 use Rattle.fabric_core.specs.Soundness.{config_of}
 use Rattle.fabric_core.specs.World.{World, with_agents, with_both, with_channels}
 use Rattle.fabric_core.proofs.soundness.SoundLinks.{Either, either_channel}
@@ -205,41 +204,41 @@ module _ (w : World) where
   ended_stays t None starts same = record { tree = refl; routes = refl; configs = refl; starts = starts; boxes = same_boxes w.agents.outboxes }
   ended_stays t (Some agents) starts same = record { tree = refl; routes = refl; configs = refl; starts = starts; boxes = same }
 
-  by_host : (frame : Descriptor) (receipt : Receipt) → IfSome (agents_by_host w.routes.ports w.agents frame receipt) (SameOutboxes w.agents)
-  by_host frame receipt = either_boxes w.agents (own_by_host w.agents frame receipt) (alien_at_host w.routes.ports w.agents frame) (own receipt) (emitted_boxes w.agents (Host (receiver_at_host w.routes.ports (owner_of_frame w.agents.domains) frame)) _)
+  by_host : (frame : Descriptor) (received : Received) → IfSome (agents_by_host w.routes.ports w.agents frame received) (SameOutboxes w.agents)
+  by_host frame received = either_boxes w.agents (own_by_host w.agents frame received) (alien_at_host w.routes.ports w.agents frame) (own received) (emitted_boxes w.agents (Host (receiver_at_host w.routes.ports (owner_of_frame w.agents.domains) frame)) _)
     where
-      own : (r : Receipt) → IfSome (own_by_host w.agents frame r) (SameOutboxes w.agents)
-      own Relay = tt
-      own Carry = emitted_boxes w.agents (Host frame.domain) _
-      own Deliver = delivered_boxes w.agents (made w.agents.domains frame.domain (entry.Deliver frame.number))
-      own Nobody = tt
+      own : (r : Received) → IfSome (own_by_host w.agents frame r) (SameOutboxes w.agents)
+      own Received.Relayed = tt
+      own Received.Request = emitted_boxes w.agents (Host frame.domain) _
+      own Received.Completion = delivered_boxes w.agents (made w.agents.domains frame.domain (entry.Deliver frame.number))
+      own Received.Unknown = tt
 
-  by_function : (function : ℕ) (frame : Descriptor) (receipt : Receipt) → IfSome (agents_by_function w.agents function frame receipt) (SameOutboxes w.agents)
-  by_function function frame receipt = either_boxes w.agents (own_by_function w.agents function frame receipt) (alien_at_function w.agents function frame) (own receipt) (emitted_boxes w.agents (Function function) _)
+  by_function : (function : ℕ) (frame : Descriptor) (received : Received) → IfSome (agents_by_function w.agents function frame received) (SameOutboxes w.agents)
+  by_function function frame received = either_boxes w.agents (own_by_function w.agents function frame received) (alien_at_function w.agents function frame) (own received) (emitted_boxes w.agents (Function function) _)
     where
-      own : (r : Receipt) → IfSome (own_by_function w.agents function frame r) (SameOutboxes w.agents)
-      own Relay = tt
-      own Carry = emitted_boxes w.agents (Function function) (carried_at w.agents.domains function frame)
-      own Deliver = delivered_boxes w.agents (made w.agents.domains frame.domain (entry.Deliver frame.number))
-      own Nobody = tt
+      own : (r : Received) → IfSome (own_by_function w.agents function frame r) (SameOutboxes w.agents)
+      own Received.Relayed = tt
+      own Received.Request = emitted_boxes w.agents (Function function) (carried_at w.agents.domains function frame)
+      own Received.Completion = delivered_boxes w.agents (made w.agents.domains frame.domain (entry.Deliver frame.number))
+      own Received.Unknown = tt
 
-  rooted_stays_by : (class : Class) (t : Taken) (receipt : Receipt) → SameStarts w.channels t.channels → IfSome (rooted_by w class t receipt) (Stays w)
-  rooted_stays_by class t Relay starts = by (sender_of w.tree.links from_host)
+  at_host_stays_by : (class : Class) (t : Taken) (received : Received) → SameStarts w.channels t.channels → IfSome (arrived_at_host_by w class t received) (Stays w)
+  at_host_stays_by class t Received.Relayed starts = by (sender_of w.tree.links from_host)
     where
       by : (found : Option LinkEnd) → IfSome (relayed w t class found) (Stays w)
       by None = tt
       by (Some end) = unless (Stays w) (is_full class (channel_at w.channels end)) (with_channels w (put_at t.channels end t.frame)) (channels_stay (put_at t.channels end t.frame) (starts_put w.channels t.channels end t.frame starts))
-  rooted_stays_by class t Carry starts = ended_stays t _ starts (by_host t.frame Carry)
-  rooted_stays_by class t Deliver starts = ended_stays t _ starts (by_host t.frame Deliver)
-  rooted_stays_by class t Nobody starts = ended_stays t _ starts (by_host t.frame Nobody)
+  at_host_stays_by class t Received.Request starts = ended_stays t _ starts (by_host t.frame Received.Request)
+  at_host_stays_by class t Received.Completion starts = ended_stays t _ starts (by_host t.frame Received.Completion)
+  at_host_stays_by class t Received.Unknown starts = ended_stays t _ starts (by_host t.frame Received.Unknown)
 
-  rooted_stays : (class : Class) (o : Option Taken) → IfSome o (λ (t : Taken). SameStarts w.channels t.channels) → IfSome (rooted w class o) (Stays w)
-  rooted_stays class None starts = tt
-  rooted_stays class (Some t) starts = rooted_stays_by class t (receipt_at_host t.frame) starts
+  at_host_stays : (class : Class) (o : Option Taken) → IfSome o (λ (t : Taken). SameStarts w.channels t.channels) → IfSome (arrived_at_host w class o) (Stays w)
+  at_host_stays class None starts = tt
+  at_host_stays class (Some t) starts = at_host_stays_by class t (received_at_host t.frame) starts
 
   arrived_stays : (function : ℕ) (o : Option Taken) → IfSome o (λ (t : Taken). SameStarts w.channels t.channels) → IfSome (arrived w function o) (Stays w)
   arrived_stays function None starts = tt
-  arrived_stays function (Some t) starts = ended_stays t _ starts (by_function function t.frame (receipt_at w function t.frame))
+  arrived_stays function (Some t) starts = ended_stays t _ starts (by_function function t.frame (received_at w function t.frame))
 
   arrive_stays : (b : Bool) (o : Option World) → IfSome o (Stays w) → IfSome (cond b o None) (Stays w)
   arrive_stays true o stays = stays
@@ -276,28 +275,28 @@ module _ (w : World) where
   turned_stays class (Some i) =
       passed_stays (site_at w i (get_or w.tree.places i no_place)) class (taken_at w.channels class (get_or w.tree.places i no_place).input) (taken_starts class (get_or w.tree.places i no_place).input)
 
-  -- what a port is about to lose was taken there
-  losing_with_starts : (l : Lost) (t : Taken) (o : Option Made) → SameStarts w.channels t.channels → IfSome (losing_with l t o) (λ (x : Losing). SameStarts w.channels x.taken.channels)
-  losing_with_starts l t None starts = tt
-  losing_with_starts l t (Some m) starts = starts
+  -- what a port is about to misroute was taken there
+  misrouting_with_starts : (l : Misrouted) (t : Taken) (o : Option Made) → SameStarts w.channels t.channels → IfSome (misrouting_with l t o) (λ (x : Misrouting). SameStarts w.channels x.taken.channels)
+  misrouting_with_starts l t None starts = tt
+  misrouting_with_starts l t (Some m) starts = starts
 
-  losing_to_starts : (b : Bool) (o : Option Losing) → IfSome o (λ (x : Losing). SameStarts w.channels x.taken.channels) → IfSome (cond b o None) (λ (x : Losing). SameStarts w.channels x.taken.channels)
-  losing_to_starts true o starts = starts
-  losing_to_starts false o starts = tt
+  misrouting_to_starts : (b : Bool) (o : Option Misrouting) → IfSome o (λ (x : Misrouting). SameStarts w.channels x.taken.channels) → IfSome (cond b o None) (λ (x : Misrouting). SameStarts w.channels x.taken.channels)
+  misrouting_to_starts true o starts = starts
+  misrouting_to_starts false o starts = tt
 
-  losing_taken_starts : (l : Lost) (o : Option Taken) → IfSome o (λ (t : Taken). SameStarts w.channels t.channels) → IfSome (option_and_then (losing_to w l) o) (λ (x : Losing). SameStarts w.channels x.taken.channels)
-  losing_taken_starts l None starts = tt
-  losing_taken_starts l (Some t) starts =
-      losing_to_starts (is_at_port_of w.agents.domains t.frame.domain l.place) (losing_with l t (aliened w.agents.domains t.frame.domain l.place t.frame)) (losing_with_starts l t (aliened w.agents.domains t.frame.domain l.place t.frame) starts)
+  misrouting_taken_starts : (l : Misrouted) (o : Option Taken) → IfSome o (λ (t : Taken). SameStarts w.channels t.channels) → IfSome (option_and_then (misrouting_to w l) o) (λ (x : Misrouting). SameStarts w.channels x.taken.channels)
+  misrouting_taken_starts l None starts = tt
+  misrouting_taken_starts l (Some t) starts =
+      misrouting_to_starts (is_at_port_of w.agents.domains t.frame.domain l.place) (misrouting_with l t (aliened w.agents.domains t.frame.domain l.place t.frame)) (misrouting_with_starts l t (aliened w.agents.domains t.frame.domain l.place t.frame) starts)
 
-  losing_starts : (class : Class) (o : Option Lost) → IfSome (losing_by w class o) (λ (x : Losing). SameStarts w.channels x.taken.channels)
-  losing_starts class None = tt
-  losing_starts class (Some l) = losing_taken_starts l (taken_at w.channels class (Some l.input)) (taken_starts class (Some l.input))
+  misrouting_starts : (class : Class) (o : Option Misrouted) → IfSome (misrouting_by w class o) (λ (x : Misrouting). SameStarts w.channels x.taken.channels)
+  misrouting_starts class None = tt
+  misrouting_starts class (Some l) = misrouting_taken_starts l (taken_at w.channels class (Some l.input)) (taken_starts class (Some l.input))
 
-  pass_stays : (port : ℕ) (class : Class) (o : Option Losing) → IfSome o (λ (x : Losing). SameStarts w.channels x.taken.channels) → IfSome (passed_unless w port class o) (Stays w)
+  pass_stays : (port : ℕ) (class : Class) (o : Option Misrouting) → IfSome o (λ (x : Misrouting). SameStarts w.channels x.taken.channels) → IfSome (passed_unless w port class o) (Stays w)
   pass_stays port class None starts = turned_stays class (index_of w.tree.places port)
   pass_stays port class (Some l) starts =
-      unless (Stays w) _ (without_lost w l) (record { tree = refl; routes = refl; configs = refl; starts = starts_answered w.channels l.taken.channels l.lost.own l.made.sent starts; boxes = same_boxes w.agents.outboxes })
+      unless (Stays w) _ (without_misrouted w l) (record { tree = refl; routes = refl; configs = refl; starts = starts_answered w.channels l.taken.channels l.misrouted.own l.made.sent starts; boxes = same_boxes w.agents.outboxes })
 
 -- ---- one direction keeps its start
 
@@ -323,8 +322,8 @@ deliver_start c = of c.wire
     of [] = tt
     of (f ∷ fs) = refl
 
-told_start : (c : Channel) → IfSome (update_fc c) (λ (c' : Channel). c'.start ≡ c.start)
-told_start c = none_if c.start (same_counters c.left (unspent c.start (c.wire ++ c.ingress))) (record { start = c.start; left = unspent c.start (c.wire ++ c.ingress); egress = c.egress; wire = c.wire; ingress = c.ingress }) refl
+updated_start : (c : Channel) → IfSome (update_fc c) (λ (c' : Channel). c'.start ≡ c.start)
+updated_start c = none_if c.start (same_counters c.left (unspent c.start (c.wire ++ c.ingress))) (record { start = c.start; left = unspent c.start (c.wire ++ c.ingress); egress = c.egress; wire = c.wire; ingress = c.ingress }) refl
 
 -- ---- every event
 
@@ -333,11 +332,11 @@ event_stays w (Submit function bytes) = agents_stay w (submitted w.agents functi
 event_stays w (Tick function) = agents_stay w (ticked w.agents function) (emitted_boxes w.agents (Function function) _)
 event_stays w (Mmio domain access) = agents_stay w (accessed w.agents domain access) (emitted_boxes w.agents (Host domain) _)
 event_stays w (Enter origin class) = entered_stays w origin class (sender_of w.tree.links (link_of origin)) (eligible class (waiting_of w.agents.outboxes origin))
-event_stays w (Pass port class) = pass_stays w port class (losing w port class) (losing_starts w class (lost_among w.tree w.routes w.channels w.ports port class))
+event_stays w (Pass port class) = pass_stays w port class (misrouting w port class) (misrouting_starts w class (misrouted_among w.tree w.routes w.channels w.ports port class))
 event_stays w (Send direction class) = step_stays w (sender_of w.tree.links direction) (send class) (send_start class)
 event_stays w (Take direction) = step_stays w (sender_of w.tree.links direction) deliver deliver_start
-event_stays w (Credit direction) = step_stays w (sender_of w.tree.links direction) update_fc told_start
-event_stays w (Root class) = rooted_stays w class (taken w to_host class) (taken_starts w class (sender_of w.tree.links to_host))
+event_stays w (Credit direction) = step_stays w (sender_of w.tree.links direction) update_fc updated_start
+event_stays w (Root class) = at_host_stays w class (taken w to_host class) (taken_starts w class (sender_of w.tree.links to_host))
 event_stays w (Arrive function class) =
     arrive_stays w _ (arrived w function (taken w (to_function function) class)) (arrived_stays w function (taken w (to_function function) class) (taken_starts w class (sender_of w.tree.links (to_function function))))
 

@@ -1,4 +1,4 @@
--- Where no event moves anything, no packet of a class waits on any direction: downward from the root, since each port leads to buses
+-- Where no event moves anything, no packet of a class waits on any direction: downward from the host, since each port leads to buses
 -- further below, then upward to the host. For one class after another.
 use Rattle.std.proofs.Common.{◌≡◌, ℕ, zero, suc, ◌+◌, ◌*◌, ◌/◌, ◌<◌, ◌≤◌, ◌==◌, ◌⊎◌, inl, inr, true, List, length, Option, Some, None, refl, sym, ap, ◌∙◌, subst, arith, eqb-true}
 use Rattle.std.specs.Prelude.{Contains, is_some, option_map}
@@ -30,8 +30,8 @@ use Rattle.topology.proofs.Buses.{IsWithin, StandsOn, above_bus, buses, one_port
 use Rattle.topology.proofs.Members.{found}
 use Rattle.topology.proofs.Outputs.{lane_to as sent_below, own_node, switch_up}
 use Rattle.interconnect.specs.Moves.{channel_at}
-use Rattle.fabric_core.specs.Losing.{Losing, losing, lost}
-use Rattle.fabric_core.specs.Receipts.{to_host}
+use Rattle.fabric_core.specs.Misrouting.{Misrouting, misrouting, misrouted}
+use Rattle.fabric_core.specs.Arrivals.{to_host}
 use Rattle.fabric_core.specs.Soundness.{IsOfPlatform}
 use Rattle.fabric_core.specs.Still.{IsStill}
 use Rattle.fabric_core.specs.World.{World}
@@ -85,7 +85,7 @@ module _ (platform : Platform) (laws : IsPlatform platform) (w : World) (of_it :
     (homes : (function : ℕ) → is_function platform.functions function ≡ true → is_some (place_of_function w.agents.domains function) ≡ true)
     (c : Class) (is_open : IsOpen w c)
     (done : c ≡ NonPosted → (direction : Direction) (end : LinkEnd) → sends w direction end → count_in Completion (channel_at w.channels end).egress ≡ 0)
-    (loses : (id : ℕ) (l : Losing) → losing w id c ≡ Some l → lost w l ≡ None → ⊥) where
+    (misroutes : (id : ℕ) (l : Misrouting) → misrouting w id c ≡ Some l → misrouted w l ≡ None → ⊥) where
   sent : (direction : Direction) (end : LinkEnd) → sender_of (links_of platform) direction ≡ Some end → sends w direction end
   sent direction end e = ap (λ (t : Tree). sender_of t.links direction) of_it.tree ∙ e
 
@@ -110,7 +110,7 @@ module _ (platform : Platform) (laws : IsPlatform platform) (w : World) (of_it :
           let leads : LeadsDown (exits_of platform (internal_bus switch)) (To output) = subst (LeadsDown (exits_of platform (internal_bus switch))) e (upstream_leads w.routes (upstream_config platform switch) f.head refl) in
           down_output output (below platform laws switch leads.0 output within leads.1);
       own = λ is. done is (up switch.id) (record { node = (upstream_end platform switch.id).node; output = 0 }) (sent (up switch.id) _ (switch_up platform laws switch within));
-      loses = loses switch.id;
+      misroutes = misroutes switch.id;
     }
 
     switch_takes : (id : ℕ) → switch.id ≡ id → (end : LinkEnd) → sends w (down id) end → count_in c (channel_at w.channels end).ingress ≡ 0
@@ -169,7 +169,7 @@ module _ (platform : Platform) (laws : IsPlatform platform) (w : World) (of_it :
       own = λ is.
           subst (λ (end : LinkEnd). count_in Completion (channel_at w.channels end).egress ≡ 0) (sym (own_output_end platform laws q (listed_port platform laws q listed)))
           (done is (down (id_below q)) (downstream_end platform q) (sent (down (id_below q)) _ (sent_below platform laws q listed taken)));
-      loses = loses q.id;
+      misroutes = misroutes q.id;
     }
 
     upward_takes : (id : ℕ) → id ≡ id_below q → (end : LinkEnd) → sends w (up id) end → count_in c (channel_at w.channels end).ingress ≡ 0

@@ -33,8 +33,8 @@ use Rattle.domains.specs.Aliens.{aliened, aliened_at, aliened_by, answers, flown
 use Rattle.domains.specs.Domains.{Made, after, made, made_at, made_by, made_of, place_of, place_of_function}
 use Rattle.topology.specs.Links.{sender_of}
 use Rattle.topology.specs.declared.nodes.LinkEnd.{LinkEnd}
-use Rattle.interconnect.specs.declared.lost.Lost.{Lost}
-use Rattle.interconnect.specs.Lost.{lost_among}
+use Rattle.interconnect.specs.declared.misrouted.Misrouted.{Misrouted}
+use Rattle.interconnect.specs.Misrouted.{misrouted_among}
 use Rattle.interconnect.specs.Moves.{channel_at, on_channel}
 use Rattle.interconnect.specs.Passes.{index_of, no_place}
 use Rattle.domains.specs.Agents.{AgentsView, delivered, emitted, emitted_if, is_function_of, waiting_of}
@@ -42,12 +42,11 @@ use Rattle.fabric_core.specs.declared.event.Event.{Event}
 use Rattle.fabric_core.specs.declared.event.Event.TheVariants.{Submit, Tick, Mmio, Enter, Pass, Send, Take, Credit, Root, Arrive}
 use Rattle.fabric_core.specs.Aliens.{alien_at_function, alien_at_host, or_else}
 use Rattle.received.specs.Receivers.{receiver_at_host}
-use Rattle.fabric_core.specs.Receipts.{Taken, arrived, arrived_by, agents_by_function, agents_by_host, ended, receipt_at, from_host, own_by_function, own_by_host, relayed, rooted, rooted_by, taken, taken_at, to_function, to_host}
-use Rattle.received.specs.declared.receipt.Receipt.{Receipt}
-use Rattle.received.specs.declared.receipt.Receipt.TheVariants.{Carry, Deliver, Nobody, Relay}
-use Rattle.received.specs.Receipts.{receipt_at_host}
+use Rattle.fabric_core.specs.Arrivals.{Taken, arrived, arrived_by, agents_by_function, agents_by_host, ended, received_at, from_host, own_by_function, own_by_host, relayed, arrived_at_host, arrived_at_host_by, taken, taken_at, to_function, to_host}
+use Rattle.received.specs.declared.received.Received.{Received}
+use Rattle.received.specs.Received.{received_at_host}
 use Rattle.fabric_core.specs.Events.{StepsTo, effect, entered_at, link_of}
-use Rattle.fabric_core.specs.Losing.{Losing, is_at_port_of, losing, losing_by, losing_to, losing_with, passed_unless, without_lost}
+use Rattle.fabric_core.specs.Misrouting.{Misrouting, is_at_port_of, misrouting, misrouting_by, misrouting_to, misrouting_with, passed_unless, without_misrouted}
 use Rattle.fabric_core.specs.Passing.{Site, answer_waits, passed, passed_by, passed_number, refused_by, site_at}
 use Rattle.fabric_core.specs.Runs.{Grow, HaveBegun, Run, accepted, accepted_one, begins_of, begun_at, is_home, share_of}
 use Rattle.fabric_core.specs.World.{World, with_channels, with_agents}
@@ -209,29 +208,29 @@ or_grow agents (Some e) other first second = first
 deliver_grow : (agents : AgentsView) (frame : Descriptor) → AgentsLeaves agents (delivered agents frame)
 deliver_grow agents frame = delivered_of agents _ (end_grow agents (entry.Deliver frame.number) (place_of agents.domains frame.domain) refl)
 
-own_host_grow : (agents : AgentsView) (frame : Descriptor) (receipt : Receipt) → AgentsLeaves agents (own_by_host agents frame receipt)
-own_host_grow agents frame Relay e is = absurd cc
-own_host_grow agents frame Carry e is = emitted_grow agents _ Nothing _ (end_grow agents (entry.Carry frame.number) (place_of agents.domains frame.domain) refl) e is
-own_host_grow agents frame Deliver e is = deliver_grow agents frame e is
-own_host_grow agents frame Nobody e is = absurd cc
+own_host_grow : (agents : AgentsView) (frame : Descriptor) (received : Received) → AgentsLeaves agents (own_by_host agents frame received)
+own_host_grow agents frame Received.Relayed e is = absurd cc
+own_host_grow agents frame Received.Request e is = emitted_grow agents _ Nothing _ (end_grow agents (entry.Carry frame.number) (place_of agents.domains frame.domain) refl) e is
+own_host_grow agents frame Received.Completion e is = deliver_grow agents frame e is
+own_host_grow agents frame Received.Unknown e is = absurd cc
 
-host_grow : (w : World) (t : Taken) (receipt : Receipt) → Grow Nothing w.agents.domains (ended w t (agents_by_host w.routes.ports w.agents t.frame receipt)).agents.domains
-host_grow w t receipt =
-    ended_grow w t (agents_by_host w.routes.ports w.agents t.frame receipt)
-    (or_grow w.agents (own_by_host w.agents t.frame receipt) (alien_at_host w.routes.ports w.agents t.frame) (own_host_grow w.agents t.frame receipt)
+host_grow : (w : World) (t : Taken) (received : Received) → Grow Nothing w.agents.domains (ended w t (agents_by_host w.routes.ports w.agents t.frame received)).agents.domains
+host_grow w t received =
+    ended_grow w t (agents_by_host w.routes.ports w.agents t.frame received)
+    (or_grow w.agents (own_by_host w.agents t.frame received) (alien_at_host w.routes.ports w.agents t.frame) (own_host_grow w.agents t.frame received)
     (emitted_grow w.agents _ Nothing _ (aliened_grow w.agents (place_of w.agents.domains (receiver_at_host w.routes.ports (owner_of_frame w.agents.domains) t.frame)) (Ingress to_host) t.frame)))
 
-own_function_grow : (agents : AgentsView) (f : ℕ) (frame : Descriptor) (receipt : Receipt) → AgentsLeaves agents (own_by_function agents f frame receipt)
-own_function_grow agents f frame Relay e is = absurd cc
-own_function_grow agents f frame Carry e is =
+own_function_grow : (agents : AgentsView) (f : ℕ) (frame : Descriptor) (received : Received) → AgentsLeaves agents (own_by_function agents f frame received)
+own_function_grow agents f frame Received.Relayed e is = absurd cc
+own_function_grow agents f frame Received.Request e is =
     emitted_grow agents _ Nothing _ (carried_if agents (entry.Carry frame.number) (place_of agents.domains frame.domain) (is_function_of agents.domains f frame.domain) refl) e is
-own_function_grow agents f frame Deliver e is = deliver_grow agents frame e is
-own_function_grow agents f frame Nobody e is = absurd cc
+own_function_grow agents f frame Received.Completion e is = deliver_grow agents frame e is
+own_function_grow agents f frame Received.Unknown e is = absurd cc
 
-function_grow : (w : World) (f : ℕ) (t : Taken) (receipt : Receipt) → Grow Nothing w.agents.domains (arrived_by w f t receipt).agents.domains
-function_grow w f t receipt =
-    ended_grow w t (agents_by_function w.agents f t.frame receipt)
-    (or_grow w.agents (own_by_function w.agents f t.frame receipt) (alien_at_function w.agents f t.frame) (own_function_grow w.agents f t.frame receipt)
+function_grow : (w : World) (f : ℕ) (t : Taken) (received : Received) → Grow Nothing w.agents.domains (arrived_by w f t received).agents.domains
+function_grow w f t received =
+    ended_grow w t (agents_by_function w.agents f t.frame received)
+    (or_grow w.agents (own_by_function w.agents f t.frame received) (alien_at_function w.agents f t.frame) (own_function_grow w.agents f t.frame received)
     (emitted_grow w.agents _ Nothing _ (aliened_grow w.agents (place_of_function w.agents.domains f) (Ingress (to_function f)) t.frame)))
 
 only : (w v u : World) → ◌≡◌ {A = Option World} (Some u) (Some v) → Grow Nothing w.agents.domains u.agents.domains → Grow Nothing w.agents.domains v.agents.domains
@@ -241,19 +240,19 @@ relay_grow : (w : World) (t : Taken) (class : Class) (o : Option LinkEnd) → Le
 relay_grow w t class None v is = absurd cc
 relay_grow w t class (Some end) v is = one_if w v _ _ is refl
 
-root_by_grow : (w : World) (class : Class) (t : Taken) (e : Receipt) → Leaves w.agents.domains Nothing (rooted_by w class t e)
-root_by_grow w class t Relay v is = relay_grow w t class (sender_of w.tree.links from_host) v is
-root_by_grow w class t Carry v is = only w v (ended w t (agents_by_host w.routes.ports w.agents t.frame Carry)) is (host_grow w t Carry)
-root_by_grow w class t Deliver v is = only w v (ended w t (agents_by_host w.routes.ports w.agents t.frame Deliver)) is (host_grow w t Deliver)
-root_by_grow w class t Nobody v is = only w v (ended w t (agents_by_host w.routes.ports w.agents t.frame Nobody)) is (host_grow w t Nobody)
+at_host_by_grow : (w : World) (class : Class) (t : Taken) (e : Received) → Leaves w.agents.domains Nothing (arrived_at_host_by w class t e)
+at_host_by_grow w class t Received.Relayed v is = relay_grow w t class (sender_of w.tree.links from_host) v is
+at_host_by_grow w class t Received.Request v is = only w v (ended w t (agents_by_host w.routes.ports w.agents t.frame Received.Request)) is (host_grow w t Received.Request)
+at_host_by_grow w class t Received.Completion v is = only w v (ended w t (agents_by_host w.routes.ports w.agents t.frame Received.Completion)) is (host_grow w t Received.Completion)
+at_host_by_grow w class t Received.Unknown v is = only w v (ended w t (agents_by_host w.routes.ports w.agents t.frame Received.Unknown)) is (host_grow w t Received.Unknown)
 
-root_grow : (w : World) (class : Class) (o : Option Taken) → Leaves w.agents.domains Nothing (rooted w class o)
-root_grow w class None v is = absurd cc
-root_grow w class (Some t) v is = root_by_grow w class t (receipt_at_host t.frame) v is
+at_host_grow : (w : World) (class : Class) (o : Option Taken) → Leaves w.agents.domains Nothing (arrived_at_host w class o)
+at_host_grow w class None v is = absurd cc
+at_host_grow w class (Some t) v is = at_host_by_grow w class t (received_at_host t.frame) v is
 
 arrived_grow : (w : World) (f : ℕ) (o : Option Taken) → Leaves w.agents.domains Nothing (arrived w f o)
 arrived_grow w f None v is = absurd cc
-arrived_grow w f (Some t) v is = only w v (arrived_by w f t (receipt_at w f t.frame)) is (function_grow w f t (receipt_at w f t.frame))
+arrived_grow w f (Some t) v is = only w v (arrived_by w f t (received_at w f t.frame)) is (function_grow w f t (received_at w f t.frame))
 
 arrive_grow : (w : World) (f : ℕ) (o : Option Taken) (b : Bool) → Leaves w.agents.domains Nothing (cond b (arrived w f o) None)
 arrive_grow w f o true v is = arrived_grow w f o v is
@@ -288,32 +287,32 @@ turn_grow : (w : World) (class : Class) (o : Option ℕ) → Leaves w.agents.dom
 turn_grow w class None v is = absurd cc
 turn_grow w class (Some i) v is = let place = get_or w.tree.places i no_place in pass_at_grow w (site_at w i place) class (taken_at w.channels class place.input) v is
 
--- or loses it
-losing_with_grow : (w : World) (lost : Lost) (t : Taken) (o : Option Made) → ((m : Made) → o ≡ Some m → Grow Nothing w.agents.domains m.domains) → (l : Losing) → losing_with lost t o ≡ Some l → Grow Nothing w.agents.domains l.made.domains
-losing_with_grow w lost t None grow l is = absurd cc
-losing_with_grow w lost t (Some m) grow l is = subst (λ (x : Losing). Grow Nothing w.agents.domains x.made.domains) (some_is (record { lost = lost; taken = t; made = m }) l is) (grow m refl)
+-- or misroutes it
+misrouting_with_grow : (w : World) (misrouted : Misrouted) (t : Taken) (o : Option Made) → ((m : Made) → o ≡ Some m → Grow Nothing w.agents.domains m.domains) → (l : Misrouting) → misrouting_with misrouted t o ≡ Some l → Grow Nothing w.agents.domains l.made.domains
+misrouting_with_grow w misrouted t None grow l is = absurd cc
+misrouting_with_grow w misrouted t (Some m) grow l is = subst (λ (x : Misrouting). Grow Nothing w.agents.domains x.made.domains) (some_is (record { misrouted = misrouted; taken = t; made = m }) l is) (grow m refl)
 
-losing_there_grow : (w : World) (lost : Lost) (t : Taken) (is_there : Bool) (l : Losing) → cond is_there (losing_with lost t (aliened w.agents.domains t.frame.domain lost.place t.frame)) None ≡ Some l → Grow Nothing w.agents.domains l.made.domains
-losing_there_grow w lost t true l is =
-    losing_with_grow w lost t (aliened w.agents.domains t.frame.domain lost.place t.frame) (aliened_grow w.agents (place_of w.agents.domains t.frame.domain) lost.place t.frame) l is
-losing_there_grow w lost t false l is = absurd cc
+misrouting_there_grow : (w : World) (misrouted : Misrouted) (t : Taken) (is_there : Bool) (l : Misrouting) → cond is_there (misrouting_with misrouted t (aliened w.agents.domains t.frame.domain misrouted.place t.frame)) None ≡ Some l → Grow Nothing w.agents.domains l.made.domains
+misrouting_there_grow w misrouted t true l is =
+    misrouting_with_grow w misrouted t (aliened w.agents.domains t.frame.domain misrouted.place t.frame) (aliened_grow w.agents (place_of w.agents.domains t.frame.domain) misrouted.place t.frame) l is
+misrouting_there_grow w misrouted t false l is = absurd cc
 
-losing_taken_grow : (w : World) (lost : Lost) (o : Option Taken) (l : Losing) → option_and_then (losing_to w lost) o ≡ Some l → Grow Nothing w.agents.domains l.made.domains
-losing_taken_grow w lost None l is = absurd cc
-losing_taken_grow w lost (Some t) l is = losing_there_grow w lost t (is_at_port_of w.agents.domains t.frame.domain lost.place) l is
+misrouting_taken_grow : (w : World) (misrouted : Misrouted) (o : Option Taken) (l : Misrouting) → option_and_then (misrouting_to w misrouted) o ≡ Some l → Grow Nothing w.agents.domains l.made.domains
+misrouting_taken_grow w misrouted None l is = absurd cc
+misrouting_taken_grow w misrouted (Some t) l is = misrouting_there_grow w misrouted t (is_at_port_of w.agents.domains t.frame.domain misrouted.place) l is
 
-losing_by_grow : (w : World) (class : Class) (o : Option Lost) (l : Losing) → losing_by w class o ≡ Some l → Grow Nothing w.agents.domains l.made.domains
-losing_by_grow w class None l is = absurd cc
-losing_by_grow w class (Some lost) l is = losing_taken_grow w lost (taken_at w.channels class (Some lost.input)) l is
+misrouting_by_grow : (w : World) (class : Class) (o : Option Misrouted) (l : Misrouting) → misrouting_by w class o ≡ Some l → Grow Nothing w.agents.domains l.made.domains
+misrouting_by_grow w class None l is = absurd cc
+misrouting_by_grow w class (Some misrouted) l is = misrouting_taken_grow w misrouted (taken_at w.channels class (Some misrouted.input)) l is
 
-lose_grow : (w v : World) (l : Losing) (b : Bool) → Grow Nothing w.agents.domains l.made.domains → cond b None (Some (without_lost w l)) ≡ Some v → Grow Nothing w.agents.domains v.agents.domains
-lose_grow w v l true grow is = absurd cc
-lose_grow w v l false grow is = only w v (without_lost w l) is grow
+misroute_grow : (w v : World) (l : Misrouting) (b : Bool) → Grow Nothing w.agents.domains l.made.domains → cond b None (Some (without_misrouted w l)) ≡ Some v → Grow Nothing w.agents.domains v.agents.domains
+misroute_grow w v l true grow is = absurd cc
+misroute_grow w v l false grow is = only w v (without_misrouted w l) is grow
 
-pass_grow : (w : World) (port : ℕ) (class : Class) (o : Option Losing) → losing w port class ≡ o → Leaves w.agents.domains Nothing (passed_unless w port class o)
+pass_grow : (w : World) (port : ℕ) (class : Class) (o : Option Misrouting) → misrouting w port class ≡ o → Leaves w.agents.domains Nothing (passed_unless w port class o)
 pass_grow w port class None e v is = turn_grow w class (index_of w.tree.places port) v is
 pass_grow w port class (Some l) e v is =
-    lose_grow w v l (answers (Some l.made) && is_full Completion (channel_at w.channels l.lost.own)) (losing_by_grow w class (lost_among w.tree w.routes w.channels w.ports port class) l e) is
+    misroute_grow w v l (answers (Some l.made) && is_full Completion (channel_at w.channels l.misrouted.own)) (misrouting_by_grow w class (misrouted_among w.tree w.routes w.channels w.ports port class) l e) is
 
 -- ---- each event
 
@@ -322,11 +321,11 @@ effect_grow w (Submit f b) = begin_grow w _ _ (emitted_grow w.agents _ _ _ (made
 effect_grow w (Tick f) = begin_grow w _ _ (emitted_grow w.agents _ _ _ (made_grows w.agents.domains (entry.Tick f) (place_of_function w.agents.domains f)))
 effect_grow w (Mmio domain access) = begin_grow w _ _ (emitted_grow w.agents _ _ _ (made_grows w.agents.domains (entry.Mmio access) (place_of w.agents.domains domain)))
 effect_grow w (Enter origin class) = enter_grow w origin class (sender_of w.tree.links (link_of origin)) (eligible class (waiting_of w.agents.outboxes origin))
-effect_grow w (Pass port class) = pass_grow w port class (losing w port class) refl
+effect_grow w (Pass port class) = pass_grow w port class (misrouting w port class) refl
 effect_grow w (Send direction class) = wire_grow w (on_channel w.channels (sender_of w.tree.links direction) (send class))
 effect_grow w (Take direction) = wire_grow w (on_channel w.channels (sender_of w.tree.links direction) deliver)
 effect_grow w (Credit direction) = wire_grow w (on_channel w.channels (sender_of w.tree.links direction) update_fc)
-effect_grow w (Root class) = root_grow w class (taken w to_host class)
+effect_grow w (Root class) = at_host_grow w class (taken w to_host class)
 effect_grow w (Arrive f class) = arrive_grow w f (taken w (to_function f) class) (is_some (place_of_function w.agents.domains f))
 
 same_world : (w v : World) → v ≡ w → Grow Nothing w.agents.domains v.agents.domains

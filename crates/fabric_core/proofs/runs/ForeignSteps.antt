@@ -1,4 +1,4 @@
--- A fabric without other domains, where one event of others moves in the whole fabric, or the credits of a link are told
+-- A fabric without other domains, where one event of others moves in the whole fabric, or the credits of a link are returned
 -- in both.
 use Rattle.std.proofs.Common.{◌≡◌, ℕ, ◌≤◌, Bool, true, false, cond, List, [], ◌++◌, map, get_or, set, Option, Some, None, refl, sym, ap, ◌∙◌, subst, arith}
 use Rattle.std.specs.Prelude.{option_map}
@@ -99,16 +99,16 @@ narrow_roomy w w' roomy narrow end class =
     (pair_at Narrows (get_or w.channels end.node []) (get_or w'.channels end.node []) end.output no_channel no_channel (record { start = refl; left = λ k. omega arith; places = λ k few. few })
     (pair_at (Pairwise Narrows) w.channels w'.channels end.node [] [] tt narrow)).places class (roomy end class)
 
--- ---- credits that are told
+-- ---- credits that are returned
 
 -- a direction whose sender knows its credits
-abbrev told : Channel → Channel
-told c = record { start = c.start; left = unspent c.start (c.wire ++ c.ingress); egress = c.egress; wire = c.wire; ingress = c.ingress }
+abbrev updated : Channel → Channel
+updated c = record { start = c.start; left = unspent c.start (c.wire ++ c.ingress); egress = c.egress; wire = c.wire; ingress = c.ingress }
 
-abbrev told_over : World → LinkEnd → World
-told_over w end = with_channels w (with_channel w.channels end (told (channel_at w.channels end)))
+abbrev updated_over : World → LinkEnd → World
+updated_over w end = with_channels w (with_channel w.channels end (updated (channel_at w.channels end)))
 
-known : (c : Channel) → same_counters c.left (unspent c.start (c.wire ++ c.ingress)) ≡ true → c ≡ told c
+known : (c : Channel) → same_counters c.left (unspent c.start (c.wire ++ c.ingress)) ≡ true → c ≡ updated c
 known c e =
     ap (λ (x : Counters). record { start = c.start; left = x; egress = c.egress; wire = c.wire; ingress = c.ingress })
     (same-at c.left (unspent c.start (c.wire ++ c.ingress)) (true-same c.left (unspent c.start (c.wire ++ c.ingress)) e))
@@ -116,26 +116,26 @@ known c e =
 with_same : (cs : List (List Channel)) (end : LinkEnd) → with_channel cs end (channel_at cs end) ≡ cs
 with_same cs end = ap (set cs end.node) (set-get_or (get_or cs end.node []) end.output no_channel) ∙ set-get_or cs end.node []
 
-told_is : (w : World) (end : LinkEnd) → or_same w (option_map (with_channels w) (option_map (with_channel w.channels end) (update_fc (channel_at w.channels end)))) ≡ told_over w end
-told_is w end = by (same_counters (channel_at w.channels end).left (unspent (channel_at w.channels end).start ((channel_at w.channels end).wire ++ (channel_at w.channels end).ingress))) refl
+updated_is : (w : World) (end : LinkEnd) → or_same w (option_map (with_channels w) (option_map (with_channel w.channels end) (update_fc (channel_at w.channels end)))) ≡ updated_over w end
+updated_is w end = by (same_counters (channel_at w.channels end).left (unspent (channel_at w.channels end).start ((channel_at w.channels end).wire ++ (channel_at w.channels end).ingress))) refl
   where
     by : (b : Bool) → same_counters (channel_at w.channels end).left (unspent (channel_at w.channels end).start ((channel_at w.channels end).wire ++ (channel_at w.channels end).ingress)) ≡ b
-        → or_same w (option_map (with_channels w) (option_map (with_channel w.channels end) (cond b None (Some (told (channel_at w.channels end)))))) ≡ told_over w end
+        → or_same w (option_map (with_channels w) (option_map (with_channel w.channels end) (cond b None (Some (updated (channel_at w.channels end)))))) ≡ updated_over w end
     by false e = refl
     by true e =
         ap (with_channels w) (sym (with_same w.channels end)) ∙ ap (λ (c : Channel). with_channels w (with_channel w.channels end c)) (known (channel_at w.channels end) e)
 
 -- the world after, whatever came of it
-told_after : World → Option LinkEnd → World
-told_after w None = w
-told_after w (Some end) = told_over w end
+updated_after : World → Option LinkEnd → World
+updated_after w None = w
+updated_after w (Some end) = updated_over w end
 
-after_is : (w : World) (found : Option LinkEnd) → or_same w (option_map (with_channels w) (on_channel w.channels found update_fc)) ≡ told_after w found
-unfolding told_after
+after_is : (w : World) (found : Option LinkEnd) → or_same w (option_map (with_channels w) (on_channel w.channels found update_fc)) ≡ updated_after w found
+unfolding updated_after
 after_is w None = refl
-after_is w (Some end) = told_is w end
+after_is w (Some end) = updated_is w end
 
-credit_step : (w w' : World) (direction : Direction) (outcome : Outcome) → StepsTo w (Credit direction) outcome w' → w' ≡ told_after w (sender_of w.tree.links direction)
+credit_step : (w w' : World) (direction : Direction) (outcome : Outcome) → StepsTo w (Credit direction) outcome w' → w' ≡ updated_after w (sender_of w.tree.links direction)
 credit_step w w' direction outcome step = by outcome step ∙ after_is w (sender_of w.tree.links direction)
   where
     by : (outcome : Outcome) → StepsTo w (Credit direction) outcome w' → w' ≡ or_same w (effect w (Credit direction))
@@ -145,8 +145,8 @@ credit_step w w' direction outcome step = by outcome step ∙ after_is w (sender
     by NoMemory step = absurd step.1
 
 module _ (d : ℕ) (is_told : Violation → Bool) (w v : World) (m : Mirrors d is_told w v) where
-  told_link : (c other : Channel) → MirrorsLink d c other → MirrorsLink d (told c) (told other)
-  told_link c other link = record {
+  updated_link : (c other : Channel) → MirrorsLink d c other → MirrorsLink d (updated c) (updated other)
+  updated_link c other link = record {
     start = link.start;
     left = λ k.
         let here = unspent_own d c.start (c.wire ++ c.ingress) k in
@@ -160,14 +160,14 @@ module _ (d : ℕ) (is_told : Violation → Bool) (w v : World) (m : Mirrors d i
     ingress = link.ingress;
   }
 
-  told_both : (found : Option LinkEnd) → Mirrors d is_told (told_after w found) (told_after v found)
-  unfolding told_after
-  told_both None = m
-  told_both (Some end) = record {
+  updated_both : (found : Option LinkEnd) → Mirrors d is_told (updated_after w found) (updated_after v found)
+  unfolding updated_after
+  updated_both None = m
+  updated_both (Some end) = record {
     tree = m.tree;
     routes = m.routes;
     configs = m.configs;
-    links = mirrors_with d w.channels v.channels m.links end _ _ (told_link (channel_at w.channels end) (channel_at v.channels end) (mirrors_at d w.channels v.channels m.links end));
+    links = mirrors_with d w.channels v.channels m.links end _ _ (updated_link (channel_at w.channels end) (channel_at v.channels end) (mirrors_at d w.channels v.channels m.links end));
     agents = m.agents;
     violations = m.violations;
   }
@@ -176,22 +176,22 @@ module _ (d : ℕ) (is_told : Violation → Bool) (w v : World) (m : Mirrors d i
   pub credit_both : (w' v' : World) (direction : Direction) (outcome outcome' : Outcome) → StepsTo w (Credit direction) outcome w' → StepsTo v (Credit direction) outcome' v' → Mirrors d is_told w' v'
   credit_both w' v' direction outcome outcome' step step' =
       let found = sender_of w.tree.links direction in
-      let other : v' ≡ told_after v found = credit_step v v' direction outcome' step' ∙ ap (λ (t : Tree). told_after v (sender_of t.links direction)) m.tree in
-      subst (λ (x : World). Mirrors d is_told x v') (sym (credit_step w w' direction outcome step)) (subst (Mirrors d is_told (told_after w found)) (sym other) (told_both found))
+      let other : v' ≡ updated_after v found = credit_step v v' direction outcome' step' ∙ ap (λ (t : Tree). updated_after v (sender_of t.links direction)) m.tree in
+      subst (λ (x : World). Mirrors d is_told x v') (sym (credit_step w w' direction outcome step)) (subst (Mirrors d is_told (updated_after w found)) (sym other) (updated_both found))
 
 abbrev SameSent : Channel → Channel → Type 0
 SameSent old new = new.egress ≡ old.egress
 
-told_roomy : (w : World) (found : Option LinkEnd) → IsRoomy w → IsRoomy (told_after w found)
-unfolding told_after
-told_roomy w None roomy = roomy
-told_roomy w (Some end) roomy = λ other class.
+updated_roomy : (w : World) (found : Option LinkEnd) → IsRoomy w → IsRoomy (updated_after w found)
+unfolding updated_after
+updated_roomy w None roomy = roomy
+updated_roomy w (Some end) roomy = λ other class.
     let outputs = get_or w.channels end.node [] in
-    let changed = pair_changed (Pairwise SameSent) (pair_same SameSent (λ c. refl)) w.channels end.node (set outputs end.output (told (channel_at w.channels end))) []
-    (pair_changed SameSent (λ c. refl) outputs end.output (told (channel_at w.channels end)) no_channel refl) in
-    let same = pair_at SameSent (get_or w.channels other.node []) (get_or (with_channel w.channels end (told (channel_at w.channels end))) other.node []) other.output no_channel no_channel refl
-    (pair_at (Pairwise SameSent) w.channels (with_channel w.channels end (told (channel_at w.channels end))) other.node [] [] tt changed) in
+    let changed = pair_changed (Pairwise SameSent) (pair_same SameSent (λ c. refl)) w.channels end.node (set outputs end.output (updated (channel_at w.channels end))) []
+    (pair_changed SameSent (λ c. refl) outputs end.output (updated (channel_at w.channels end)) no_channel refl) in
+    let same = pair_at SameSent (get_or w.channels other.node []) (get_or (with_channel w.channels end (updated (channel_at w.channels end))) other.node []) other.output no_channel no_channel refl
+    (pair_at (Pairwise SameSent) w.channels (with_channel w.channels end (updated (channel_at w.channels end))) other.node [] [] tt changed) in
     subst (λ (xs : List Descriptor). count_in class xs ≤ 16) (sym same) (roomy other class)
 
 pub credit_roomy : (w w' : World) (direction : Direction) (outcome : Outcome) → StepsTo w (Credit direction) outcome w' → IsRoomy w → IsRoomy w'
-credit_roomy w w' direction outcome step roomy = subst IsRoomy (sym (credit_step w w' direction outcome step)) (told_roomy w (sender_of w.tree.links direction) roomy)
+credit_roomy w w' direction outcome step roomy = subst IsRoomy (sym (credit_step w w' direction outcome step)) (updated_roomy w (sender_of w.tree.links direction) roomy)

@@ -24,7 +24,7 @@ use Rattle.fabric_core.specs.Events.{StepsTo, effect, refusal}
 use Rattle.fabric_core.specs.Invariant.{IsFabric}
 use Rattle.fabric_core.specs.Isolation.{beginner, is_event_of, is_number, own_refusal}
 use Rattle.fabric_core.specs.Soundness.{IsGuardedFabric, share_of}
-use Rattle.fabric_core.specs.TakenOut.{HasMemory, is_by, is_left, is_moved, tells_credits}
+use Rattle.fabric_core.specs.TakenOut.{HasMemory, is_by, is_left, is_moved, returns_credits}
 use Rattle.fabric_core.specs.World.{World, is_guarded, with_agents}
 use Rattle.fabric_core.proofs.apart.Apart.{apart_after}
 use Rattle.fabric_core.proofs.runs.Begun.{step_grow}
@@ -126,7 +126,7 @@ module _ (d : ℕ) (is_told : Violation → Bool) (w v : World) (a : Accords d i
 
   -- ---- it moved
 
-  module _ (event : Event) (w' : World) (is : effect w event ≡ Some w') (quiet : tells_credits event ≡ false) where
+  module _ (event : Event) (w' : World) (is : effect w event ≡ Some w') (quiet : returns_credits event ≡ false) where
     tightens : (p : Violation → Bool) → TellsNone p w event → Tightens p w w'
     tightens p none = subst (λ (o : Option World). IfSome o (Tightens p w)) is (effect_tightens p w a.fabric.kept g event quiet none)
 
@@ -148,26 +148,26 @@ module _ (d : ℕ) (is_told : Violation → Bool) (w v : World) (a : Accords d i
         let moved = has_moved v too.0 g' event outcome v' too.1 step memory in
         (moved.0, accords_with event w' Moved is v' (subst (Mirrors d is_told w') (sym moved.1) too.2) still_roomy (fabric_step fabric_after v v' event outcome a.other step))
 
-  -- ---- credits were told
+  -- ---- credits were returned
 
-  pub credits_told : (event : Event) (w' v' : World) (outcome outcome' : Outcome) → tells_credits event ≡ true → StepsTo w event outcome w' → StepsTo v event outcome' v' → Accords d is_told w' v'
-  credits_told (Credit direction) w' v' outcome outcome' quiet step step' =
+  pub credits_returned : (event : Event) (w' v' : World) (outcome outcome' : Outcome) → returns_credits event ≡ true → StepsTo w event outcome w' → StepsTo v event outcome' v' → Accords d is_told w' v'
+  credits_returned (Credit direction) w' v' outcome outcome' quiet step step' =
       accords_with (Credit direction) w' outcome step v' (credit_both d is_told w v a.mirrors w' v' direction outcome outcome' step step') (credit_roomy w w' direction outcome step a.roomy)
       (fabric_step fabric_after v v' (Credit direction) outcome' a.other step')
-  credits_told (Submit function bytes) w' v' outcome outcome' quiet step step' = absurd cc
-  credits_told (Tick function) w' v' outcome outcome' quiet step step' = absurd cc
-  credits_told (Mmio domain access) w' v' outcome outcome' quiet step step' = absurd cc
-  credits_told (Enter origin class) w' v' outcome outcome' quiet step step' = absurd cc
-  credits_told (Pass port class) w' v' outcome outcome' quiet step step' = absurd cc
-  credits_told (Send direction class) w' v' outcome outcome' quiet step step' = absurd cc
-  credits_told (Take direction) w' v' outcome outcome' quiet step step' = absurd cc
-  credits_told (Root class) w' v' outcome outcome' quiet step step' = absurd cc
-  credits_told (Arrive function class) w' v' outcome outcome' quiet step step' = absurd cc
+  credits_returned (Submit function bytes) w' v' outcome outcome' quiet step step' = absurd cc
+  credits_returned (Tick function) w' v' outcome outcome' quiet step step' = absurd cc
+  credits_returned (Mmio domain access) w' v' outcome outcome' quiet step step' = absurd cc
+  credits_returned (Enter origin class) w' v' outcome outcome' quiet step step' = absurd cc
+  credits_returned (Pass port class) w' v' outcome outcome' quiet step step' = absurd cc
+  credits_returned (Send direction class) w' v' outcome outcome' quiet step step' = absurd cc
+  credits_returned (Take direction) w' v' outcome outcome' quiet step step' = absurd cc
+  credits_returned (Root class) w' v' outcome outcome' quiet step step' = absurd cc
+  credits_returned (Arrive function class) w' v' outcome outcome' quiet step step' = absurd cc
 
   -- ---- any event
 
   -- what isn't left changes nothing of the domain
-  skipped_by : (event : Event) (outcome : Outcome) (w' : World) → StepsTo w event outcome w' → tells_credits event ≡ false → (is_event_of w d event && is_moved outcome) ≡ false → Accords d is_told w' v
+  skipped_by : (event : Event) (outcome : Outcome) (w' : World) → StepsTo w event outcome w' → returns_credits event ≡ false → (is_event_of w d event && is_moved outcome) ≡ false → Accords d is_told w' v
   skipped_by event Moved w' step quiet other = others_moved event w' step quiet (sym (and-true (is_event_of w d event)) ∙ other)
   skipped_by event Idle w' step quiet other = subst (λ (x : World). Accords d is_told x v) (sym step.2) a
   skipped_by event (Refused fault) w' step quiet other = subst (λ (x : World). Accords d is_told x v) (sym step.1) a
@@ -175,21 +175,21 @@ module _ (d : ℕ) (is_told : Violation → Bool) (w v : World) (a : Accords d i
 
   pub skipped : (event : Event) (outcome : Outcome) (w' : World) → StepsTo w event outcome w' → is_left d w event outcome ≡ false → Accords d is_told w' v
   skipped event outcome w' step out =
-      let parts = or_parts (tells_credits event) (is_event_of w d event && is_moved outcome) out in
+      let parts = or_parts (returns_credits event) (is_event_of w d event && is_moved outcome) out in
       skipped_by event outcome w' step parts.0 parts.1
 
   -- what is left does the same in both
-  kept_by : (event : Event) (outcome outcome' : Outcome) (w' v' : World) (tells own : Bool) → tells_credits event ≡ tells → is_event_of w d event ≡ own → StepsTo w event outcome w' → StepsTo v event outcome' v' → HasMemory outcome' → (tells || (own && is_moved outcome)) ≡ true
-      → ((tells || is_moved outcome') ≡ true) × Accords d is_told w' v'
-  kept_by event outcome outcome' w' v' true own e f step step' memory left = (refl, credits_told event w' v' outcome outcome' e step step')
+  kept_by : (event : Event) (outcome outcome' : Outcome) (w' v' : World) (returned own : Bool) → returns_credits event ≡ returned → is_event_of w d event ≡ own → StepsTo w event outcome w' → StepsTo v event outcome' v' → HasMemory outcome' → (returned || (own && is_moved outcome)) ≡ true
+      → ((returned || is_moved outcome') ≡ true) × Accords d is_told w' v'
+  kept_by event outcome outcome' w' v' true own e f step step' memory left = (refl, credits_returned event w' v' outcome outcome' e step step')
   kept_by event Moved outcome' w' v' false true e f step step' memory left = own_moved event w' step e v' outcome' f step' memory
   kept_by event Idle outcome' w' v' false true e f step step' memory left = absurd cc
   kept_by event (Refused fault) outcome' w' v' false true e f step step' memory left = absurd cc
   kept_by event NoMemory outcome' w' v' false true e f step step' memory left = absurd cc
   kept_by event outcome outcome' w' v' false false e f step step' memory left = absurd cc
 
-  pub kept : (event : Event) (outcome outcome' : Outcome) (w' v' : World) → StepsTo w event outcome w' → StepsTo v event outcome' v' → HasMemory outcome' → is_left d w event outcome ≡ true → IsTrue (tells_credits event || is_moved outcome') × Accords d is_told w' v'
-  kept event outcome outcome' w' v' step step' memory left = kept_by event outcome outcome' w' v' (tells_credits event) (is_event_of w d event) refl refl step step' memory left
+  pub kept : (event : Event) (outcome outcome' : Outcome) (w' v' : World) → StepsTo w event outcome w' → StepsTo v event outcome' v' → HasMemory outcome' → is_left d w event outcome ≡ true → IsTrue (returns_credits event || is_moved outcome') × Accords d is_told w' v'
+  kept event outcome outcome' w' v' step step' memory left = kept_by event outcome outcome' w' v' (returns_credits event) (is_event_of w d event) refl refl step step' memory left
 
   -- ---- and it can be done
 
@@ -201,25 +201,25 @@ module _ (d : ℕ) (is_told : Violation → Bool) (w v : World) (a : Accords d i
   credit_goes direction None e = (Idle, v, (e, refl, refl), λ same. absurd cc)
   credit_goes direction (Some v') e = (Moved, v', e, λ same. absurd cc)
 
-  tells_go : (event : Event) → tells_credits event ≡ true → Goes event
-  tells_go (Credit direction) tells = credit_goes direction (effect v (Credit direction)) refl
-  tells_go (Submit function bytes) tells = absurd cc
-  tells_go (Tick function) tells = absurd cc
-  tells_go (Mmio domain access) tells = absurd cc
-  tells_go (Enter origin class) tells = absurd cc
-  tells_go (Pass port class) tells = absurd cc
-  tells_go (Send direction class) tells = absurd cc
-  tells_go (Take direction) tells = absurd cc
-  tells_go (Root class) tells = absurd cc
-  tells_go (Arrive function class) tells = absurd cc
+  returned_goes : (event : Event) → returns_credits event ≡ true → Goes event
+  returned_goes (Credit direction) returned = credit_goes direction (effect v (Credit direction)) refl
+  returned_goes (Submit function bytes) returned = absurd cc
+  returned_goes (Tick function) returned = absurd cc
+  returned_goes (Mmio domain access) returned = absurd cc
+  returned_goes (Enter origin class) returned = absurd cc
+  returned_goes (Pass port class) returned = absurd cc
+  returned_goes (Send direction class) returned = absurd cc
+  returned_goes (Take direction) returned = absurd cc
+  returned_goes (Root class) returned = absurd cc
+  returned_goes (Arrive function class) returned = absurd cc
 
   own_goes : (event : Event) (w' : World) → effect w event ≡ Some w' → is_event_of w d event ≡ true → Goes event
   own_goes event w' is own =
       let too = follows_some (Mirrors d is_told) (effect w event) (effect v event) w' (own_step d is_told w v a.mirrors a.roomy a.fabric.kept.settled.numbered g (a.other.guarded guarded_other) event own) is in
       (Moved, too.0, too.1, λ same. absurd cc)
 
-  goes_by : (event : Event) (outcome : Outcome) (w' : World) (tells own : Bool) → tells_credits event ≡ tells → is_event_of w d event ≡ own → StepsTo w event outcome w' → (tells || (own && is_moved outcome)) ≡ true → Goes event
-  goes_by event outcome w' true own e f step left = tells_go event e
+  goes_by : (event : Event) (outcome : Outcome) (w' : World) (returned own : Bool) → returns_credits event ≡ returned → is_event_of w d event ≡ own → StepsTo w event outcome w' → (returned || (own && is_moved outcome)) ≡ true → Goes event
+  goes_by event outcome w' true own e f step left = returned_goes event e
   goes_by event Moved w' false true e f step left = own_goes event w' step f
   goes_by event Idle w' false true e f step left = absurd cc
   goes_by event (Refused fault) w' false true e f step left = absurd cc
@@ -227,4 +227,4 @@ module _ (d : ℕ) (is_told : Violation → Bool) (w v : World) (a : Accords d i
   goes_by event outcome w' false false e f step left = absurd cc
 
   pub goes : (event : Event) (outcome : Outcome) (w' : World) → StepsTo w event outcome w' → is_left d w event outcome ≡ true → Goes event
-  goes event outcome w' step left = goes_by event outcome w' (tells_credits event) (is_event_of w d event) refl refl step left
+  goes event outcome w' step left = goes_by event outcome w' (returns_credits event) (is_event_of w d event) refl refl step left

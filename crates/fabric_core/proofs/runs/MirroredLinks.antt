@@ -10,7 +10,7 @@ use Rattle.link.proofs.Credits.{at-spent, at-unspent, both-true, true-both}
 use Rattle.lane.specs.Lanes.{eligible}
 use Rattle.topology.specs.declared.nodes.LinkEnd.{LinkEnd}
 use Rattle.interconnect.specs.Moves.{channel_at, left_at, no_channel, put_at, with_channel}
-use Rattle.fabric_core.specs.Receipts.{taken_at, taken_from}
+use Rattle.fabric_core.specs.Arrivals.{taken_at, taken_from}
 use Rattle.fabric_core.specs.Isolation.{home_of, home_of_taken, home_oldest, is_number, own}
 use Rattle.fabric_core.proofs.runs.Mirrors.{Follows, MirrorsLink, MirrorsLinks, MirrorsTaken}
 use Rattle.fabric_core.proofs.runs.OwnOnes.{IsOwn, own_count, own_eligible, own_first, own_last, own_total}

@@ -10,7 +10,7 @@ use Rattle.domain.specs.Domains.{DomainView}
 use Rattle.domains.specs.Agents.{AgentsView, Outbox}
 use Rattle.link.specs.Channels.{Channel}
 use Rattle.domains.specs.Domains.{Made}
-use Rattle.fabric_core.specs.Receipts.{Taken}
+use Rattle.fabric_core.specs.Arrivals.{Taken}
 use Rattle.fabric_core.specs.Isolation.{own}
 use Rattle.fabric_core.specs.Soundness.{config_of, share_of}
 use Rattle.fabric_core.specs.World.{World}

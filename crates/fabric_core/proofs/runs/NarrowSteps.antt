@@ -1,4 +1,4 @@
--- No event of a guarded fabric but one that tells credits gives any, and none fills a queue over; none changes the links,
+-- No event of a guarded fabric but one that returns credits gives any, and none fills a queue over; none changes the links,
 -- the ports or whose an outbox is.
 use Rattle.std.proofs.Common.{◌≡◌, ℕ, ◌<◌, ◌==◌, Bool, true, false, cond, List, [], ◌∷◌, ◌++◌, length, map, get_or, Option, Some, None, refl, sym, ap, ◌∙◌, subst}
 use Rattle.std.specs.Prelude.{IfSome, filter, is_some, option_map, option_to_list}
@@ -28,18 +28,17 @@ use Rattle.interconnect.specs.Moves.{channel_at, on_channel, put_at, with_channe
 use Rattle.interconnect.specs.Passes.{index_of, no_place}
 use Rattle.fabric_core.specs.declared.event.Event.{Event}
 use Rattle.fabric_core.specs.declared.event.Event.TheVariants.{Arrive, Credit, Enter, Mmio, Pass, Root, Send, Submit, Take, Tick}
-use Rattle.fabric_core.specs.Receipts.{Taken, arrived, arrived_by, agents_by_host, ended, receipt_at, from_host, own_by_function, own_by_host, relayed, rooted, rooted_by, taken, taken_at, to_function, to_host}
-use Rattle.received.specs.declared.receipt.Receipt.{Receipt}
-use Rattle.received.specs.declared.receipt.Receipt.TheVariants.{Carry, Deliver, Nobody, Relay}
-use Rattle.received.specs.Receipts.{receipt_at_host}
+use Rattle.fabric_core.specs.Arrivals.{Taken, arrived, arrived_by, agents_by_host, ended, received_at, from_host, own_by_function, own_by_host, relayed, arrived_at_host, arrived_at_host_by, taken, taken_at, to_function, to_host}
+use Rattle.received.specs.declared.received.Received.{Received}
+use Rattle.received.specs.Received.{received_at_host}
 use Rattle.fabric_core.specs.Events.{effect, entered_at, link_of}
 use Rattle.fabric_core.specs.Invariant.{IsConsistent}
-use Rattle.fabric_core.specs.Losing.{pass}
+use Rattle.fabric_core.specs.Misrouting.{pass}
 use Rattle.switch_output.specs.Vetted.{may_go_on}
 use Rattle.fabric_core.specs.Passing.{Site, answer_waits, answered_at, is_full_at, output_end, passed, passed_by, passed_number, port_number, refused_by, site_at, strayed}
 use Rattle.fabric_core.specs.Places.{IsFlown}
 use Rattle.fabric_core.specs.Soundness.{IsGuardedFabric, config_of}
-use Rattle.fabric_core.specs.TakenOut.{tells_credits}
+use Rattle.fabric_core.specs.TakenOut.{returns_credits}
 use Rattle.fabric_core.specs.World.{World, with_channels, with_agents}
 use Rattle.fabric_core.proofs.effect.Answered.{only_non_posted_are_answered}
 use Rattle.fabric_core.proofs.soundness.GuardedAliens.{home_at_function, home_at_host, passes_as_turned}
@@ -136,45 +135,45 @@ module _ (is_told : Violation → Bool) where
   silent_origins agents None = tt
   silent_origins agents (Some m) = refl
 
-  host_origins : (agents : AgentsView) (frame : Descriptor) (receipt : Receipt) → IfSome (own_by_host agents frame receipt) (SameOrigins agents)
-  host_origins agents frame Relay = tt
-  host_origins agents frame Carry = emitted_origins agents (origin.Host frame.domain) (made agents.domains frame.domain (entry.Carry frame.number))
-  host_origins agents frame Deliver = silent_origins agents (made agents.domains frame.domain (entry.Deliver frame.number))
-  host_origins agents frame Nobody = tt
+  host_origins : (agents : AgentsView) (frame : Descriptor) (received : Received) → IfSome (own_by_host agents frame received) (SameOrigins agents)
+  host_origins agents frame Received.Relayed = tt
+  host_origins agents frame Received.Request = emitted_origins agents (origin.Host frame.domain) (made agents.domains frame.domain (entry.Carry frame.number))
+  host_origins agents frame Received.Completion = silent_origins agents (made agents.domains frame.domain (entry.Deliver frame.number))
+  host_origins agents frame Received.Unknown = tt
 
-  function_origins : (agents : AgentsView) (function : ℕ) (frame : Descriptor) (receipt : Receipt) → IfSome (own_by_function agents function frame receipt) (SameOrigins agents)
-  function_origins agents function frame Relay = tt
-  function_origins agents function frame Carry = emitted_origins agents (origin.Function function) (cond (is_function_of agents.domains function frame.domain) (made agents.domains frame.domain (entry.Carry frame.number)) None)
-  function_origins agents function frame Deliver = silent_origins agents (made agents.domains frame.domain (entry.Deliver frame.number))
-  function_origins agents function frame Nobody = tt
+  function_origins : (agents : AgentsView) (function : ℕ) (frame : Descriptor) (received : Received) → IfSome (own_by_function agents function frame received) (SameOrigins agents)
+  function_origins agents function frame Received.Relayed = tt
+  function_origins agents function frame Received.Request = emitted_origins agents (origin.Function function) (cond (is_function_of agents.domains function frame.domain) (made agents.domains frame.domain (entry.Carry frame.number)) None)
+  function_origins agents function frame Received.Completion = silent_origins agents (made agents.domains frame.domain (entry.Deliver frame.number))
+  function_origins agents function frame Received.Unknown = tt
 
   ended_tightens : (w : World) (t : Taken) (o : Option AgentsView) → NarrowLinks w.channels t.channels → IfSome o (SameOrigins w.agents) → Tightens is_told w (ended w t o)
   ended_tightens w t None links same = record { tree = refl; configs = refl; origins = refl; links = links; violations = refl }
   ended_tightens w t (Some agents) links same = record { tree = refl; configs = refl; origins = same; links = links; violations = refl }
 
   module _ (w : World) (g : IsGuardedFabric w) where
-    at_host : (class : Class) (t : Taken) (receipt : Receipt) → TakenNarrowly w.channels class t → Tightens is_told w (ended w t (agents_by_host w.routes.ports w.agents t.frame receipt))
-    at_host class t receipt narrowly =
-        subst (λ (o : Option AgentsView). Tightens is_told w (ended w t o)) (sym (home_at_host w g t.frame receipt)) (ended_tightens w t (own_by_host w.agents t.frame receipt) narrowly.links (host_origins w.agents t.frame receipt))
+    at_host : (class : Class) (t : Taken) (received : Received) → TakenNarrowly w.channels class t → Tightens is_told w (ended w t (agents_by_host w.routes.ports w.agents t.frame received))
+    at_host class t received narrowly =
+        subst (λ (o : Option AgentsView). Tightens is_told w (ended w t o)) (sym (home_at_host w g t.frame received)) (ended_tightens w t (own_by_host w.agents t.frame received) narrowly.links (host_origins w.agents t.frame received))
 
-    rooted_tightens : (class : Class) (t : Taken) (receipt : Receipt) → TakenNarrowly w.channels class t → Tighten w (rooted_by w class t receipt)
-    rooted_tightens class t Relay narrowly = sent_down w class t narrowly (sender_of w.tree.links from_host)
-    rooted_tightens class t Carry narrowly = at_host class t Carry narrowly
-    rooted_tightens class t Deliver narrowly = at_host class t Deliver narrowly
-    rooted_tightens class t Nobody narrowly = at_host class t Nobody narrowly
+    at_host_tightens : (class : Class) (t : Taken) (received : Received) → TakenNarrowly w.channels class t → Tighten w (arrived_at_host_by w class t received)
+    at_host_tightens class t Received.Relayed narrowly = sent_down w class t narrowly (sender_of w.tree.links from_host)
+    at_host_tightens class t Received.Request narrowly = at_host class t Received.Request narrowly
+    at_host_tightens class t Received.Completion narrowly = at_host class t Received.Completion narrowly
+    at_host_tightens class t Received.Unknown narrowly = at_host class t Received.Unknown narrowly
 
-    root_if : (class : Class) (o : Option Taken) → IfSome o (TakenNarrowly w.channels class) → Tighten w (rooted w class o)
-    root_if class None narrowly = tt
-    root_if class (Some t) narrowly = rooted_tightens class t (receipt_at_host t.frame) narrowly
+    at_host_if : (class : Class) (o : Option Taken) → IfSome o (TakenNarrowly w.channels class) → Tighten w (arrived_at_host w class o)
+    at_host_if class None narrowly = tt
+    at_host_if class (Some t) narrowly = at_host_tightens class t (received_at_host t.frame) narrowly
 
-    arrived_tightens : (function : ℕ) (class : Class) (t : Taken) (receipt : Receipt) → TakenNarrowly w.channels class t → Tightens is_told w (arrived_by w function t receipt)
-    arrived_tightens function class t receipt narrowly =
-        subst (λ (o : Option AgentsView). Tightens is_told w (ended w t o)) (sym (home_at_function w g function t.frame receipt)) (ended_tightens w t (own_by_function w.agents function t.frame receipt) narrowly.links (function_origins w.agents function t.frame receipt))
+    arrived_tightens : (function : ℕ) (class : Class) (t : Taken) (received : Received) → TakenNarrowly w.channels class t → Tightens is_told w (arrived_by w function t received)
+    arrived_tightens function class t received narrowly =
+        subst (λ (o : Option AgentsView). Tightens is_told w (ended w t o)) (sym (home_at_function w g function t.frame received)) (ended_tightens w t (own_by_function w.agents function t.frame received) narrowly.links (function_origins w.agents function t.frame received))
 
     arrive_if : (function : ℕ) (class : Class) (b : Bool) (o : Option Taken) → IfSome o (TakenNarrowly w.channels class) → Tighten w (cond b (arrived w function o) None)
     arrive_if function class false o narrowly = tt
     arrive_if function class true None narrowly = tt
-    arrive_if function class true (Some t) narrowly = arrived_tightens function class t (receipt_at w function t.frame) narrowly
+    arrive_if function class true (Some t) narrowly = arrived_tightens function class t (received_at w function t.frame) narrowly
 
   -- ---- at a port
 
@@ -230,7 +229,7 @@ module _ (is_told : Violation → Bool) where
 
   -- ---- each event
 
-  pub effect_tightens : (w : World) → IsConsistent w → IsGuardedFabric w → (event : Event) → tells_credits event ≡ false → TellsNone is_told w event → Tighten w (effect w event)
+  pub effect_tightens : (w : World) → IsConsistent w → IsGuardedFabric w → (event : Event) → returns_credits event ≡ false → TellsNone is_told w event → Tighten w (effect w event)
   effect_tightens w kept g (Submit function bytes) other none = begun w (origin.Function function) (made_at w.agents.domains (entry.Submit function bytes) (place_of_function w.agents.domains function))
   effect_tightens w kept g (Tick function) other none = begun w (origin.Function function) (made_at w.agents.domains (entry.Tick function) (place_of_function w.agents.domains function))
   effect_tightens w kept g (Mmio domain access) other none = begun w (origin.Host domain) (made_at w.agents.domains (entry.Mmio access) (place_of w.agents.domains domain))
@@ -242,6 +241,6 @@ module _ (is_told : Violation → Bool) where
   effect_tightens w kept g (Send direction class) other none = on_link w (sender_of w.tree.links direction) (send class) (send_narrows class)
   effect_tightens w kept g (Take direction) other none = on_link w (sender_of w.tree.links direction) deliver receive_narrows
   effect_tightens w kept g (Credit direction) other none = absurd cc
-  effect_tightens w kept g (Root class) other none = root_if w g class (taken w to_host class) (taken_narrowly w.channels class (sender_of w.tree.links to_host))
+  effect_tightens w kept g (Root class) other none = at_host_if w g class (taken w to_host class) (taken_narrowly w.channels class (sender_of w.tree.links to_host))
   effect_tightens w kept g (Arrive function class) other none =
       arrive_if w g function class (is_some (place_of_function w.agents.domains function)) (taken w (to_function function) class) (taken_narrowly w.channels class (sender_of w.tree.links (to_function function)))

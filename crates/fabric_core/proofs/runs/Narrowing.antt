@@ -18,7 +18,7 @@ use Rattle.topology.specs.declared.nodes.LinkEnd.{LinkEnd}
 use Rattle.interconnect.specs.Moves.{channel_at, left_at, no_channel, put_at, with_channel}
 use Rattle.interconnect.proofs.Room.{full_left}
 use Rattle.lane.proofs.Waiting.{class_of-taken}
-use Rattle.fabric_core.specs.Receipts.{Taken, taken_at, taken_from}
+use Rattle.fabric_core.specs.Arrivals.{Taken, taken_at, taken_from}
 use Rattle.fabric_core.proofs.runs.MirroredLinks.{AtMost}
 use Rattle.fabric_core.proofs.runs.Pairwise.{Pairwise, pair_changed, pair_same, pair_then}
 

@@ -15,10 +15,9 @@ use Rattle.domains.specs.Domains.{Made, made, place_of_function}
 use Rattle.topology.specs.Links.{sender_of}
 use Rattle.topology.specs.declared.nodes.LinkEnd.{LinkEnd}
 use Rattle.interconnect.specs.Moves.{channel_at, put_at}
-use Rattle.fabric_core.specs.Receipts.{Taken, arrive, arrived, arrived_by, ended, receipt_at, agents_by_host, from_host, own_by_function, own_by_host, relayed, root, rooted, rooted_by, taken, to_function, to_host}
-use Rattle.received.specs.declared.receipt.Receipt.{Receipt}
-use Rattle.received.specs.declared.receipt.Receipt.TheVariants.{Carry, Deliver, Nobody, Relay}
-use Rattle.received.specs.Receipts.{receipt_at_host, receipt_by_function}
+use Rattle.fabric_core.specs.Arrivals.{Taken, arrive, arrived, arrived_by, ended, received_at, agents_by_host, from_host, own_by_function, own_by_host, relayed, arrive_at_host, arrived_at_host, arrived_at_host_by, taken, to_function, to_host}
+use Rattle.received.specs.declared.received.Received.{Received}
+use Rattle.received.specs.Received.{received_at_host, received_by_function}
 use Rattle.fabric_core.specs.Isolation.{home_of_taken, is_number}
 use Rattle.fabric_core.specs.Soundness.{IsGuardedFabric}
 use Rattle.fabric_core.specs.World.{World, with_channels}
@@ -47,23 +46,23 @@ module _ (d : ℕ) (one other : AgentsView) (numbers : AreNumbered one.domains) 
       → AgentsAlike d (option_map (λ (m : Made). record { domains = m.domains; outboxes = one.outboxes }) x) (option_map (λ (m : Made). record { domains = m.domains; outboxes = other.outboxes }) y)
   delivered_alike x y alike = alike_mapped (MirrorsMade d) (MirrorsAgents d) _ _ (silent_too d one other m) x y alike
 
-  pub host_alike : (receipt : Receipt) → AgentsAlike d (own_by_host one frame receipt) (own_by_host other frame receipt)
-  host_alike Relay = tt
-  host_alike Carry = emitted_alike (origin.Host frame.domain) (made one.domains frame.domain (entry.Carry frame.number)) (made other.domains frame.domain (entry.Carry frame.number)) (at_home (entry.Carry frame.number))
-  host_alike Deliver = delivered_alike (made one.domains frame.domain (entry.Deliver frame.number)) (made other.domains frame.domain (entry.Deliver frame.number)) (at_home (entry.Deliver frame.number))
-  host_alike Nobody = tt
+  pub host_alike : (received : Received) → AgentsAlike d (own_by_host one frame received) (own_by_host other frame received)
+  host_alike Received.Relayed = tt
+  host_alike Received.Request = emitted_alike (origin.Host frame.domain) (made one.domains frame.domain (entry.Carry frame.number)) (made other.domains frame.domain (entry.Carry frame.number)) (at_home (entry.Carry frame.number))
+  host_alike Received.Completion = delivered_alike (made one.domains frame.domain (entry.Deliver frame.number)) (made other.domains frame.domain (entry.Deliver frame.number)) (at_home (entry.Deliver frame.number))
+  host_alike Received.Unknown = tt
 
   carried_alike : (function : ℕ) (b : Bool) → AgentsAlike d (emitted_if one (origin.Function function) (cond b (made one.domains frame.domain (entry.Carry frame.number)) None)) (emitted_if other (origin.Function function) (cond b (made other.domains frame.domain (entry.Carry frame.number)) None))
   carried_alike function true = emitted_alike (origin.Function function) (made one.domains frame.domain (entry.Carry frame.number)) (made other.domains frame.domain (entry.Carry frame.number)) (at_home (entry.Carry frame.number))
   carried_alike function false = tt
 
-  pub function_alike : (function : ℕ) (receipt : Receipt) → AgentsAlike d (own_by_function one function frame receipt) (own_by_function other function frame receipt)
-  function_alike function Relay = tt
-  function_alike function Carry =
-      subst (λ (b : Bool). AgentsAlike d (own_by_function one function frame Carry) (emitted_if other (origin.Function function) (cond b (made other.domains frame.domain (entry.Carry frame.number)) None)))
+  pub function_alike : (function : ℕ) (received : Received) → AgentsAlike d (own_by_function one function frame received) (own_by_function other function frame received)
+  function_alike function Received.Relayed = tt
+  function_alike function Received.Request =
+      subst (λ (b : Bool). AgentsAlike d (own_by_function one function frame Received.Request) (emitted_if other (origin.Function function) (cond b (made other.domains frame.domain (entry.Carry frame.number)) None)))
       (sym (function_of_same one.domains other.domains m.domains.shares function frame.domain)) (carried_alike function (is_function_of one.domains function frame.domain))
-  function_alike function Deliver = delivered_alike (made one.domains frame.domain (entry.Deliver frame.number)) (made other.domains frame.domain (entry.Deliver frame.number)) (at_home (entry.Deliver frame.number))
-  function_alike function Nobody = tt
+  function_alike function Received.Completion = delivered_alike (made one.domains frame.domain (entry.Deliver frame.number)) (made other.domains frame.domain (entry.Deliver frame.number)) (at_home (entry.Deliver frame.number))
+  function_alike function Received.Unknown = tt
 
 module _ (d : ℕ) (is_told : Violation → Bool) (w : World) (channels : List (List Channel)) (ports : List PortView) (agents : AgentsView) (violations : List Violation) (strays : List Descriptor) (m : Beside d is_told w channels ports agents violations) where
   abbrev other : World
@@ -100,46 +99,46 @@ module _ (d : ℕ) (is_told : Violation → Bool) (w : World) (channels : List (
       -- ---- at the host and at functions
 
       module _ (g : IsGuardedFabric w) (g' : IsGuardedFabric other) (numbers : AreNumbered w.agents.domains) where
-        at_host : (receipt : Receipt) → Mirrors d is_told (ended w t (agents_by_host w.routes.ports w.agents t.frame receipt)) (ended other too (agents_by_host w.routes.ports agents t.frame receipt))
-        at_host receipt =
-            subst (λ (o : Option AgentsView). Mirrors d is_told (ended w t o) (ended other too (agents_by_host w.routes.ports agents t.frame receipt))) (sym (home_at_host w g t.frame receipt))
-            (subst (λ (o : Option AgentsView). Mirrors d is_told (ended w t (own_by_host w.agents t.frame receipt)) (ended other too o)) (sym (home_at_host other g' t.frame receipt))
-            (ended_too (own_by_host w.agents t.frame receipt) (own_by_host agents t.frame receipt) (host_alike d w.agents agents numbers m.agents t.frame is receipt)))
+        at_host : (received : Received) → Mirrors d is_told (ended w t (agents_by_host w.routes.ports w.agents t.frame received)) (ended other too (agents_by_host w.routes.ports agents t.frame received))
+        at_host received =
+            subst (λ (o : Option AgentsView). Mirrors d is_told (ended w t o) (ended other too (agents_by_host w.routes.ports agents t.frame received))) (sym (home_at_host w g t.frame received))
+            (subst (λ (o : Option AgentsView). Mirrors d is_told (ended w t (own_by_host w.agents t.frame received)) (ended other too o)) (sym (home_at_host other g' t.frame received))
+            (ended_too (own_by_host w.agents t.frame received) (own_by_host agents t.frame received) (host_alike d w.agents agents numbers m.agents t.frame is received)))
 
-        rooted_too : (class : Class) (receipt : Receipt) → Both (rooted_by w class t receipt) (rooted_by other class too receipt)
-        rooted_too class Relay = relayed_too class (sender_of w.tree.links from_host)
-        rooted_too class Carry = at_host Carry
-        rooted_too class Deliver = at_host Deliver
-        rooted_too class Nobody = at_host Nobody
+        at_host_too : (class : Class) (received : Received) → Both (arrived_at_host_by w class t received) (arrived_at_host_by other class too received)
+        at_host_too class Received.Relayed = relayed_too class (sender_of w.tree.links from_host)
+        at_host_too class Received.Request = at_host Received.Request
+        at_host_too class Received.Completion = at_host Received.Completion
+        at_host_too class Received.Unknown = at_host Received.Unknown
 
-        arrived_with : (function : ℕ) (receipt : Receipt) → Mirrors d is_told (arrived_by w function t receipt) (arrived_by other function too receipt)
-        arrived_with function receipt =
-            subst (λ (o : Option AgentsView). Mirrors d is_told (ended w t o) (arrived_by other function too receipt)) (sym (home_at_function w g function t.frame receipt))
-            (subst (λ (o : Option AgentsView). Mirrors d is_told (ended w t (own_by_function w.agents function t.frame receipt)) (ended other too o)) (sym (home_at_function other g' function t.frame receipt))
-            (ended_too (own_by_function w.agents function t.frame receipt) (own_by_function agents function t.frame receipt) (function_alike d w.agents agents numbers m.agents t.frame is function receipt)))
+        arrived_with : (function : ℕ) (received : Received) → Mirrors d is_told (arrived_by w function t received) (arrived_by other function too received)
+        arrived_with function received =
+            subst (λ (o : Option AgentsView). Mirrors d is_told (ended w t o) (arrived_by other function too received)) (sym (home_at_function w g function t.frame received))
+            (subst (λ (o : Option AgentsView). Mirrors d is_told (ended w t (own_by_function w.agents function t.frame received)) (ended other too o)) (sym (home_at_function other g' function t.frame received))
+            (ended_too (own_by_function w.agents function t.frame received) (own_by_function agents function t.frame received) (function_alike d w.agents agents numbers m.agents t.frame is function received)))
 
-        arrived_too : (function : ℕ) → Mirrors d is_told (arrived_by w function t (receipt_at w function t.frame)) (arrived_by other function too (receipt_at other function t.frame))
+        arrived_too : (function : ℕ) → Mirrors d is_told (arrived_by w function t (received_at w function t.frame)) (arrived_by other function too (received_at other function t.frame))
         arrived_too function =
-            subst (λ (b : Bool). Mirrors d is_told (arrived_by w function t (receipt_at w function t.frame)) (arrived_by other function too (cond b (receipt_by_function w.routes.ports function t.frame.head.parties t.frame.head.header) Nobody)))
-            (sym (function_of_same w.agents.domains agents.domains m.agents.domains.shares function t.frame.domain)) (arrived_with function (receipt_at w function t.frame))
+            subst (λ (b : Bool). Mirrors d is_told (arrived_by w function t (received_at w function t.frame)) (arrived_by other function too (cond b (received_by_function w.routes.ports function t.frame.head.parties t.frame.head.header) Received.Unknown)))
+            (sym (function_of_same w.agents.domains agents.domains m.agents.domains.shares function t.frame.domain)) (arrived_with function (received_at w function t.frame))
 
   module _ (roomy : IsRoomy w) (g : IsGuardedFabric w) (g' : IsGuardedFabric other) (numbers : AreNumbered w.agents.domains) where
-    root_by : (class : Class) (o p : Option Taken) → Follows (MirrorsTaken d) o p → Both (rooted w class o) (rooted other class p)
-    root_by class None p so = tt
-    root_by class (Some t) None so = absurd so
-    root_by class (Some t) (Some t') so =
-        subst (λ (x : Taken). Both (rooted w class (Some t)) (rooted other class (Some x))) so.is
-        (rooted_too t so.channels so.own so.links roomy g g' numbers class (receipt_at_host t.frame))
+    at_host_by : (class : Class) (o p : Option Taken) → Follows (MirrorsTaken d) o p → Both (arrived_at_host w class o) (arrived_at_host other class p)
+    at_host_by class None p so = tt
+    at_host_by class (Some t) None so = absurd so
+    at_host_by class (Some t) (Some t') so =
+        subst (λ (x : Taken). Both (arrived_at_host w class (Some t)) (arrived_at_host other class (Some x))) so.is
+        (at_host_too t so.channels so.own so.links roomy g g' numbers class (received_at_host t.frame))
 
     -- the host takes it in both
-    pub own_root : (class : Class) → is_number d (home_of_taken (taken w to_host class)) ≡ true → Both (root w class) (root other class)
-    own_root class is = root_by class (taken w to_host class) (taken other to_host class) (taken_too d w.channels channels m.links class (sender_of w.tree.links to_host) is)
+    pub own_at_host : (class : Class) → is_number d (home_of_taken (taken w to_host class)) ≡ true → Both (arrive_at_host w class) (arrive_at_host other class)
+    own_at_host class is = at_host_by class (taken w to_host class) (taken other to_host class) (taken_too d w.channels channels m.links class (sender_of w.tree.links to_host) is)
 
     arrive_by : (function : ℕ) (b : Bool) (o p : Option Taken) → Follows (MirrorsTaken d) o p → Both (cond b (arrived w function o) None) (cond b (arrived other function p) None)
     arrive_by function false o p so = tt
     arrive_by function true o p so =
-        follows_mapped (MirrorsTaken d) (Mirrors d is_told) (λ (t : Taken). arrived_by w function t (receipt_at w function t.frame)) (λ (t : Taken). arrived_by other function t (receipt_at other function t.frame))
-        (λ t t' both. subst (λ (x : Taken). Mirrors d is_told (arrived_by w function t (receipt_at w function t.frame)) (arrived_by other function x (receipt_at other function x.frame))) both.is
+        follows_mapped (MirrorsTaken d) (Mirrors d is_told) (λ (t : Taken). arrived_by w function t (received_at w function t.frame)) (λ (t : Taken). arrived_by other function t (received_at other function t.frame))
+        (λ t t' both. subst (λ (x : Taken). Mirrors d is_told (arrived_by w function t (received_at w function t.frame)) (arrived_by other function x (received_at other function x.frame))) both.is
         (arrived_too t both.channels both.own both.links roomy g g' numbers function)) o p so
 
     -- a function does

@@ -19,7 +19,7 @@ use Rattle.fabric_core.specs.Soundness.{IsGuardedFabric}
 use Rattle.fabric_core.specs.World.{World}
 use Rattle.fabric_core.proofs.runs.MirroredAgents.{AreNumbered, made_of_function, made_of_number}
 use Rattle.fabric_core.proofs.runs.Mirrors.{Follows, Mirrors}
-use Rattle.fabric_core.proofs.runs.OwnEnds.{own_arrive, own_root}
+use Rattle.fabric_core.proofs.runs.OwnEnds.{own_arrive, own_at_host}
 use Rattle.fabric_core.proofs.runs.OwnMoves.{Beside, IsRoomy, own_begin, own_enter, own_receive, own_send}
 use Rattle.fabric_core.proofs.runs.OwnTurns.{own_pass}
 use Rattle.fabric_core.proofs.invariant.Renewing.{renewed}
@@ -43,7 +43,7 @@ module _ (d : ℕ) (is_told : Violation → Bool) (w : World) (channels : List (
   own_beside roomy numbers g g' (Send direction class) is = own_send d is_told w channels ports agents violations strays m class (sender_of w.tree.links direction) is
   own_beside roomy numbers g g' (Take direction) is = own_receive d is_told w channels ports agents violations strays m (sender_of w.tree.links direction) is
   own_beside roomy numbers g g' (Credit direction) is = absurd cc
-  own_beside roomy numbers g g' (Root class) is = own_root d is_told w channels ports agents violations strays m roomy g g' numbers class is
+  own_beside roomy numbers g g' (Root class) is = own_at_host d is_told w channels ports agents violations strays m roomy g g' numbers class is
   own_beside roomy numbers g g' (Arrive function class) is = own_arrive d is_told w channels ports agents violations strays m roomy g g' numbers function class is
 
 same_frame : (w v : World) → v.tree ≡ w.tree → v.routes ≡ w.routes → renewed w v.channels v.ports v.agents v.violations v.strays ≡ v

@@ -21,9 +21,9 @@ use Rattle.topology.specs.declared.nodes.LinkEnd.{LinkEnd}
 use Rattle.topology.specs.declared.places.PortPlace.{PortPlace}
 use Rattle.interconnect.specs.Moves.{put_at}
 use Rattle.interconnect.specs.Passes.{index_of, no_place, no_port}
-use Rattle.fabric_core.specs.Receipts.{Taken, taken_at}
+use Rattle.fabric_core.specs.Arrivals.{Taken, taken_at}
 use Rattle.fabric_core.specs.Isolation.{home_of_taken, home_passed, is_number}
-use Rattle.fabric_core.specs.Losing.{pass}
+use Rattle.fabric_core.specs.Misrouting.{pass}
 use Rattle.switch_output.specs.Vetted.{may_go_on}
 use Rattle.fabric_core.specs.Passing.{Site, answer_waits, answered_at, is_full_at, kept_by, output_end, passed, passed_at, passed_by, passed_number, port_number, refused_by, site_at, strayed, turned}
 use Rattle.fabric_core.specs.Soundness.{IsGuardedFabric, config_of}

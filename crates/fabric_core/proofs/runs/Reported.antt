@@ -51,7 +51,7 @@ use Rattle.guarded_routes.specs.Guarded.{IsFunctionOf}
 use Rattle.guarded_routes.specs.Sound.{IsAsked, IsMeantFor, IsSound, IsSoundOn}
 use Rattle.fabric_core.specs.declared.event.Event.{Event}
 use Rattle.fabric_core.specs.declared.event.Event.TheVariants.{Arrive, Credit, Enter, Mmio, Pass, Root, Send, Submit, Take, Tick}
-use Rattle.fabric_core.specs.Receipts.{Taken, taken_at}
+use Rattle.fabric_core.specs.Arrivals.{Taken, taken_at}
 use Rattle.fabric_core.specs.Invariant.{IsConsistent}
 use Rattle.fabric_core.specs.Isolation.{home_of_taken, home_passed, is_event_of, is_number, number_of}
 use Rattle.fabric_core.specs.Passing.{port_number}

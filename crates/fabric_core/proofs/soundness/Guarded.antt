@@ -9,10 +9,10 @@ use Rattle.fabric_core.specs.Soundness.{IsGuardedFabric}
 use Rattle.fabric_core.specs.World.{World}
 use Rattle.fabric_core.proofs.soundness.GuardedArrival.{guarded_arrive}
 use Rattle.fabric_core.proofs.soundness.GuardedBegins.{guarded_access, guarded_submit, guarded_tick}
-use Rattle.fabric_core.proofs.soundness.GuardedRoot.{guarded_root}
+use Rattle.fabric_core.proofs.soundness.GuardedHost.{guarded_at_host}
 use Rattle.fabric_core.proofs.soundness.GuardedTurns.{guarded_pass}
 use Rattle.fabric_core.proofs.soundness.Guarding.{guarded_enter, guarded_step}
-use Rattle.fabric_core.proofs.invariant.Moving.{receive_moves, send_moves, tell_moves}
+use Rattle.fabric_core.proofs.invariant.Moving.{receive_moves, send_moves, update_fc_moves}
 
 pub guarded_after : (w w' : World) (event : Event) → IsConsistent w → IsGuardedFabric w → effect w event ≡ Some w' → IsGuardedFabric w'
 guarded_after w w' (Submit function bytes) kept g is = guarded_submit w w' function bytes g is
@@ -22,6 +22,6 @@ guarded_after w w' (Enter origin class) kept g is = guarded_enter w w' origin cl
 guarded_after w w' (Pass port class) kept g is = guarded_pass w w' port class kept g is
 guarded_after w w' (Send direction class) kept g is = guarded_step w w' direction (send class) g (send_moves class) is
 guarded_after w w' (Take direction) kept g is = guarded_step w w' direction deliver g receive_moves is
-guarded_after w w' (Credit direction) kept g is = guarded_step w w' direction update_fc g tell_moves is
-guarded_after w w' (Root class) kept g is = guarded_root w w' class kept g is
+guarded_after w w' (Credit direction) kept g is = guarded_step w w' direction update_fc g update_fc_moves is
+guarded_after w w' (Root class) kept g is = guarded_at_host w w' class kept g is
 guarded_after w w' (Arrive function class) kept g is = guarded_arrive w w' function class kept g is

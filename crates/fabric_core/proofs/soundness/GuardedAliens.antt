@@ -13,16 +13,16 @@ use Rattle.domain.specs.declared.entry.Entry.TheVariants.{Alien}
 use Rattle.domain.specs.Domains.{DomainView}
 use Rattle.request_handling.specs.Emissions.{Emission}
 use Rattle.domains.specs.Agents.{AgentsView, emitted_if}
-use Rattle.interconnect.specs.declared.lost.Lost.{Lost}
-use Rattle.interconnect.specs.Lost.{lost_among}
+use Rattle.interconnect.specs.declared.misrouted.Misrouted.{Misrouted}
+use Rattle.interconnect.specs.Misrouted.{misrouted_among}
 use Rattle.lane.specs.Lanes.{Class}
 use Rattle.domains.specs.Aliens.{aliened, aliened_at, aliened_by, flown, owner_of_frame}
 use Rattle.domains.specs.Domains.{made_at, made_by, made_of, place_of, place_of_function}
 use Rattle.fabric_core.specs.Aliens.{alien_at_function, alien_at_host, or_else, to_function, to_host}
 use Rattle.received.specs.Receivers.{receiver_at_host}
-use Rattle.fabric_core.specs.Receipts.{Taken, agents_by_function, agents_by_host, own_by_function, own_by_host, taken_at}
-use Rattle.received.specs.declared.receipt.Receipt.{Receipt}
-use Rattle.fabric_core.specs.Losing.{Losing, is_at_port_of, losing, losing_by, losing_to, losing_with, pass, passed_unless}
+use Rattle.fabric_core.specs.Arrivals.{Taken, agents_by_function, agents_by_host, own_by_function, own_by_host, taken_at}
+use Rattle.received.specs.declared.received.Received.{Received}
+use Rattle.fabric_core.specs.Misrouting.{Misrouting, is_at_port_of, misrouting, misrouting_by, misrouting_to, misrouting_with, pass, passed_unless}
 use Rattle.fabric_core.specs.Passing.{turned}
 use Rattle.fabric_core.specs.Invariant.{IsConsistent}
 use Rattle.fabric_core.specs.Soundness.{IsGuardedFabric}
@@ -55,7 +55,7 @@ module _ (domains : List DomainView) (guarded : AreOfGuarded domains) where
 
 -- ---- in a guarded fabric
 
-none_if : (is_there : Bool) (o : Option Losing) → o ≡ None → cond is_there o None ≡ None
+none_if : (is_there : Bool) (o : Option Misrouting) → o ≡ None → cond is_there o None ≡ None
 none_if true o none = none
 none_if false o none = refl
 
@@ -63,23 +63,23 @@ or_none : (own other : Option AgentsView) → other ≡ None → or_else own oth
 or_none None other none = none
 or_none (Some agents) other none = refl
 
--- where each domain is of a guarded layout, no port loses a packet
+-- where each domain is of a guarded layout, no port misroutes a packet
 module _ (w : World) (guarded : AreOfGuarded w.agents.domains) where
-  none_losing_to : (lost : Lost) (t : Taken) → losing_to w lost t ≡ None
-  none_losing_to lost t =
-      none_if (is_at_port_of w.agents.domains t.frame.domain lost.place) (losing_with lost t (aliened w.agents.domains t.frame.domain lost.place t.frame))
-      (ap (losing_with lost t) (none_aliened w.agents.domains guarded (place_of w.agents.domains t.frame.domain) lost.place t.frame))
+  none_misrouting_to : (misrouted : Misrouted) (t : Taken) → misrouting_to w misrouted t ≡ None
+  none_misrouting_to misrouted t =
+      none_if (is_at_port_of w.agents.domains t.frame.domain misrouted.place) (misrouting_with misrouted t (aliened w.agents.domains t.frame.domain misrouted.place t.frame))
+      (ap (misrouting_with misrouted t) (none_aliened w.agents.domains guarded (place_of w.agents.domains t.frame.domain) misrouted.place t.frame))
 
-  none_losing_taken : (lost : Lost) (o : Option Taken) → option_and_then (losing_to w lost) o ≡ None
-  none_losing_taken lost None = refl
-  none_losing_taken lost (Some t) = none_losing_to lost t
+  none_misrouting_taken : (misrouted : Misrouted) (o : Option Taken) → option_and_then (misrouting_to w misrouted) o ≡ None
+  none_misrouting_taken misrouted None = refl
+  none_misrouting_taken misrouted (Some t) = none_misrouting_to misrouted t
 
-  none_losing_by : (class : Class) (o : Option Lost) → losing_by w class o ≡ None
-  none_losing_by class None = refl
-  none_losing_by class (Some lost) = none_losing_taken lost (taken_at w.channels class (Some lost.input))
+  none_misrouting_by : (class : Class) (o : Option Misrouted) → misrouting_by w class o ≡ None
+  none_misrouting_by class None = refl
+  none_misrouting_by class (Some misrouted) = none_misrouting_taken misrouted (taken_at w.channels class (Some misrouted.input))
 
-  pub none_losing : (port : ℕ) (class : Class) → losing w port class ≡ None
-  none_losing port class = none_losing_by class (lost_among w.tree w.routes w.channels w.ports port class)
+  pub none_misrouting : (port : ℕ) (class : Class) → misrouting w port class ≡ None
+  none_misrouting port class = none_misrouting_by class (misrouted_among w.tree w.routes w.channels w.ports port class)
 
 module _ (w : World) (g : IsGuardedFabric w) where
   pub of_guarded : AreOfGuarded w.agents.domains
@@ -95,15 +95,15 @@ module _ (w : World) (g : IsGuardedFabric w) where
       ap (emitted_if w.agents (Function function)) (none_aliened w.agents.domains of_guarded (place_of_function w.agents.domains function) (Ingress (to_function function)) frame)
 
   -- the host and a function take only what its home has a case for
-  pub home_at_host : (frame : Descriptor) (receipt : Receipt) → agents_by_host w.routes.ports w.agents frame receipt ≡ own_by_host w.agents frame receipt
-  home_at_host frame receipt = or_none (own_by_host w.agents frame receipt) (alien_at_host w.routes.ports w.agents frame) (none_at_host frame)
+  pub home_at_host : (frame : Descriptor) (received : Received) → agents_by_host w.routes.ports w.agents frame received ≡ own_by_host w.agents frame received
+  home_at_host frame received = or_none (own_by_host w.agents frame received) (alien_at_host w.routes.ports w.agents frame) (none_at_host frame)
 
-  pub home_at_function : (function : ℕ) (frame : Descriptor) (receipt : Receipt) → agents_by_function w.agents function frame receipt ≡ own_by_function w.agents function frame receipt
-  home_at_function function frame receipt = or_none (own_by_function w.agents function frame receipt) (alien_at_function w.agents function frame) (none_at_function function frame)
+  pub home_at_function : (function : ℕ) (frame : Descriptor) (received : Received) → agents_by_function w.agents function frame received ≡ own_by_function w.agents function frame received
+  home_at_function function frame received = or_none (own_by_function w.agents function frame received) (alien_at_function w.agents function frame) (none_at_function function frame)
 
-  -- no port loses a packet
+  -- no port misroutes a packet
   pub passes_as_turned : (port : ℕ) (class : Class) → pass w port class ≡ turned w port class
-  passes_as_turned port class = ap (passed_unless w port class) (none_losing w of_guarded port class)
+  passes_as_turned port class = ap (passed_unless w port class) (none_misrouting w of_guarded port class)
 
 -- ---- what is kept of any fabric
 
@@ -111,5 +111,5 @@ module _ (w : World) (g : IsGuardedFabric w) where
 kept_of_guarded : (w : World) → IsConsistent w → is_guarded_world w ≡ true → AreOfGuarded w.agents.domains
 kept_of_guarded w kept controls place d at = ap (list_all is_guarded_port) (share_at w.routes.ports w.agents.domains place d kept.shares at) ∙ controls
 
-pub none_lost : (w : World) → IsConsistent w → is_guarded_world w ≡ true → (port : ℕ) (class : Class) → losing w port class ≡ None
-none_lost w kept controls = none_losing w (kept_of_guarded w kept controls)
+pub none_misrouted : (w : World) → IsConsistent w → is_guarded_world w ≡ true → (port : ℕ) (class : Class) → misrouting w port class ≡ None
+none_misrouted w kept controls = none_misrouting w (kept_of_guarded w kept controls)

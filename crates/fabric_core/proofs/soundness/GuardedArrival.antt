@@ -27,9 +27,9 @@ use Rattle.guarded_routes.proofs.Hosts.{delivers}
 use Rattle.guarded_routes.proofs.Reaching.{own_of}
 use Rattle.guarded_routes.proofs.Replies.{carried_up}
 use Rattle.guarded_routes.proofs.Taking.{accesses, home_at, meant_at, reply_at, request_at}
-use Rattle.fabric_core.specs.Receipts.{Taken, arrive, arrived, arrived_by, ended, receipt_at, own_by_function, taken, to_function}
-use Rattle.received.specs.declared.receipt.Receipt.{Receipt}
-use Rattle.received.specs.Receipts.{memory_at_function, receipt_by_function}
+use Rattle.fabric_core.specs.Arrivals.{Taken, arrive, arrived, arrived_by, ended, received_at, own_by_function, taken, to_function}
+use Rattle.received.specs.declared.received.Received.{Received}
+use Rattle.received.specs.Received.{memory_at_function, received_by_function}
 use Rattle.fabric_core.specs.Invariant.{IsConsistent}
 use Rattle.fabric_core.specs.Soundness.{IsGuardedFabric}
 use Rattle.fabric_core.specs.World.{World}
@@ -89,10 +89,10 @@ module _ (w : World) (g : IsGuardedFabric w) (function : ℕ) (home : FunctionHo
       (λ number s c e flies legal sent well. inr (carried_up g.platform g.guarded t.frame number function s c e listed k.sound request flies legal sent well)))
 
   -- what its home's entry leaves
-  abbrev left_by : Receipt → World
-  left_by receipt = ended w t (own_by_function w.agents function t.frame receipt)
+  abbrev left_by : Received → World
+  left_by received = ended w t (own_by_function w.agents function t.frame received)
 
-  delivered_here : is_reply t.frame.head.header ≡ true → IsGuardedFabric (left_by Receipt.Deliver)
+  delivered_here : is_reply t.frame.head.header ≡ true → IsGuardedFabric (left_by Received.Completion)
   delivered_here reply =
       guarded_delivery w g (to_function function) t k (λ d old share flies. delivers g.platform g.guarded t.frame d.state (Function function) (reply_at g.platform g.guarded function t.frame listed k.sound reply) reply flies)
 
@@ -104,28 +104,28 @@ module _ (w : World) (g : IsGuardedFabric w) (function : ℕ) (home : FunctionHo
 
   -- a memory request is carried, of the host or of another function
   pub is_carried : (requester address : ℕ) (address_type : AddressType) → t.frame.head.header ≡ header.Memory requester address_type address → IsRequestTo g.platform t.frame function
-      → receipt_by_function w.routes.ports function t.frame.head.parties (header.Memory requester address_type address) ≡ Receipt.Carry
+      → received_by_function w.routes.ports function t.frame.head.parties (header.Memory requester address_type address) ≡ Received.Request
   is_carried requester address address_type same (inl to) = ap (memory_at_function w.routes.ports function address) to
   is_carried requester address address_type same (inr q) =
       let there : address ≡ q.address = same_address requester q.requester address q.address address_type Untranslated (sym same ∙ q.plain) in
       let direct : direct_to w.routes.ports q.sender address ≡ Some function = ap (λ (r : Routes). direct_to r.ports q.sender address) g.of_it.routes ∙ (ap (direct_to g.platform.ports q.sender) there ∙ q.direct) in
       ap (memory_at_function w.routes.ports function address) q.parties
-      ∙ (ap (λ (o : Option ℕ). cond (is_peer function o) Receipt.Carry Receipt.Nobody) direct ∙ ap (λ (b : Bool). cond b Receipt.Carry Receipt.Nobody) (eq-eqb function function refl))
+      ∙ (ap (λ (o : Option ℕ). cond (is_peer function o) Received.Request Received.Unknown) direct ∙ ap (λ (b : Bool). cond b Received.Request Received.Unknown) (eq-eqb function function refl))
 
-  arrived_as : (h : Header) → t.frame.head.header ≡ h → IsGuardedFabric (left_by (receipt_by_function w.routes.ports function t.frame.head.parties h))
+  arrived_as : (h : Header) → t.frame.head.header ≡ h → IsGuardedFabric (left_by (received_by_function w.routes.ports function t.frame.head.parties h))
   arrived_as header.Malformed same = absurd (meant header.Malformed same)
   arrived_as (header.Memory requester address_type address) same =
       let request = ap is_reply same in
-      subst (λ (r : Receipt). IsGuardedFabric (left_by r)) (sym (is_carried requester address address_type same (request_at g.platform g.guarded function t.frame listed k.sound request))) (carries request)
+      subst (λ (r : Received). IsGuardedFabric (left_by r)) (sym (is_carried requester address address_type same (request_at g.platform g.guarded function t.frame listed k.sound request))) (carries request)
   arrived_as (header.OtherRequest requester) same = absurd (meant (header.OtherRequest requester) same)
   arrived_as (header.Completion target relaxed_ordering) same = delivered_here (ap is_reply same)
 
-  arrived_own : IsGuardedFabric (left_by (receipt_at w function t.frame))
+  arrived_own : IsGuardedFabric (left_by (received_at w function t.frame))
   arrived_own =
-      subst (λ (b : Bool). IsGuardedFabric (left_by (cond b (receipt_by_function w.routes.ports function t.frame.head.parties t.frame.head.header) Receipt.Nobody))) (sym of_domain) (arrived_as t.frame.head.header refl)
+      subst (λ (b : Bool). IsGuardedFabric (left_by (cond b (received_by_function w.routes.ports function t.frame.head.parties t.frame.head.header) Received.Unknown))) (sym of_domain) (arrived_as t.frame.head.header refl)
 
-  pub guarded_arrived : IsGuardedFabric (arrived_by w function t (receipt_at w function t.frame))
-  guarded_arrived = subst (λ (o : Option AgentsView). IsGuardedFabric (ended w t o)) (sym (home_at_function w g function t.frame (receipt_at w function t.frame))) arrived_own
+  pub guarded_arrived : IsGuardedFabric (arrived_by w function t (received_at w function t.frame))
+  guarded_arrived = subst (λ (o : Option AgentsView). IsGuardedFabric (ended w t o)) (sym (home_at_function w g function t.frame (received_at w function t.frame))) arrived_own
 
 arrived_if : (w w' : World) (g : IsGuardedFabric w) (function : ℕ) (o : Option Taken) → FunctionHome w g function → ((t : Taken) → o ≡ Some t → SoundlyTaken w g (to_function function) t) → arrived w function o ≡ Some w' → IsGuardedFabric w'
 arrived_if w w' g function None home out is = absurd cc

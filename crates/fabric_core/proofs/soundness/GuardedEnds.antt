@@ -25,7 +25,7 @@ use Rattle.interconnect.specs.Moves.{channel_at}
 use Rattle.guarded_routes.specs.Ends.{Flies, IsLegal}
 use Rattle.guarded_routes.specs.Sound.{IsSound}
 use Rattle.domains.specs.Domains.{Made, made, place_of}
-use Rattle.fabric_core.specs.Receipts.{Taken, ended, taken_at, taken_from}
+use Rattle.fabric_core.specs.Arrivals.{Taken, ended, taken_at, taken_from}
 use Rattle.fabric_core.specs.Events.{link_of}
 use Rattle.fabric_core.specs.Invariant.{IsConsistent}
 use Rattle.fabric_core.specs.Places.{IsFlown}

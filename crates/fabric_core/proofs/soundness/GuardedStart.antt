@@ -21,7 +21,7 @@ use Rattle.domains.specs.Domains.{fresh, starting_domains_among, starting_domain
 use Rattle.topology.specs.Nodes.{ports_on}
 use Rattle.topology.specs.declared.nodes.LinkEnd.{LinkEnd}
 use Rattle.interconnect.specs.Moves.{channel_at, no_channel}
-use Rattle.interconnect.specs.Starts.{function_outputs, nodes_of, ports_of, root_outputs, switch_outputs, unused_below}
+use Rattle.interconnect.specs.Starts.{function_outputs, nodes_of, ports_of, host_outputs, switch_outputs, unused_below}
 use Rattle.interconnect.specs.Views.{channels_of}
 use Rattle.guarded_routes.specs.Guarded.{IsGuarded}
 use Rattle.guarded_routes.specs.Sound.{IsSound}
@@ -57,7 +57,7 @@ quiet_function platform function = All-cons IsQuiet (channel (unused_below platf
 
 pub quiet_nodes : (platform : Platform) → All AreQuiet (nodes_of platform)
 quiet_nodes platform =
-    All-cons AreQuiet (root_outputs platform) (map (switch_outputs platform) platform.switches ++ map (function_outputs platform) platform.functions) (All-cons IsQuiet _ [] refl (All-nil IsQuiet))
+    All-cons AreQuiet (host_outputs platform) (map (switch_outputs platform) platform.switches ++ map (function_outputs platform) platform.functions) (All-cons IsQuiet _ [] refl (All-nil IsQuiet))
     (All-append AreQuiet (map (switch_outputs platform) platform.switches) (map (function_outputs platform) platform.functions)
     (All-map AreQuiet (switch_outputs platform) platform.switches (λ i switch less. quiet_switch platform (get_or platform.switches i switch)))
     (All-map AreQuiet (function_outputs platform) platform.functions (λ i function less. quiet_function platform (get_or platform.functions i function))))

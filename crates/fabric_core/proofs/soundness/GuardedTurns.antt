@@ -41,9 +41,9 @@ use Rattle.guarded_routes.proofs.Passing.{passes}
 use Rattle.guarded_routes.proofs.Replies.{answers_below}
 use Rattle.guarded_routes.proofs.Taking.{refuses}
 use Rattle.guarded_routes.proofs.Trees.{IsPort}
-use Rattle.fabric_core.specs.Receipts.{Taken, taken_at}
+use Rattle.fabric_core.specs.Arrivals.{Taken, taken_at}
 use Rattle.fabric_core.specs.Invariant.{IsConsistent}
-use Rattle.fabric_core.specs.Losing.{pass}
+use Rattle.fabric_core.specs.Misrouting.{pass}
 use Rattle.fabric_core.specs.Passing.{Site, answer_waits, answered_at, is_full_at, output_end, passed, passed_at, passed_by, passed_number, port_number, refused_by, strayed}
 use Rattle.fabric_core.specs.Soundness.{IsGuardedFabric}
 use Rattle.fabric_core.specs.World.{World, with_channels}

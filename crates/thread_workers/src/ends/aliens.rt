@@ -7,9 +7,9 @@ ghost use Rattle.lane.specs.Queues.{frames_of, frames_restored};
 ghost use Rattle.thread_workers.specs.Boxes.{with_places};
 ghost use Rattle.thread_workers.specs.Ends.{AlienWantsMemory, HasNoAlien, TakesAlien};
 
-use crate::ends::ending::Ending;
 use crate::ends::room::{make_room, put_answer};
 use crate::ends::strays::keep_stray;
+use crate::ends::taken_by::TakenBy;
 use fab_types::{DomainId, Place};
 use frame_log::{Frame, FrameFault};
 use link::Ingress;
@@ -56,20 +56,20 @@ pub(crate) fn end_alien<R: Wait>(
     input: &mut Ingress,
     strays: &mut Vec<Frame>,
     frame: Frame,
-) -> Ending
+) -> TakenBy
     requires { IsSome (frames_restored input.old.queue.queue frame) }
-    ensures alien { result ≡ Ending.Alien → TakesAlien number place frame outbox.old outbox.new × (frames_of input.new.queue.queue.waiting ≡ frames_of input.old.queue.queue.waiting) × (strays.new.items ≡ strays.old.items) }
-    ensures stray { result ≡ Ending.Stray → HasNoAlien locks.now number place frame × (outbox.new ≡ with_places outbox.new.places outbox.old) × (frames_of input.new.queue.queue.waiting ≡ frames_of input.old.queue.queue.waiting) × (strays.new.items ≡ strays.old.items ++ frame ∷ []) }
-    ensures memory { result ≡ Ending.Waits → AlienWantsMemory number place frame outbox.old ⊎ (vec_capacity strays.old ≤ vec_len strays.old) }
-    ensures waits { result ≡ Ending.Waits → (outbox.new ≡ with_places outbox.new.places outbox.old) × (frames_restored input.old.queue.queue frame ≡ Some (frames_of input.new.queue.queue.waiting)) × (strays.new.items ≡ strays.old.items) }
-    ensures others { (result ≢ Ending.Own) × (result ≢ Ending.Idle) }
+    ensures alien { result ≡ TakenBy.Alien → TakesAlien number place frame outbox.old outbox.new × (frames_of input.new.queue.queue.waiting ≡ frames_of input.old.queue.queue.waiting) × (strays.new.items ≡ strays.old.items) }
+    ensures stray { result ≡ TakenBy.Stray → HasNoAlien locks.now number place frame × (outbox.new ≡ with_places outbox.new.places outbox.old) × (frames_of input.new.queue.queue.waiting ≡ frames_of input.old.queue.queue.waiting) × (strays.new.items ≡ strays.old.items ++ frame ∷ []) }
+    ensures memory { result ≡ TakenBy.Waits → AlienWantsMemory number place frame outbox.old ⊎ (vec_capacity strays.old ≤ vec_len strays.old) }
+    ensures waits { result ≡ TakenBy.Waits → (outbox.new ≡ with_places outbox.new.places outbox.old) × (frames_restored input.old.queue.queue frame ≡ Some (frames_of input.new.queue.queue.waiting)) × (strays.new.items ≡ strays.old.items) }
+    ensures others { (result ≢ TakenBy.Own) × (result ≢ TakenBy.Idle) }
 {
     match take(rt, locks, number, place, outbox, frame) {
-        Ok(()) => Ending::Alien,
+        Ok(()) => TakenBy::Alien,
         Err(FrameFault::Stray(frame)) => keep_stray(input, strays, frame),
         Err(FrameFault::NoMemory(frame)) => {
             input.give_back(frame);
-            Ending::Waits
+            TakenBy::Waits
         }
     }
 }

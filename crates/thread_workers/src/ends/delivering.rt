@@ -5,12 +5,12 @@ ghost use Rattle.frame_log.specs.declared.fault.FrameFault.TheVariants as fault;
 ghost use Rattle.domain.specs.declared.entry.Entry.TheVariants.{Deliver};
 ghost use Rattle.domain.specs.Domains.{Makes};
 ghost use Rattle.thread_domains.specs.Locks.{IllegalThere};
-ghost use Rattle.thread_workers.specs.Endings.{unended_frame};
+ghost use Rattle.thread_workers.specs.TakenBy.{frame_not_taken};
 ghost use Rattle.thread_workers.specs.Ends.{HasNoCase, SettledThere};
-ghost use Rattle.received.specs.declared.receipt.Receipt.TheVariants as receipt;
-ghost use Rattle.thread_workers.specs.declared.ends.ending.Unended.TheVariants as unended;
+ghost use Rattle.received.specs.declared.received.Received.{Received};
+ghost use Rattle.thread_workers.specs.declared.ends.taken_by.NotTaken.TheVariants as not_taken;
 
-use crate::ends::ending::Unended;
+use crate::ends::taken_by::NotTaken;
 use domain::Domain;
 use frame_log::{Frame, FrameFault};
 use injector::{RecordRing, settle};
@@ -41,22 +41,22 @@ pub(crate) fn deliver<R: Wait>(
     locks: &Locks,
     records: &mut RecordRing,
     frame: Frame,
-) -> Result<(), Unended>
+) -> Result<(), NotTaken>
     ensures settled { OnOk result (SettledThere frame records.old records.new) }
-    ensures given { IfErr result (λ u. unended_frame u ≡ frame) }
-    ensures stray { IfErr result (λ u. u ≡ unended.Stray frame → HasNoCase locks.now receipt.Deliver frame) }
-    ensures waits { IfErr result (λ u. u ≡ unended.Waits frame → IsSome records.old.held) }
+    ensures given { IfErr result (λ u. frame_not_taken u ≡ frame) }
+    ensures stray { IfErr result (λ u. u ≡ not_taken.Stray frame → HasNoCase locks.now Received.Completion frame) }
+    ensures waits { IfErr result (λ u. u ≡ not_taken.Waits frame → IsSome records.old.held) }
     ensures err { OnErr result (records.new ≡ records.old) }
 {
     if records.holds_record() {
-        return Err(Unended::Waits(frame));
+        return Err(NotTaken::Waits(frame));
     }
     let Some(lock) = locks.lock_of(frame.domain()) else {
-        return Err(Unended::Stray(frame));
+        return Err(NotTaken::Stray(frame));
     };
     let mut domain = lock.lock(rt);
     match settle_there(&mut domain, frame, records) {
         Ok(()) => Ok(()),
-        Err(fault) => Err(Unended::Stray(fault.into_frame())),
+        Err(fault) => Err(NotTaken::Stray(fault.into_frame())),
     }
 }

@@ -17,9 +17,9 @@ use thread_domains::Locks;
 
 /// What became of the next begin of a ring.
 #[derive(Clone, Copy, Debug, PartialEq, Eq)]
-pub(crate) enum Serving {
+pub(crate) enum Begun {
     /// The domain has an entry of it.
-    Begun,
+    Accepted,
     /// The domain refused it, and it is counted.
     Refused,
     /// Memory was refused, to its call or to places in the outbox.
@@ -29,30 +29,29 @@ pub(crate) enum Serving {
     Idle,
 }
 
-impl Serving {
+impl Begun {
     /// Did a begin leave the ring, and isn't held either?
     pub(crate) fn has_moved(&self) -> bool
         ensures { result ≡ has_served self.now }
     {
         match self {
-            Serving::Begun | Serving::Refused => true,
-            Serving::Waits | Serving::Idle => false,
+            Begun::Accepted | Begun::Refused => true,
+            Begun::Waits | Begun::Idle => false,
         }
     }
 }
 
 /// Has a domain that is lent serve the next begin, if it is the domain of this number: this one step, or none.
-fn serve_there<R: Wait>(
-    rt: &R,
+fn serve_there(
     domain: &mut Domain,
     number: DomainId,
     outbox: &mut OriginBox,
     begins: &mut BeginRing,
-) -> Serving
+) -> Begun
     requires { HasRoom outbox.old }
     ensures served { (locks : List ℕ) → ServesNext locks number result outbox.old outbox.new begins.old begins.new }
-    ensures step { result ≡ Serving.Begun → (sent : Option Descriptor) × Accepts domain.old begins.old domain.new begins.new sent }
-    ensures kept { result ≢ Serving.Begun → domain.new ≡ domain.old }
+    ensures step { result ≡ Begun.Accepted → (sent : Option Descriptor) × Accepts domain.old begins.old domain.new begins.new sent }
+    ensures kept { result ≢ Begun.Accepted → domain.new ≡ domain.old }
     ensures rests { has_served result ≡ false → RestsThere outbox.old outbox.new begins.old begins.new }
     ensures origin { outbox.new.origin ≡ outbox.old.origin }
     ensures ring { SameConsumer begins.old.consumer begins.new.consumer }
@@ -60,23 +59,23 @@ fn serve_there<R: Wait>(
     // for the proof: the state is the replay of the journal
     let _ = domain.journal();
     if domain.start().domain() != number {
-        return Serving::Idle;
+        return Begun::Idle;
     }
     let accepted = begins.accepted();
-    match serve(rt, domain, begins) {
+    match serve(domain, begins) {
         Ok(sent) => {
             // a tick that emits nothing is accepted too
             if begins.accepted() == accepted {
-                return Serving::Idle;
+                return Begun::Idle;
             }
             put_answer(outbox, sent);
-            Serving::Begun
+            Begun::Accepted
         }
         Err(_) => {
             if begins.holds_begin() {
-                Serving::Waits
+                Begun::Waits
             } else {
-                Serving::Refused
+                Begun::Refused
             }
         }
     }
@@ -95,18 +94,18 @@ pub(crate) fn serve_begin<R: Wait>(
     number: DomainId,
     outbox: &mut OriginBox,
     begins: &mut BeginRing,
-) -> Serving
+) -> Begun
     ensures served { ServesNext locks.now number result outbox.old outbox.new begins.old begins.new }
     ensures rests { has_served result ≡ false → RestsThere outbox.old outbox.new begins.old begins.new }
     ensures origin { outbox.new.origin ≡ outbox.old.origin }
     ensures ring { SameConsumer begins.old.consumer begins.new.consumer }
 {
     if !make_room(outbox) {
-        return Serving::Waits;
+        return Begun::Waits;
     }
     let Some(lock) = locks.lock_of(number) else {
-        return Serving::Idle;
+        return Begun::Idle;
     };
     let mut domain = lock.lock(rt);
-    serve_there(rt, &mut domain, number, outbox, begins)
+    serve_there(&mut domain, number, outbox, begins)
 }

@@ -5,14 +5,14 @@ ghost use Rattle.lane.specs.Lanes.{eligible};
 ghost use Rattle.lane.specs.Queues.{frames_of};
 ghost use Rattle.thread_workers.specs.Arriving.{ArrivesAsAlien, ArrivesAsStray, ArrivesAtHome, StaysThere, place_at};
 
-use crate::ends::{Ending, Unended, end_alien, end_own};
+use crate::ends::{NotTaken, TakenBy, end_alien, end_own};
 use bridge::Bridge;
 use fab_types::{Bdf, Class, Direction, DomainId, Place, Way};
 use frame_log::Frame;
 use injector::RecordRing;
 use link::Ingress;
 use outboxes::OriginBox;
-use received::receipt_at_function;
+use received::received_at_function;
 use std::sync::Wait;
 use thread_domains::Locks;
 
@@ -40,28 +40,28 @@ pub(crate) fn arrive<R: Wait>(
     records: &mut RecordRing,
     locks: &Locks,
     strays: &mut Vec<Frame>,
-) -> Ending
-    ensures own { result ≡ Ending.Own → ArrivesAtHome bridge.now.ports function domain class (frames_of input.old.queue.queue.waiting) (frames_of input.new.queue.queue.waiting) outbox.old outbox.new records.old records.new strays.old.items strays.new.items }
-    ensures alien { result ≡ Ending.Alien → ArrivesAsAlien bridge.now.ports locks.now function domain class (frames_of input.old.queue.queue.waiting) (frames_of input.new.queue.queue.waiting) outbox.old outbox.new strays.old.items strays.new.items }
-    ensures stray { result ≡ Ending.Stray → ArrivesAsStray bridge.now.ports locks.now function domain class (frames_of input.old.queue.queue.waiting) (frames_of input.new.queue.queue.waiting) outbox.old outbox.new strays.old.items strays.new.items }
-    ensures waits { result ≡ Ending.Waits → StaysThere (frames_of input.old.queue.queue.waiting) (frames_of input.new.queue.queue.waiting) outbox.old outbox.new strays.old.items strays.new.items }
-    ensures idle { result ≡ Ending.Idle → (eligible class (frames_of input.old.queue.queue.waiting) ≡ None) × StaysThere (frames_of input.old.queue.queue.waiting) (frames_of input.new.queue.queue.waiting) outbox.old outbox.new strays.old.items strays.new.items }
-    ensures records { result ≢ Ending.Own → records.new ≡ records.old }
+) -> TakenBy
+    ensures own { result ≡ TakenBy.Own → ArrivesAtHome bridge.now.ports function domain class (frames_of input.old.queue.queue.waiting) (frames_of input.new.queue.queue.waiting) outbox.old outbox.new records.old records.new strays.old.items strays.new.items }
+    ensures alien { result ≡ TakenBy.Alien → ArrivesAsAlien bridge.now.ports locks.now function domain class (frames_of input.old.queue.queue.waiting) (frames_of input.new.queue.queue.waiting) outbox.old outbox.new strays.old.items strays.new.items }
+    ensures stray { result ≡ TakenBy.Stray → ArrivesAsStray bridge.now.ports locks.now function domain class (frames_of input.old.queue.queue.waiting) (frames_of input.new.queue.queue.waiting) outbox.old outbox.new strays.old.items strays.new.items }
+    ensures waits { result ≡ TakenBy.Waits → StaysThere (frames_of input.old.queue.queue.waiting) (frames_of input.new.queue.queue.waiting) outbox.old outbox.new strays.old.items strays.new.items }
+    ensures idle { result ≡ TakenBy.Idle → (eligible class (frames_of input.old.queue.queue.waiting) ≡ None) × StaysThere (frames_of input.old.queue.queue.waiting) (frames_of input.new.queue.queue.waiting) outbox.old outbox.new strays.old.items strays.new.items }
+    ensures records { result ≢ TakenBy.Own → records.new ≡ records.old }
 {
     let Some(frame) = input.release(class) else {
-        return Ending::Idle;
+        return TakenBy::Idle;
     };
     let is_own = frame.domain() == domain;
-    let receipt = receipt_at_function(bridge, function, is_own, &frame);
-    match end_own(rt, locks, receipt, outbox, records, frame) {
-        Ok(()) => Ending::Own,
-        Err(Unended::Stray(frame)) => {
+    let received = received_at_function(bridge, function, is_own, &frame);
+    match end_own(rt, locks, received, outbox, records, frame) {
+        Ok(()) => TakenBy::Own,
+        Err(NotTaken::Stray(frame)) => {
             let place = place_at(function);
             end_alien(rt, locks, domain, place, outbox, input, strays, frame)
         }
-        Err(Unended::Waits(frame)) => {
+        Err(NotTaken::Waits(frame)) => {
             input.give_back(frame);
-            Ending::Waits
+            TakenBy::Waits
         }
     }
 }

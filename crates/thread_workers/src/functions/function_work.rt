@@ -83,7 +83,7 @@ impl FunctionWork {
     fn arrive<R: Wait>(&mut self, rt: &R, class: Class) -> bool
         ensures { self.new.kept ≡ self.old.kept }
     {
-        let ending = arrive(
+        let taken_by = arrive(
             rt,
             class,
             self.function,
@@ -95,7 +95,7 @@ impl FunctionWork {
             &self.locks,
             &mut self.strays,
         );
-        ending.has_moved()
+        taken_by.has_moved()
     }
 
     fn arrive_each<R: Wait>(&mut self, rt: &R) -> bool
@@ -111,14 +111,14 @@ impl FunctionWork {
     fn serve<R: Wait>(&mut self, rt: &R) -> bool
         ensures { self.new.kept ≡ self.old.kept }
     {
-        let serving = serve_begin(
+        let begun = serve_begin(
             rt,
             &self.locks,
             self.domain,
             &mut self.outbox,
             &mut self.ends.begins,
         );
-        serving.has_moved()
+        begun.has_moved()
     }
 
     /// Once round: what waits to be sent leaves before what came is taken, and a record that is held goes out before a
@@ -133,15 +133,15 @@ impl FunctionWork {
         ensures links { tags_of links.new ≡ tags_of links.old }
         ensures credits { tags_of credits.new ≡ tags_of credits.old }
     {
-        let heard = self.side.hear(credits);
+        let updated = self.side.receive_update_fc(credits);
         let sent = self.side.send_each(links);
         flush(&mut self.ends.records);
         let arrived = self.arrive_each(rt);
         let landed = self.side.land(links);
         let entered = enter_each(&mut self.outbox, &mut self.side.egress);
         let served = self.serve(rt);
-        let told = self.side.tell(credits);
-        heard || sent || arrived || landed || entered || served || told
+        let advertised = self.side.send_update_fc(credits);
+        updated || sent || arrived || landed || entered || served || advertised
     }
 
     /// One turn of the worker: round after round while anything moves, at most 16.

@@ -9,11 +9,11 @@ use lane::{Desk, LaneIn, Reporter};
 use port::{Port, TurnParts};
 use std::sync::Wait;
 use switch_output::LaneOut;
+use thread_domains::{LockedDesk, Locks};
 
 /// One turn of the port, as `Port::turn`.
-pub(crate) fn turn_over<'a, W: Wait, I: LaneIn, O: LaneOut, D: Desk, R: Reporter>(
+pub(crate) fn turn_over<'a, I: LaneIn, O: LaneOut, D: Desk, R: Reporter>(
     port: &mut Port,
-    rt: &W,
     class: Class,
     bridge: &'a Bridge,
     input: &'a mut I,
@@ -35,5 +35,25 @@ pub(crate) fn turn_over<'a, W: Wait, I: LaneIn, O: LaneOut, D: Desk, R: Reporter
         desk,
         reporter,
     };
-    port.turn(rt, class, &mut parts)
+    port.turn(class, &mut parts)
+}
+
+/// The same, where the port has the domains of these locks refuse packets. It may have to wait for one of them.
+pub(crate) fn turn_with_locks<W: Wait, I: LaneIn, O: LaneOut, R: Reporter>(
+    port: &mut Port,
+    rt: &W,
+    class: Class,
+    bridge: &Bridge,
+    input: &mut I,
+    outs: &mut [O],
+    locks: &Locks,
+    reporter: &mut R,
+) -> Outcome
+    requires { length outs.old ≡ length port.old.config.exits + 1 }
+    ensures config { port.new.config ≡ port.old.config }
+    ensures lanes { map O.lane outs.new ≡ map O.lane outs.old }
+    ensures line { R.line reporter.new ≡ R.line reporter.old }
+{
+    let mut desk = LockedDesk { locks, rt };
+    turn_over(port, class, bridge, input, outs, &mut desk, reporter)
 }

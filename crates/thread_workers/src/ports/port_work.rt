@@ -8,8 +8,8 @@ ghost use Rattle.thread_rings.specs.Wired.{tags_of};
 
 use crate::link_side::LinkSide;
 use crate::ports::collect::collect;
-use crate::ports::forward::turn_over;
-use crate::ports::lose::{Losing, lose};
+use crate::ports::forward::turn_with_locks;
+use crate::ports::misroute::{Misrouting, misroute};
 use crate::ports::parts::PortParts;
 use bridge::Bridge;
 use credit::Limits;
@@ -21,7 +21,7 @@ use std::alloc::Global;
 use std::marker::Model;
 use std::sync::{Arc, Wait};
 use switch_output::VettedFrame;
-use thread_domains::LockedDesk;
+use thread_domains::Locks;
 use thread_rings::Ends;
 
 // How often a turn goes round while something moves.
@@ -36,7 +36,7 @@ pub struct PortWork {
     port: Port,
     bridge: Arc<Bridge, Global>,
     side: LinkSide,
-    desk: LockedDesk,
+    locks: Arc<Locks, Global>,
     reporter: QueueReporter,
 }
 
@@ -56,7 +56,7 @@ impl PortWork {
         port: Port,
         bridge: Arc<Bridge, Global>,
         side: LinkSide,
-        desk: LockedDesk,
+        locks: Arc<Locks, Global>,
         reporter: QueueReporter,
     ) -> PortWork
         ensures kept { result.kept ≡ record { config = port.config; routes = arc_value bridge; seat = seat_of reporter } }
@@ -66,12 +66,12 @@ impl PortWork {
             port,
             bridge,
             side,
-            desk,
+            locks,
             reporter,
         }
     }
 
-    /// What came in goes on, is refused, or is lost: the eligible packet of this class. Did it move? Where the worker
+    /// What came in goes on, is refused, or is misrouted: the eligible packet of this class. Did it move? Where the worker
     /// hasn't one end for each lane of its switch nothing moves.
     fn pass<R: Wait>(&mut self, rt: &R, class: Class, pairs: &mut Ends<VettedFrame>) -> bool
         ensures kept { self.new.kept ≡ self.old.kept }
@@ -80,29 +80,34 @@ impl PortWork {
         if pairs.outs.len() != self.port.lanes() {
             return false;
         }
-        match self.lose(rt, class, pairs) {
-            Losing::Lost => true,
-            Losing::Waits => false,
-            Losing::Elsewhere => self.forward(rt, class, pairs),
+        match self.misroute(rt, class, pairs) {
+            Misrouting::Misrouted => true,
+            Misrouting::Waits => false,
+            Misrouting::Elsewhere => self.forward(rt, class, pairs),
         }
     }
 
     /// In a layout that isn't guarded, what the port has no case for ends here.
     #[tactic(auto, using(thread_rings::proofs::Used::same_outs))]
-    fn lose<R: Wait>(&mut self, rt: &R, class: Class, pairs: &mut Ends<VettedFrame>) -> Losing
+    fn misroute<R: Wait>(
+        &mut self,
+        rt: &R,
+        class: Class,
+        pairs: &mut Ends<VettedFrame>,
+    ) -> Misrouting
         requires { HasLanes self.old (tags_of pairs.old) }
         ensures kept { self.new.kept ≡ self.old.kept }
         ensures pairs { tags_of pairs.new ≡ tags_of pairs.old }
     {
         let own = self.port.own_lane();
-        lose(
+        misroute(
             rt,
             class,
             &mut self.port,
             &self.bridge,
             &mut self.side.ingress,
             &mut pairs.outs[own],
-            &self.desk.locks,
+            &self.locks,
             &mut self.reporter,
         )
     }
@@ -113,14 +118,14 @@ impl PortWork {
         ensures kept { self.new.kept ≡ self.old.kept }
         ensures pairs { tags_of pairs.new ≡ tags_of pairs.old }
     {
-        let outcome = turn_over(
+        let outcome = turn_with_locks(
             &mut self.port,
             rt,
             class,
             &self.bridge,
             &mut self.side.ingress,
             pairs.outs.as_mut_slice(),
-            &mut self.desk,
+            &self.locks,
             &mut self.reporter,
         );
         match outcome {
@@ -152,13 +157,13 @@ impl PortWork {
         ensures credits { tags_of credits.new ≡ tags_of credits.old }
         ensures pairs { tags_of pairs.new ≡ tags_of pairs.old }
     {
-        let heard = self.side.hear(credits);
+        let updated = self.side.receive_update_fc(credits);
         let sent = self.side.send_each(links);
         let collected = collect(pairs, &mut self.side.egress);
         let passed = self.pass_each(rt, pairs);
         let landed = self.side.land(links);
-        let told = self.side.tell(credits);
-        heard || sent || collected || passed || landed || told
+        let advertised = self.side.send_update_fc(credits);
+        updated || sent || collected || passed || landed || advertised
     }
 
     /// One turn of the worker: round after round while anything moves, at most 16.
@@ -191,7 +196,7 @@ impl PortWork {
             port,
             bridge: _,
             side,
-            desk: _,
+            locks: _,
             reporter,
         } = self;
         PortParts {

@@ -7,7 +7,7 @@ use Rattle.audit.proofs.Trials.{landed}
 use Rattle.audit.proofs.landing.witness_of.Goals as goal
 
 pub returns : goal.returns
-returns g c =
+returns c =
     let with_bytes : List ℕ → Witness = λ (bytes : List ℕ). record {
       attacker = c.args.attacker;
       victim = c.args.victim;

@@ -5,4 +5,4 @@ use Rattle.audit.proofs.search.all_pairs.Given as goal
 
 -- the pairs of the domains so far are added
 abbrev pub invariant-loop-attacker : goal.invariant-loop-attacker
-invariant-loop-attacker g l = Adds l.setting.layout.now (flat_map (couples_of l.domains) (take l.attacker-index l.domains)) [] l.pairs.items
+invariant-loop-attacker l = Adds l.setting.layout.now (flat_map (couples_of l.domains) (take l.attacker-index l.domains)) [] l.pairs.items

@@ -6,4 +6,4 @@ use Rattle.audit.proofs.search.first_of.Given as goal
 
 -- the requests so far fail
 abbrev pub invariant-loop-attack : goal.invariant-loop-attack
-invariant-loop-attack g l = All (Fails l.setting.layout.now) (map (witness_by l.attacker l.victim) (take l.attack-index l.attacks))
+invariant-loop-attack l = All (Fails l.setting.layout.now) (map (witness_by l.attacker l.victim) (take l.attack-index l.attacks))

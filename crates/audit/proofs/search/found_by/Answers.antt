@@ -5,7 +5,7 @@ use Rattle.audit.proofs.Lists.{found_by_one, next_fails, next_lands, none_of_all
 use Rattle.audit.proofs.search.found_by.Goals as goal
 
 pub returns-then-is_some : goal.returns-then-is_some
-returns-then-is_some g c =
+returns-then-is_some c =
     let p = c.args.setting.now.layout.now in
     let t = c.args.target.now in
     let found = found_by_one p t c.args.way c.args.attacker c.args.victim c.function-item.result c.deref.result.now c.in_ok-found.found (c.deref.ensures.value ∙ c.in_ok-attacks.ensures) c.in_ok-found.ensures in
@@ -13,7 +13,7 @@ returns-then-is_some g c =
     c.in_ok-found.found (sym c.is_some.ensures ∙ c.if-is_some.true) found
 
 pub loop-function-preserved : goal.loop-function-preserved
-loop-function-preserved g c =
+loop-function-preserved c =
     let p = c.args.setting.now.layout.now in
     let t = c.args.target.now in
     let found = found_by_one p t c.args.way c.args.attacker c.args.victim c.function-item.result c.deref.result.now c.in_ok-found.found (c.deref.ensures.value ∙ c.in_ok-attacks.ensures) c.in_ok-found.ensures in
@@ -21,6 +21,6 @@ loop-function-preserved g c =
     c.in_ok-found.found (sym c.is_some.ensures ∙ c.if-is_some.false) found
 
 pub returns : goal.returns
-returns g c =
+returns c =
     none_of_all c.args.setting.now.layout.now (witness_by c.args.attacker c.args.victim) (λ (function : ℕ). tries c.args.setting.now.layout.now c.args.way function c.args.target.now) c.args.functions.now c.loop-function.function-index
     c.loop-function-test.false c.loop-function.invariant

@@ -6,5 +6,5 @@ use Rattle.fabric_core.specs.World.{World}
 use Rattle.audit.proofs.trial.begun.Goals as goal
 
 pub returns-in-Moved-clause-begun : goal.returns-in-Moved-clause-begun
-returns-in-Moved-clause-begun g c =
+returns-in-Moved-clause-begun c =
     subst (λ (w : World). StepsTo w (Submit c.args.function c.args.bytes) Moved c.step.new.self) c.in_ok-fabric.ensures.start c.in-Moved.ensures.steps

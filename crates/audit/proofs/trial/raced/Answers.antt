@@ -10,7 +10,7 @@ use Rattle.audit.specs.Landing.{ComesToRest}
 use Rattle.audit.proofs.trial.raced.Goals as goal
 
 pub returns-clause-race : goal.returns-clause-race
-returns-clause-race g c = record {
+returns-clause-race c = record {
   sweep = flat_map events_at c.args.setting.now.stations.items;
   is_sweep = c.requires.sweep;
   ahead = c.in-Some.fabric;

@@ -6,7 +6,7 @@ use Rattle.audit.specs.Landing.{ComesToRest}
 use Rattle.audit.proofs.trial.ran.Goals as goal
 
 pub returns-clause-run : goal.returns-clause-run
-returns-clause-run g c = record {
+returns-clause-run c = record {
   sweep = flat_map events_at c.args.setting.now.stations.items;
   is_sweep = c.requires.sweep;
   mid = c.in-Some.fabric;

@@ -7,7 +7,7 @@ use Rattle.domain.specs.Machine.{replay}
 use Rattle.commands.proofs.run.replayed.Goals as goal
 
 pub returns-in-Ok-clause-ok : goal.returns-in-Ok-clause-ok
-returns-in-Ok-clause-ok g c =
+returns-in-Ok-clause-ok c =
     let refused = c.in_ok-fabric.ensures.ok in
     record {
       ran = c.in-Some.domain.now;
@@ -24,14 +24,14 @@ returns-in-Ok-clause-ok g c =
     }
 
 pub unreachable-requires : goal.unreachable-requires
-unreachable-requires g c =
+unreachable-requires c =
     let has = c.in_ok-fabric.ensures.owners c.args.start.now c.requires in
     let clash : None ≡ Some has.domain = rw c.domain-number.ensures at c.in_default.ensures ∙ has.there in
     cc
 
 -- the domain has the share that its journal is replayed from
 pub unreachable-requires-in-Err-Illegal : goal.unreachable-requires-in-Err-Illegal
-unreachable-requires-in-Err-Illegal g c =
+unreachable-requires-in-Err-Illegal c =
     let domain = c.in-Some.domain.now in
     let has = c.in_ok-fabric.ensures.owners c.args.start.now c.requires in
     let same : has.domain ≡ domain = same_Some _ _ (sym has.there ∙ sym (rw c.domain-number.ensures at c.in-Some.ensures)) in

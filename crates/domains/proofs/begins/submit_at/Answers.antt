@@ -8,21 +8,21 @@ use Rattle.domains.proofs.Indexed.{places_stay, share_kept}
 use Rattle.domains.proofs.begins.submit_at.Goals as goal
 
 pub returns-clause-ok : goal.returns-clause-ok
-returns-clause-ok g c =
+returns-clause-ok c =
     let ds = c.args.domains.now in let i = c.args.place in let read = c.index-domains-place.result in
     frame_made ds i (get_or ds i read) c.submit_bytes.new.self (Submit c.args.function c.args.bytes.now) c.submit_bytes.result (slice_get-get_or ds i read c.requires) c.submit_bytes.ensures.ok
 
 pub returns-clause-refused : goal.returns-clause-refused
-returns-clause-refused g c =
+returns-clause-refused c =
     let at = slice_get-get_or c.args.domains.now c.args.place c.index-domains-place.result c.requires in
     λ fault told. c.submit_bytes.ensures.refused fault (sym (ap (λ (o : Option DomainView). submit_refusal_by o c.args.function c.args.bytes.now) at) ∙ told)
 
 pub returns-clause-accepted : goal.returns-clause-accepted
-returns-clause-accepted g c =
+returns-clause-accepted c =
     let at = slice_get-get_or c.args.domains.now c.args.place c.index-domains-place.result c.requires in
     λ told. c.submit_bytes.ensures.accepted (sym (ap (λ (o : Option DomainView). submit_refusal_by o c.args.function c.args.bytes.now) at) ∙ told)
 
 pub returns-clause-places : goal.returns-clause-places
-returns-clause-places g c =
+returns-clause-places c =
     let ds = c.args.domains.now in let i = c.args.place in let read = c.index-domains-place.result in
     places_stay ds i read c.submit_bytes.new.self (share_kept _ (get_or ds i read) c.submit_bytes.new.self c.submit_bytes.result (λ x m. m.share) c.submit_bytes.ensures.ok c.submit_bytes.ensures.err)

@@ -8,7 +8,7 @@ use Rattle.fabric_core.proofs.apart.Legal.{mmio_legal, mmio_memory, some_map, un
 use Rattle.fabric_core.proofs.begins.mmio.Goals as goal
 
 pub returns-in-Err-NoMemory-clause-steps : goal.returns-in-Err-NoMemory-clause-steps
-returns-in-Err-NoMemory-clause-steps g c h violations strays =
+returns-in-Err-NoMemory-clause-steps c h violations strays =
     let domains = c.args.agents.now.domains in
     let is = c.in-Err-NoMemory.is ∙ ap (λ (f : MmioFault). Err f) c.in-Err-NoMemory.field-0-is in
     let free = unrefused mmio.NoMemory (mmio_refusal domains c.args.domain c.args.access.now) c.mmio.result c.mmio.ensures.refused is (mmio_memory domains c.args.domain c.args.access.now) in

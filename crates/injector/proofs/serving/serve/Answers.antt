@@ -7,7 +7,7 @@ use Rattle.injector.proofs.serving.serve.Goals as goal
 use Rattle.injector.proofs.serving.serve.Goals.{then-not-is_memory_fault, else-not-is_memory_fault}
 
 pub returns-after-not-is_memory_fault-clause-err : goal.returns-after-not-is_memory_fault-clause-err
-returns-after-not-is_memory_fault-clause-err g c =
+returns-after-not-is_memory_fault-clause-err c =
     let n = c.fetch.ensures.next c.if-not-fetch.false in
     let k = c.fetch.ensures.counts in
     let d = c.args.domain.now in

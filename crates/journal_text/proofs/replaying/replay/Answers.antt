@@ -6,7 +6,7 @@ use Rattle.journal_text.proofs.LineEntries.{first_entries, lines_stop}
 use Rattle.journal_text.proofs.replaying.replay.Goals as goal
 
 pub returns-in-Err-Illegal-clause-illegal : goal.returns-in-Err-Illegal-clause-illegal
-returns-in-Err-Illegal-clause-illegal g c = λ number same. record {
+returns-in-Err-Illegal-clause-illegal c = λ number same. record {
   index = c.loop-line.line-index;
   line = c.line-item.result;
   there = slice_get_read c.args.lines.now _ c.loop-line.line-index c.line-item.result refl c.loop-line-test.true c.line-item.is;
@@ -17,7 +17,7 @@ returns-in-Err-Illegal-clause-illegal g c = λ number same. record {
 }
 
 pub returns-in-Err-Illegal-clause-legal : goal.returns-in-Err-Illegal-clause-legal
-returns-in-Err-Illegal-clause-legal g c = λ s all.
+returns-in-Err-Illegal-clause-legal c = λ s all.
     let there = slice_get_read c.args.lines.now _ c.loop-line.line-index c.line-item.result refl c.loop-line-test.true c.line-item.is in
     let illegal = subst (λ (share : Share). change share c.loop-line.domain.state c.line-item.result.entry ≡ None) c.loop-line.invariant.share (c.in-Err-Illegal.ensures.illegal c.in-Err-Illegal.field-0-is) in
     absurd (lines_stop c.args.start.now c.args.lines.now c.loop-line.line-index c.line-item.result c.loop-line.domain.state s c.loop-line.invariant.state there illegal all)

@@ -6,4 +6,4 @@ use Rattle.sweeps.proofs.sweep.sweep.Given as goal
 
 -- the events of the stations so far were made
 abbrev pub invariant-loop-station : goal.invariant-loop-station
-invariant-loop-station g l = Sweeps (flat_map events_at (take l.station-index l.stations)) l.initial.fabric l.moved l.fabric
+invariant-loop-station l = Sweeps (flat_map events_at (take l.station-index l.stations)) l.initial.fabric l.moved l.fabric

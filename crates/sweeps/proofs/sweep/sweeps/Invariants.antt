@@ -7,4 +7,4 @@ use Rattle.sweeps.proofs.sweep.sweeps.Given as goal
 
 -- what is left gives the whole
 abbrev pub invariant-loop : goal.invariant-loop
-invariant-loop g l = Leads (flat_map events_at l.stations) l.most l.initial.fabric (l.most - l.counter) l.fabric × LeadsCut (flat_map events_at l.stations) l.most l.initial.fabric (l.most - l.counter) l.fabric
+invariant-loop l = Leads (flat_map events_at l.stations) l.most l.initial.fabric (l.most - l.counter) l.fabric × LeadsCut (flat_map events_at l.stations) l.most l.initial.fabric (l.most - l.counter) l.fabric

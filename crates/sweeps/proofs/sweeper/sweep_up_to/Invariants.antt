@@ -8,8 +8,8 @@ use Rattle.sweeps.proofs.sweeper.sweep_up_to.Given as goal
 
 -- what is left gives the whole, and who is asleep is idle
 abbrev pub invariant-loop : goal.invariant-loop
-invariant-loop g l = record {
-  leads : Leads (flat_map events_at (map station_of l.stops)) l.most l.initial.fabric (l.most - l.counter) l.fabric;
-  leads_cut : LeadsCut (flat_map events_at (map station_of l.stops)) l.most l.initial.fabric (l.most - l.counter) l.fabric;
-  asleep : AreAsleep l.stops l.fabric l.awake;
+invariant-loop l = record {
+  leads : Leads (flat_map events_at (map station_of l.watchpoints)) l.most l.initial.fabric (l.most - l.counter) l.fabric;
+  leads_cut : LeadsCut (flat_map events_at (map station_of l.watchpoints)) l.most l.initial.fabric (l.most - l.counter) l.fabric;
+  asleep : AreAsleep l.watchpoints l.fabric l.awake;
 }

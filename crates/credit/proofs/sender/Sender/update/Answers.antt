@@ -1,6 +1,6 @@
 use Rattle.std.proofs.Common.{IsTrue, sym, subst}
 use Rattle.credit.specs.Limits.{Ledger, IsInRange, IsUpdate}
-use Rattle.credit.proofs.Standing.{update-in_range, told-update}
+use Rattle.credit.proofs.Standing.{update-in_range, advertised-update}
 use Rattle.credit.proofs.sender.Sender.update.Goals as goal
 
 pub invariant_of-self : goal.invariant_of-self
@@ -10,8 +10,8 @@ invariant_of-self c =
     update-in_range old c.args.limits c.self.invariant (subst P (sym c.self.view_is) (c.accepts-accepted.ensures.0 c.if-accepted.true))
 
 pub returns-else-accepted-clause-totals : goal.returns-else-accepted-clause-totals
-returns-else-accepted-clause-totals c sent limit told stands counts grows =
+returns-else-accepted-clause-totals c sent limit advertised stands counts grows =
     let range : IsInRange c.args.self.now = subst IsInRange c.self.view_is c.self.invariant in
-    let accepted : IsTrue c.accepts-accepted.result = c.accepts-accepted.ensures.1 (told-update sent limit told c.args.self.now c.args.limits range stands counts grows) in
+    let accepted : IsTrue c.accepts-accepted.result = c.accepts-accepted.ensures.1 (advertised-update sent limit advertised c.args.self.now c.args.limits range stands counts grows) in
     let refused = c.if-accepted.false in
     cc

@@ -7,14 +7,14 @@ use Rattle.domain.proofs.Keeping.{upward, makes_seen, replays_more, submit_legal
 use Rattle.domain.proofs.domain.Domain.accept.Goals as goal
 
 pub push_reserved-requires : goal.push_reserved-requires
-push_reserved-requires g c =
+push_reserved-requires c =
     let d = c.self.inside in
     let none = not_refused (domain_view d) c.args.self.now c.args.function c.args.packet.now _ c.self.view_is c.requires.accepted refl in
     let room : length d.journal.items < 4 * d.start.budget + 3 * aliens_in d.journal.items = journal_room d.start d.state d.journal.items c.args.function c.args.packet.now c.self.invariant.replays none in
     omega (arith, d.journal.ok, c.self.invariant.room, c.self.invariant.entries, room)
 
 pub invariant_of-self-2 : goal.invariant_of-self-2
-invariant_of-self-2 g c =
+invariant_of-self-2 c =
     let d = c.self.inside in
     let none = not_refused (domain_view d) c.args.self.now c.args.function c.args.packet.now _ c.self.view_is c.requires.accepted refl in
     let legal = submit_legal d.start d.state c.submit.new.self c.args.function c.args.packet.now none c.in-Ok-submit.ensures.state in
@@ -28,7 +28,7 @@ invariant_of-self-2 g c =
     }
 
 pub returns-clause-ok : goal.returns-clause-ok
-returns-clause-ok g c =
+returns-clause-ok c =
     let d = c.self.inside in
     let none = not_refused (domain_view d) c.args.self.now c.args.function c.args.packet.now _ c.self.view_is c.requires.accepted refl in
     let grown = submit_copied d.journal.items _ c.args.function c.args.packet.now c.args.bytes c.requires.same c.push_reserved.ensures.items in

@@ -12,37 +12,37 @@ use Rattle.domain.proofs.Keeping.{blocks_fit, replays_more, strays_fit}
 use Rattle.domain.proofs.domain.Domain.end_alien.Goals as goal
 
 pub room_for_entries-requires-clause-len : goal.room_for_entries-requires-clause-len
-room_for_entries-requires-clause-len g c =
+room_for_entries-requires-clause-len c =
     let d = c.self.inside in
     let js = d.journal.items in
     omega (arith, d.journal.ok, c.self.invariant.entries, room_held d.start d.state (length js) (aliens_in js) (accounted d.start js d.state c.self.invariant.replays))
 
 pub receive-requires-clause-blocks : goal.receive-requires-clause-blocks
-receive-requires-clause-blocks g c =
+receive-requires-clause-blocks c =
     let d = c.self.inside in
     subst (λ (u : Alone). u.counts.blocked + 1 < 2 ^ 64) (sym c.make_room.ensures) (blocks_fit d.start d.state d.journal.items c.self.invariant.replays (omega (arith, d.journal.ok, d.journal.small)))
 
 pub receive-requires-clause-counts : goal.receive-requires-clause-counts
-receive-requires-clause-counts g c =
+receive-requires-clause-counts c =
     let d = c.self.inside in
     subst (λ (u : Alone). u.counts.unexpected + 1 < 2 ^ 64) (sym c.make_room.ensures) (strays_fit d.start d.state d.journal.items c.self.invariant.replays (omega (arith, d.journal.ok, d.journal.small)))
 
 pub receive-requires-clause-fits : goal.receive-requires-clause-fits
-receive-requires-clause-fits g c =
+receive-requires-clause-fits c =
     let d = c.self.inside in
     let b = c.args.bytes.now in
     let is = found (domain_view d) c.args.self.now c.args.place c.args.sender b _ c.in-Some.reception c.self.view_is c.in-Some.is c.reception.ensures.value in
     subst (λ (u : Alone). IsReceivable u.open_tags b c.in-Some.reception) (sym c.make_room.ensures) (found_fits d.start d.state c.args.place c.args.sender b c.in-Some.reception is)
 
 pub push_reserved-requires : goal.push_reserved-requires
-push_reserved-requires g c =
+push_reserved-requires c =
     let d = c.self.inside in
     let js = d.journal.items in
     let held = room_held d.start d.state (length js) (aliens_in js) (accounted d.start js d.state c.self.invariant.replays) in
     omega (arith, c.room_for_entries.new.journal.ok, ap length c.room_for_entries.ensures.items, held, c.self.invariant.entries, c.in-Ok.ensures.room, c.in-Ok.ensures.value)
 
 pub invariant_of-self-2 : goal.invariant_of-self-2
-invariant_of-self-2 g c =
+invariant_of-self-2 c =
     let d = c.self.inside in
     let js = d.journal.items in
     let b = c.args.bytes.now in
@@ -60,7 +60,7 @@ invariant_of-self-2 g c =
     }
 
 pub returns-clause-ok : goal.returns-clause-ok
-returns-clause-ok g c =
+returns-clause-ok c =
     let d = c.self.inside in
     let b = c.args.bytes.now in
     let r = c.in-Some.reception in

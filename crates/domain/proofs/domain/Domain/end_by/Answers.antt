@@ -6,19 +6,19 @@ use Rattle.domain.proofs.Keeping.{blocks_fit, end_room, ended_so, ends_seen, mak
 use Rattle.domain.proofs.domain.Domain.end_by.Goals as goal
 
 pub conclude-requires-clause-blocks : goal.conclude-requires-clause-blocks
-conclude-requires-clause-blocks g c =
+conclude-requires-clause-blocks c =
     let d = c.self.inside in
     blocks_fit d.start d.state d.journal.items c.self.invariant.replays (omega (arith, d.journal.ok, d.journal.small))
 
 pub push_reserved-requires : goal.push_reserved-requires
-push_reserved-requires g c =
+push_reserved-requires c =
     let d = c.self.inside in
     let h = ends_seen (domain_view d) c.args.self.now c.args.entry c.args.number c.args.disposition c.self.view_is c.requires in
     let room : length d.journal.items < 4 * d.start.budget + 3 * aliens_in d.journal.items = end_room d.start d.state d.journal.items c.args.number h.emission c.self.invariant.replays h.waits in
     omega (arith, d.journal.ok, c.self.invariant.room, c.self.invariant.entries, room)
 
 pub invariant_of-self-2 : goal.invariant_of-self-2
-invariant_of-self-2 g c =
+invariant_of-self-2 c =
     let d = c.self.inside in
     let h = ends_seen (domain_view d) c.args.self.now c.args.entry c.args.number c.args.disposition c.self.view_is c.requires in
     record {
@@ -31,7 +31,7 @@ invariant_of-self-2 g c =
     }
 
 pub returns-clause-ok : goal.returns-clause-ok
-returns-clause-ok g c =
+returns-clause-ok c =
     let d = c.self.inside in
     let h = ends_seen (domain_view d) c.args.self.now c.args.entry c.args.number c.args.disposition c.self.view_is c.requires in
     makes_seen (domain_view d) c.args.self.now _ c.args.entry c.in-Ok.sent c.self.view_is

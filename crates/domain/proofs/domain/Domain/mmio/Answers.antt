@@ -8,7 +8,7 @@ use Rattle.domain.proofs.HostBegins.{admitted, makes_mmio, mmio_copied, mmio_leg
 use Rattle.domain.proofs.domain.Domain.mmio.Goals as goal
 
 pub push_reserved-requires : goal.push_reserved-requires
-push_reserved-requires g c =
+push_reserved-requires c =
     let d = c.self.inside in
     let x = c.args.access.now in
     let h = admitted (domain_view d) c.args.self.now x c.in_ok-tag.tag c.in_ok-tag.bar c.self.view_is c.in_ok-tag.ensures.accepted c.in_ok-tag.ensures.tag c.in_ok-tag.ensures.bar in
@@ -16,7 +16,7 @@ push_reserved-requires g c =
     omega (arith, d.journal.ok, c.self.invariant.room, c.self.invariant.entries, room)
 
 pub invariant_of-self-2 : goal.invariant_of-self-2
-invariant_of-self-2 g c =
+invariant_of-self-2 c =
     let d = c.self.inside in
     let x = c.args.access.now in
     let tag = c.in_ok-tag.tag in
@@ -33,7 +33,7 @@ invariant_of-self-2 g c =
     }
 
 pub returns-clause-ok : goal.returns-clause-ok
-returns-clause-ok g c =
+returns-clause-ok c =
     let d = c.self.inside in
     let x = c.args.access.now in
     let tag = c.in_ok-tag.tag in

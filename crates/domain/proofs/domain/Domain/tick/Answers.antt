@@ -8,20 +8,20 @@ use Rattle.domain.proofs.Ticking.{has_plan, makes_tick, no_tick_fault, tick_emit
 use Rattle.domain.proofs.domain.Domain.tick.Goals as goal
 
 pub unreachable-requires : goal.unreachable-requires
-unreachable-requires g c =
+unreachable-requires c =
     let d = c.self.inside in
     let none = no_tick_fault (domain_view d) c.args.self.now c.args.function _ c.self.view_is c.in_default.is c.tick_fault.ensures in
     has_plan d.start d.journal.items d.state c.args.function _ c.self.invariant.replays none c.planned-planned.ensures.value c.in_default-planned.is
 
 pub push_reserved-requires : goal.push_reserved-requires
-push_reserved-requires g c =
+push_reserved-requires c =
     let d = c.self.inside in
     let none = no_tick_fault (domain_view d) c.args.self.now c.args.function _ c.self.view_is c.in_default.is c.tick_fault.ensures in
     let room : length d.journal.items < 4 * d.start.budget + 3 * aliens_in d.journal.items = tick_room d.start d.state d.journal.items c.args.function c.self.invariant.replays none in
     omega (arith, d.journal.ok, c.self.invariant.room, c.self.invariant.entries, room)
 
 pub invariant_of-self-2 : goal.invariant_of-self-2
-invariant_of-self-2 g c =
+invariant_of-self-2 c =
     let d = c.self.inside in
     let none = no_tick_fault (domain_view d) c.args.self.now c.args.function _ c.self.view_is c.in_default.is c.tick_fault.ensures in
     let plan = c.in-Some-planned.plan in
@@ -35,13 +35,13 @@ invariant_of-self-2 g c =
     }
 
 pub returns-clause-ok : goal.returns-clause-ok
-returns-clause-ok g c =
+returns-clause-ok c =
     let d = c.self.inside in
     let none = no_tick_fault (domain_view d) c.args.self.now c.args.function _ c.self.view_is c.in_default.is c.tick_fault.ensures in
     makes_tick (domain_view d) c.args.self.now _ c.args.function _ c.in-Some-planned.plan _ c.in-Ok.sent c.self.view_is none c.planned-planned.ensures.value c.in-Some-planned.is refl c.push_reserved.ensures.items c.in-Ok.ensures.state c.domain.ensures c.in-Ok.ensures.sent
 
 pub returns-in_default-tick-clause-memory : goal.returns-in_default-tick-clause-memory
-returns-in_default-tick-clause-memory g c refused =
+returns-in_default-tick-clause-memory c refused =
     let d = c.self.inside in
     let none = no_tick_fault (domain_view d) c.args.self.now c.args.function _ c.self.view_is c.in_default.is c.tick_fault.ensures in
     tick_emits (domain_view d) c.args.self.now c.args.function _ c.in-Some-planned.plan c.self.view_is none c.planned-planned.ensures.value c.in-Some-planned.is c.in_default-tick.ensures.err.1

@@ -8,7 +8,7 @@ use Rattle.domain.proofs.ConcludeLemmas.{answer_is, if_both}
 use Rattle.domain.proofs.state.State.send_reply.Goals as goal
 
 pub returns-clause-answered : goal.returns-clause-answered
-returns-clause-answered g c =
+returns-clause-answered c =
     if_both c.send.result _ _ _ (λ x state sent. λ e there.
     let answer = answer_is c.args.start.now (alone_of c.self.inside) c.args.self.now c.args.number _ e c.args.disposition _ _ c.reply-reply.result c.self.view_is c.in-Some.ensures.value there refl refl c.reply-reply.ensures in
     record {

@@ -10,29 +10,29 @@ use Rattle.domains.proofs.agents.Agents.alien_at_function.Goals as goal
 use Rattle.domains.proofs.agents.Agents.alien_at_function.Goals.{in-Some-sent, in_default-sent}
 
 pub invariant_of-self : goal.invariant_of-self
-invariant_of-self g c = rw c.in_err-sent.ensures.err (keeps_grown c.self.inside.domains c.self.inside.outboxes c.enter.new.outboxes c.self.invariant c.enter.ensures.grown)
+invariant_of-self c = rw c.in_err-sent.ensures.err (keeps_grown c.self.inside.domains c.self.inside.outboxes c.enter.new.outboxes c.self.invariant c.enter.ensures.grown)
 
 pub put-requires : goal.put-requires
-put-requires g c =
+put-requires c =
     let ds = c.self.inside.domains in let boxes = c.self.inside.outboxes in let new = c.enter.new.domains in let f = c.args.function in let n = c.domain-owner.result in let answer = c.in-Some-sent.answer in
     let home = number_home ds boxes f n c.in-Some.home.now c.self.invariant c.in-Some.ensures (c.domain-owner.ensures ∙ ap (λ (s : Share). s.domain) c.start.ensures) in
     let is = sent_so (aliened ds n c.args.place c.args.frame) new c.in_ok-sent.sent (Some answer) c.in_ok-sent.ensures.ok c.in-Some-sent.is in
     alien_room ds new boxes c.enter.new.outboxes (Function f) n c.args.place c.args.frame answer (class_of answer) c.self.invariant c.enter.ensures.grown c.in_ok-sent.ensures.places home is
 
 pub invariant_of-self-in-Some-sent : goal.invariant_of-self-in-Some-sent
-invariant_of-self-in-Some-sent g c =
+invariant_of-self-in-Some-sent c =
     let ds = c.self.inside.domains in let boxes = c.self.inside.outboxes in let new = c.enter.new.domains in let f = c.args.function in let n = c.domain-owner.result in let answer = c.in-Some-sent.answer in
     let home = number_home ds boxes f n c.in-Some.home.now c.self.invariant c.in-Some.ensures (c.domain-owner.ensures ∙ ap (λ (s : Share). s.domain) c.start.ensures) in
     let is = sent_so (aliened ds n c.args.place c.args.frame) new c.in_ok-sent.sent (Some answer) c.in_ok-sent.ensures.ok c.in-Some-sent.is in
     alien_put ds new boxes c.enter.new.outboxes c.put.new.self (Function f) n c.args.place c.args.frame answer c.self.invariant c.enter.ensures.grown c.in_ok-sent.ensures.places home is c.put.ensures
 
 pub invariant_of-self-in_default-sent : goal.invariant_of-self-in_default-sent
-invariant_of-self-in_default-sent g c =
+invariant_of-self-in_default-sent c =
     alien_silent c.self.inside.domains c.enter.new.domains c.self.inside.outboxes c.enter.new.outboxes c.domain-owner.result c.args.place c.args.frame c.in_ok-sent.sent c.self.invariant c.enter.ensures.grown
     c.in_ok-sent.ensures.places c.in_ok-sent.ensures.ok
 
 pub returns-clause-ok : goal.returns-clause-ok
-returns-clause-ok g c =
+returns-clause-ok c =
     let ds = c.self.inside.domains in let new = c.enter.new.domains in let boxes = c.self.inside.outboxes in let grown = c.enter.new.outboxes in
     let f = c.args.function in let n = c.domain-owner.result in let o = aliened_at ds (place_of_function ds f) c.args.place c.args.frame in
     let home = number_home ds boxes f n c.in-Some.home.now c.self.invariant c.in-Some.ensures (c.domain-owner.ensures ∙ ap (λ (s : Share). s.domain) c.start.ensures) in

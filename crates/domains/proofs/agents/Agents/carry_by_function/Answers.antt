@@ -9,7 +9,7 @@ use Rattle.domains.proofs.agents.Agents.carry_by_function.Goals as goal
 use Rattle.domains.proofs.agents.Agents.carry_by_function.Goals.{in-Some, in_default}
 
 pub put-requires : goal.put-requires
-put-requires g c =
+put-requires c =
     let ds = c.self.inside.domains in let boxes = c.self.inside.outboxes in let f = c.args.function in let n = c.args.frame.domain in let entry = Carry c.args.frame.number in
     let own = told_own ds boxes c.args.self.now f n c.domain.result c.is_function_of.result c.self.view_is c.domain.ensures c.is_function_of.ensures c.if-not-is_function_of.false in
     let home = function_home ds boxes f n c.self.invariant own in
@@ -17,7 +17,7 @@ put-requires g c =
     has_room ds c.carry.new.self boxes (Function f) entry (place_of ds n) c.in-Some.answer (class_of c.in-Some.answer) (λ n. refl) c.self.invariant home is
 
 pub invariant_of-self-in-Some : goal.invariant_of-self-in-Some
-invariant_of-self-in-Some g c =
+invariant_of-self-in-Some c =
     let ds = c.self.inside.domains in let boxes = c.self.inside.outboxes in let f = c.args.function in let n = c.args.frame.domain in let entry = Carry c.args.frame.number in
     let own = told_own ds boxes c.args.self.now f n c.domain.result c.is_function_of.result c.self.view_is c.domain.ensures c.is_function_of.ensures c.if-not-is_function_of.false in
     let home = function_home ds boxes f n c.self.invariant own in
@@ -25,12 +25,12 @@ invariant_of-self-in-Some g c =
     keeps_put ds c.carry.new.self boxes c.put.new.self (Function f) entry (place_of ds n) c.in-Some.answer (λ n. refl) c.self.invariant home is c.put.ensures
 
 pub invariant_of-self-in_default : goal.invariant_of-self-in_default
-invariant_of-self-in_default g c =
+invariant_of-self-in_default c =
     let ds = c.self.inside.domains in
     keeps_silent ds c.carry.new.self c.self.inside.outboxes (Carry c.args.frame.number) (place_of ds c.args.frame.domain) c.in_ok-answer.field-0 (λ n. refl) c.self.invariant c.in_ok-answer.ensures.ok
 
 pub returns-clause-ok : goal.returns-clause-ok
-returns-clause-ok g c =
+returns-clause-ok c =
     let ds = c.self.inside.domains in let boxes = c.self.inside.outboxes in let f = c.args.function in let frame = c.args.frame in let o = made ds frame.domain (Carry frame.number) in
     let own = told_own ds boxes c.args.self.now f frame.domain c.domain.result c.is_function_of.result c.self.view_is c.domain.ensures c.is_function_of.ensures c.if-not-is_function_of.false in
     let there = carried_there ds f frame own in

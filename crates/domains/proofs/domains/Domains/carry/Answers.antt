@@ -2,6 +2,6 @@ use Rattle.domains.proofs.Indexed.{index_stays}
 use Rattle.domains.proofs.domains.Domains.carry.Goals as goal
 
 pub invariant_of-self : goal.invariant_of-self
-invariant_of-self g c =
+invariant_of-self c =
     index_stays c.self.inside.index c.self.inside.domains.items c.carry_at.new.domains c.deref_mut.result.now c.self.inside.domains.len
     c.carry_at.auto.domains c.deref_mut.ensures.len c.deref_mut.ensures.value c.carry_at.ensures.places c.self.invariant

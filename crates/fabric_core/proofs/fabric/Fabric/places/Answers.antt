@@ -1,7 +1,7 @@
 use Rattle.std.proofs.Common.{subst}
 use Rattle.std.specs.Prelude.{◌≡◌, true}
 use Rattle.fabric_core.specs.Kept.{world_in}
-use Rattle.fabric_core.specs.Places.{AreFlown, ArePartition, AreWhereabouts}
+use Rattle.fabric_core.specs.Places.{AreFlown, ArePartition, ArePacketPlaces}
 use Rattle.fabric_core.specs.Trails.{standing_at}
 use Rattle.fabric_core.specs.World.{World, is_guarded}
 use Rattle.fabric_core.proofs.places.Named.{named_flown}
@@ -9,7 +9,7 @@ use Rattle.fabric_core.proofs.places.Partition.{partition}
 use Rattle.fabric_core.proofs.fabric.Fabric.places.Goals as goal
 
 pub returns-in-Ok-clause-places : goal.returns-in-Ok-clause-places
-returns-in-Ok-clause-places c = subst (λ (w : World). AreWhereabouts (standing_at w) c.args.domain c.in-Ok.named.items) c.self.view_is (let h = c.in-Ok.ensures in h.named)
+returns-in-Ok-clause-places c = subst (λ (w : World). ArePacketPlaces (standing_at w) c.args.domain c.in-Ok.named.items) c.self.view_is (let h = c.in-Ok.ensures in h.named)
 
 pub returns-in-Ok-clause-flown : goal.returns-in-Ok-clause-flown
 returns-in-Ok-clause-flown c =

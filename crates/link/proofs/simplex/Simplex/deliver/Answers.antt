@@ -21,7 +21,7 @@ invariant_of-self c = let s = c.self.inside in record {
   counted = subst (λ (r : Allotment). IsCounted s.egress.sender r.credits_allocated (c.deliver_oldest.new.wire ++ frames_of c.deliver_oldest.new.ingress.queue.queue.waiting)) (sym c.deliver_oldest.ensures.receiver)
       (delivered-kept c.deliver_oldest.result s.egress.sender s.ingress.receiver.credits_allocated s.wire c.deliver_oldest.new.wire (frames_of s.ingress.queue.queue.waiting) (frames_of c.deliver_oldest.new.ingress.queue.queue.waiting)
       c.self.invariant.counted c.deliver_oldest.ensures.delivered c.deliver_oldest.ensures.rests);
-  told = λ told. ap (λ (r : Allotment). r.credits_allocated) c.deliver_oldest.ensures.receiver ∙ c.self.invariant.told told;
+  advertised = λ advertised. ap (λ (r : Allotment). r.credits_allocated) c.deliver_oldest.ensures.receiver ∙ c.self.invariant.advertised advertised;
 }
 
 pub returns : goal.returns

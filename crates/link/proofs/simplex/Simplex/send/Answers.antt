@@ -1,7 +1,7 @@
 use Rattle.std.proofs.Common.{sym, ◌∙◌}
 use Rattle.lane.specs.Queues.{frames_of}
 use Rattle.link.proofs.Keeping.{wire-place}
-use Rattle.link.proofs.Stepping.{sent, sent-kept, sent-told}
+use Rattle.link.proofs.Stepping.{sent, sent-kept, sent-advertised}
 use Rattle.link.proofs.simplex.Simplex.send.Goals as goal
 
 pub transmit-requires : goal.transmit-requires
@@ -12,7 +12,7 @@ pub invariant_of-self : goal.invariant_of-self
 invariant_of-self c = let s = c.self.inside in record {
   counted = sent-kept c.args.class c.transmit.result s.egress.sender c.transmit.new.egress.sender s.ingress.receiver.credits_allocated (frames_of s.egress.queue.queue.waiting) (frames_of c.transmit.new.egress.queue.queue.waiting) s.wire c.transmit.new.wire (frames_of s.ingress.queue.queue.waiting)
       c.self.invariant.counted c.transmit.ensures.sent c.transmit.ensures.rests;
-  told = λ told. c.self.invariant.told told ∙ sym (sent-told c.args.class c.transmit.result s.egress.sender c.transmit.new.egress.sender (frames_of s.egress.queue.queue.waiting) (frames_of c.transmit.new.egress.queue.queue.waiting) s.wire c.transmit.new.wire
+  advertised = λ advertised. c.self.invariant.advertised advertised ∙ sym (sent-advertised c.args.class c.transmit.result s.egress.sender c.transmit.new.egress.sender (frames_of s.egress.queue.queue.waiting) (frames_of c.transmit.new.egress.queue.queue.waiting) s.wire c.transmit.new.wire
       c.transmit.ensures.sent c.transmit.ensures.rests);
 }
 

@@ -9,5 +9,5 @@ pub invariant_of-self : goal.invariant_of-self
 invariant_of-self c = let s = c.self.inside in record {
   counted = gave-kept c.args.frame s.egress.sender s.ingress.receiver.credits_allocated c.give_back.new.self.receiver.credits_allocated (frames_of s.egress.queue.queue.waiting) s.wire s.ingress.queue.queue (frames_of c.give_back.new.self.queue.queue.waiting)
       c.self.invariant.counted (subst (λ (v : SimplexView). IsSome (simplex_restored v c.args.frame)) (sym c.self.view_is) c.requires) c.give_back.ensures.waiting c.give_back.ensures.reclaimed;
-  told = λ told. absurd cc;
+  advertised = λ advertised. absurd cc;
 }

@@ -6,7 +6,7 @@ pub invariant_of-self : goal.invariant_of-self
 invariant_of-self c = let s = c.self.inside in record {
   counted = took-kept c.args.class c.release.result s.egress.sender s.ingress.receiver.credits_allocated c.release.new.self.receiver.credits_allocated s.wire (frames_of s.ingress.queue.queue.waiting) (frames_of c.release.new.self.queue.queue.waiting)
       c.self.invariant.counted c.release.ensures.taken c.release.ensures.freed;
-  told = λ told. absurd cc;
+  advertised = λ advertised. absurd cc;
 }
 
 pub returns-clause-restores : goal.returns-clause-restores

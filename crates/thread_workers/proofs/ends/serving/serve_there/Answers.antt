@@ -3,7 +3,7 @@ use Rattle.thread_workers.proofs.Begins.{accepted_of, idle_of}
 use Rattle.thread_workers.proofs.ends.serving.serve_there.Goals as goal
 
 pub returns-then-ne-clause-served : goal.returns-then-ne-clause-served
-returns-then-ne-clause-served g c = λ locks. record {
+returns-then-ne-clause-served c = λ locks. record {
   none = λ _. record {
     before = c.args.domain.now;
     after = c.args.domain.now;
@@ -15,7 +15,7 @@ returns-then-ne-clause-served g c = λ locks. record {
 }
 
 pub returns-then-accepted-clause-served : goal.returns-then-accepted-clause-served
-returns-then-accepted-clause-served g c =
+returns-then-accepted-clause-served c =
     let same : c.serve.new.ring.accepted ≡ c.args.begins.now.accepted = search rules in
     let idle = idle_of c.args.domain.now c.serve.new.domain c.args.begins.now c.serve.new.ring c.in-Ok.sent c.in-Ok.ensures.ok same in
     λ locks. record {
@@ -25,7 +25,7 @@ returns-then-accepted-clause-served g c =
     }
 
 pub returns-else-accepted-clause-served : goal.returns-else-accepted-clause-served
-returns-else-accepted-clause-served g c = λ locks. record {
+returns-else-accepted-clause-served c = λ locks. record {
   before = c.args.domain.now;
   after = c.serve.new.domain;
   home = search rules;

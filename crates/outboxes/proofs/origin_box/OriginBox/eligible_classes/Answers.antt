@@ -1,0 +1,6 @@
+use Rattle.std.proofs.Common.{◌∙◌}
+use Rattle.lane.proofs.Sorting.{eligible_classes_found}
+use Rattle.outboxes.proofs.origin_box.OriginBox.eligible_classes.Goals as goal
+
+pub returns : goal.returns
+returns c = λ class. rw (← c.self.view_is) (c.eligible_classes.ensures class ∙ eligible_classes_found class c.self.inside.outbox.queue.waiting c.self.invariant)
